@@ -2,8 +2,7 @@
 use Rattle.std.proofs.Common.{◌≡◌, ℕ, ◌+◌, ◌-◌, List, [], ◌++◌, length, take, drop, refl, arith, append_assoc, append-nil, length-append, take-append-drop, take_at, length-drop, take_all, Option}
 use Rattle.std.proofs.lemmas.Grind.{common_steps}
 use Rattle.std.specs.Io.KnownBytes.{Appends, Keeps}
-use Rattle.std.proofs.Math.Seq.{take-append-add}
-use Rattle.std.proofs.lemmas.List.{take-append-le}
+use Rattle.std.proofs.{Math.Seq.{take-append-add}, lemmas.List.{take-append-le}}
 use Rattle.ends.specs.Known.{AppendsFront, Went}
 
 pub keeps_same : (old : Option (List ℕ)) → Keeps old old
@@ -40,5 +39,6 @@ pub front_more : (old mid new : Option (List ℕ)) (xs ys text : List ℕ) → x
 front_more old mid new xs ys text e a f = (length xs + f.0, grind (arith, common_steps, length-append), grind (arith, common_steps, take-append-add, appends-more))
 
 -- two texts and then a beginning of a third
-pub front_last : (old mid late new : Option (List ℕ)) (xs ys zs text : List ℕ) → xs ++ (ys ++ zs) ≡ text → Appends old mid xs → Appends mid late ys → AppendsFront late new zs → AppendsFront old new text
+pub front_last : (old mid late new : Option (List ℕ)) (xs ys zs text : List ℕ) → xs ++ (ys ++ zs) ≡ text
+    → Appends old mid xs → Appends mid late ys → AppendsFront late new zs → AppendsFront old new text
 front_last old mid late new xs ys zs text e a b f = front_more old mid new xs (ys ++ zs) text e a (front_more mid late new ys zs (ys ++ zs) refl b f)

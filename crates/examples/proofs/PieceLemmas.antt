@@ -1,6 +1,5 @@
 -- How the pieces of a text are written, one after another.
-use Rattle.std.proofs.lemmas.Grind.{common_steps}
-use Rattle.std.proofs.Common.{◌≡◌, List, ◌∷◌, ◌++◌, ℕ, ap, arith}
+use Rattle.std.proofs.{lemmas.Grind.{common_steps}, Common.{◌≡◌, List, ◌∷◌, ◌++◌, ℕ, ap, arith}}
 use Rattle.std.specs.Fmt.{WritesInCalls}
 use Rattle.rustc_lexer.specs.Kept.{Placed}
 use Rattle.examples.specs.Repaint.{close_style, open_style, styled}

@@ -1,18 +1,12 @@
 -- What is shown of a text after an edit.
 use Rattle.std.proofs.Common.{◌≡◌, ℕ, zero, suc, ◌+◌, ◌-◌, ◌<◌, ◌≤◌, true, List, [], ◌∷◌, ◌++◌, length, map, take, drop, refl, sym, ap, subst, ◌∙◌, arith, drop-drop, take-take, take-append-drop, length-take-le, IsUtf8, Result, Ok, Err, IfOk, OnOk}
-use Rattle.std.proofs.lemmas.Grind.{common_steps}
-use Rattle.std.proofs.lemmas.List.{drop-take}
-use Rattle.rustc_lexer.specs.declared.relex.relexing.Relexed.{Relexed}
-use Rattle.rustc_lexer.specs.declared.token.Token.{Token}
-use Rattle.rustc_lexer.specs.Tokens.{bound, tokens_by}
-use Rattle.rustc_lexer.specs.Edits.{IsEdit, IsRelexed, apply, part_by}
-use Rattle.rustc_lexer.specs.Kept.{Placed, pieces_from}
-use Rattle.rustc_lexer.specs.means.Relexing.{IsBodyMeeting, kept_front}
-use Rattle.rustc_lexer.specs.Locality.{has_two, IsGrammar}
-use Rattle.rustc_lexer.specs.Classes.{IsText}
+use Rattle.std.proofs.lemmas.{Grind.{common_steps}, List.{drop-take}}
+use Rattle.rustc_lexer.specs.declared.{relex.relexing.Relexed.{Relexed}, token.Token.{Token}}
+use Rattle.rustc_lexer.specs.{Tokens.{bound, tokens_by}, Edits.{IsEdit, IsRelexed, apply, part_by}}
+use Rattle.rustc_lexer.specs.{Kept.{Placed, pieces_from}, means.Relexing.{IsBodyMeeting, kept_front}}
+use Rattle.rustc_lexer.specs.{Locality.{has_two, IsGrammar}, Classes.{IsText}}
 use Rattle.rustc_lexer.proofs.lemmas.edits.FrontAndBack.{IsEdited, edited, has_two-before, bound-take, met_rest, same_rest}
-use Rattle.rustc_lexer.proofs.lemmas.edits.Layouts.{body_by_part}
-use Rattle.rustc_lexer.proofs.lemmas.edits.Pieces.{drop-pieces, length-pieces, take-pieces}
+use Rattle.rustc_lexer.proofs.lemmas.edits.{Layouts.{body_by_part}, Pieces.{drop-pieces, length-pieces, take-pieces}}
 use Rattle.rustc_lexer.proofs.lemmas.edits.OneAnswer.{front_same, kept_two}
 use Rattle.examples.specs.Repaint.{changed, moved, shown_after}
 

@@ -1,14 +1,9 @@
 -- The words of a job.
 use Rattle.std.proofs.Common.{◌≡◌, ◌↔◌, true≢false, ℕ, ◌<◌, ◌≤◌, ◌≢◌, Bool, true, false, List, [], ◌∷◌, ◌++◌, length, get_or, append_assoc, rules, refl, sym, ap, ◌∙◌, arith, Option, Some, None, Result}
 use Rattle.std.proofs.lemmas.Grind.{common_steps}
-use Rattle.std.specs.Bool.{IsTrue}
-use Rattle.std.specs.Prelude.{is_some, IsSome}
-use Rattle.std.specs.Option.{option_map, option_zip}
-use Rattle.std.specs.Result.{result_ok}
-use Rattle.std.specs.Str.{all_ascii_digits}
-use Rattle.std.specs.Str.Parse.{ParsesUnsigned}
-use Rattle.std.proofs.lemmas.List.{length-map}
-use Rattle.std.proofs.lemmas.Bool.Decides.{nat_tests}
+use Rattle.std.specs.{Bool.{IsTrue}, Prelude.{is_some, IsSome}, Option.{option_map, option_zip}, Result.{result_ok}}
+use Rattle.std.specs.Str.{all_ascii_digits, Parse.{ParsesUnsigned}}
+use Rattle.std.proofs.lemmas.{List.{length-map}, Bool.Decides.{nat_tests}}
 use Rattle.std.proofs.lemmas.Str.Parse.{IsNumeralModel, numerals_by_fold, tells_all_ascii_digits, parse_plain}
 use Rattle.rustc_lexer.specs.declared.edition.Edition.{Edition}
 use Rattle.lexdump_run.specs.Job.{edit, edit_job, AsksEdits, Replacement, number_after, number_of, place_of, replacements_of, first_replacement}
@@ -29,7 +24,8 @@ abbrev Pair : Type 0
 Pair = Replacement × List (List ℕ)
 
 -- what follows from the edit of the first three words
-by_first : (e : Replacement) (words after : List (List ℕ)) (o : Option Replacement) (r : Option (List Replacement)) → (let p : Option Pair = Some (e, after) in p ≡ option_map (λ (edit : Replacement). let q : Pair = (edit, words) in q) o)
+by_first : (e : Replacement) (words after : List (List ℕ)) (o : Option Replacement) (r : Option (List Replacement))
+    → (let p : Option Pair = Some (e, after) in p ≡ option_map (λ (edit : Replacement). let q : Pair = (edit, words) in q) o)
     → (after ≡ words) × (option_map (λ (edits : Replacement × List Replacement). edits.0 ∷ edits.1) (option_zip o r) ≡ option_map (λ edits. e ∷ edits) r)
 by_first e words after o r h = grind (arith, common_steps)
 
@@ -56,7 +52,8 @@ read_more words rest after edits e read first = read ∙ (ap (option_map (λ mor
     by_edits (Some es) = ap (λ (xs : List Replacement). let r : Option (List Replacement) = Some xs in r) (sym (append_assoc edits (e ∷ []) es))
 
 -- words that are no edits ask for no job after `edit`
-pub no_edits : (edition : Edition) (words : List (List ℕ)) (n : ℕ) (are : Bool) → length words ≡ n → (IsTrue are ↔ ((0 < n) × IsSome (replacements_of words))) → are ≡ false → edit_job edition words ≡ None
+pub no_edits : (edition : Edition) (words : List (List ℕ)) (n : ℕ) (are : Bool) → length words ≡ n
+    → (IsTrue are ↔ ((0 < n) × IsSome (replacements_of words))) → are ≡ false → edit_job edition words ≡ None
 no_edits edition [] n are e is shut = refl
 no_edits edition (start ∷ words) n are e is shut = by_edits (replacements_of (start ∷ words)) refl
   where
@@ -65,7 +62,8 @@ no_edits edition (start ∷ words) n are e is shut = by_edits (replacements_of (
     by_edits (Some es) f = let is_so : are ≡ true = is.1 (omega (arith, e), ap is_some f) in absurd (true≢false (sym is_so ∙ shut))
 
 -- and words that are edits ask for them
-pub asks_edits : (edition : Edition) (words : List (List ℕ)) (n : ℕ) (are : Bool) → length words ≡ n → (IsTrue are ↔ ((0 < n) × IsSome (replacements_of words))) → are ≡ true → AsksEdits (edit_job edition words)
+pub asks_edits : (edition : Edition) (words : List (List ℕ)) (n : ℕ) (are : Bool) → length words ≡ n
+    → (IsTrue are ↔ ((0 < n) × IsSome (replacements_of words))) → are ≡ true → AsksEdits (edit_job edition words)
 asks_edits edition [] n are e is so = let p = is.0 so in absurd (omega (arith, e, p.0))
 asks_edits edition (start ∷ words) n are e is so = by_edits (replacements_of (start ∷ words)) (is.0 so).1
   where

@@ -1,17 +1,11 @@
 -- The loops that list tokens.
 use Rattle.std.proofs.Common.{◌≡◌, ℕ, zero, suc, ◌+◌, ◌-◌, ◌<◌, ◌≤◌, ◌^◌, List, [], ◌∷◌, ◌++◌, length, take, drop, refl, ap, ◌∙◌, arith, append_assoc, length-drop, length-take-le, subst}
-use Rattle.std.proofs.lemmas.Grind.{common_steps}
-use Rattle.std.proofs.lemmas.List.{nil_from_length}
+use Rattle.std.proofs.lemmas.{Grind.{common_steps}, List.{nil_from_length}}
 use Rattle.std.specs.Str.{IsUtf8}
-use Rattle.rustc_lexer.specs.declared.token.Token.{Token}
-use Rattle.rustc_lexer.specs.Kept.{Placed, pieces_from}
-use Rattle.rustc_lexer.specs.LanguageText.{Mode}
-use Rattle.rustc_lexer.specs.State.{State}
-use Rattle.rustc_lexer.specs.Tokens.{bound, tokens_left, tokens_of}
-use Rattle.rustc_lexer.specs.means.Tokens.{IsFilled}
+use Rattle.rustc_lexer.specs.{declared.token.Token.{Token}, Kept.{Placed, pieces_from}, LanguageText.{Mode}}
+use Rattle.rustc_lexer.specs.{State.{State}, Tokens.{bound, tokens_left, tokens_of}, means.Tokens.{IsFilled}}
 use Rattle.rustc_lexer.specs.laws.Tokens.{bounds, tokens-nil}
-use Rattle.rustc_lexer.proofs.lemmas.edits.Blocks.{filled_front, IsFront}
-use Rattle.rustc_lexer.proofs.lemmas.edits.FrontAndBack.{bound-take}
+use Rattle.rustc_lexer.proofs.lemmas.edits.{Blocks.{filled_front, IsFront}, FrontAndBack.{bound-take}}
 use Rattle.lexdump_run.specs.Listing.{line_text, listing_from}
 
 -- the lines of some tokens, and then those of the others

@@ -1,17 +1,12 @@
 -- How a run ends, by what was read and what was listed.
 use Rattle.std.proofs.Common.{◌≡◌, ℕ, ◌<◌, ◌^◌, List, [], ◌++◌, length, sym, arith, subst, ap, ◌∙◌, append-nil, Option, Result, Ok, Err}
 use Rattle.std.proofs.lemmas.Grind.{common_steps}
-use Rattle.std.specs.Prelude.{IfSome, OnErr, OnOk}
-use Rattle.std.specs.Str.{IsUtf8}
-use Rattle.std.specs.Io.KnownBytes.{Appends}
-use Rattle.ends.specs.Known.{AppendsFront}
-use Rattle.ends.specs.Run.{IsInputFault}
+use Rattle.std.specs.{Prelude.{IfSome, OnErr, OnOk}, Str.{IsUtf8}, Io.KnownBytes.{Appends}}
+use Rattle.ends.specs.{Known.{AppendsFront}, Run.{IsInputFault}}
 use Rattle.ends.proofs.KnownLemmas.{keeps_same}
 use Rattle.rustc_lexer.specs.Classes.{IsText}
 use Rattle.ends.specs.declared.fault.Fault.{Fault}
-use Rattle.lexdump_run.specs.declared.job.Job.{Job}
-use Rattle.lexdump_run.specs.declared.output.BlockWriter.{BlockWriter}
-use Rattle.lexdump_run.specs.Outcome.{Ends}
+use Rattle.lexdump_run.specs.{declared.{job.Job.{Job}, output.BlockWriter.{BlockWriter}}, Outcome.{Ends}}
 use Rattle.lexdump_run.specs.Pushed.{held, Lists, Pushes}
 use Rattle.lexdump_run.proofs.PushLemmas.{pushes_both}
 
@@ -29,18 +24,23 @@ written contents writer = contents writer.output.now.inner
 
 -- bytes that were pushed to an empty block, which is then written out
 module _ {W : Type 0} (contents : W → Option (List ℕ)) (start end : BlockWriter W) (none : held start ≡ []) (made : List ℕ) where
-  pushed_out : (result : Result (Unit {0}) Fault) → Pushes contents start end made result → OnOk result (held end ≡ []) → OnOk result (Appends (written contents start) (written contents end) made) × OnErr result (AppendsFront (written contents start) (written contents end) made)
+  pushed_out : (result : Result (Unit {0}) Fault) → Pushes contents start end made result → OnOk result (held end ≡ [])
+      → OnOk result (Appends (written contents start) (written contents end) made) × OnErr result (AppendsFront (written contents start) (written contents end) made)
   pushed_out (Ok done) p empty = (subst (λ (xs : List ℕ). Appends (written contents start) (written contents end) xs) (sym (ap (λ xs. xs ++ made) (sym none) ∙ p.ok.whole ∙ ap (λ xs. p.ok.front ++ xs) empty ∙ append-nil p.ok.front)) p.ok.grew, tt)
   pushed_out (Err fault) p empty = (tt, subst (λ (xs : List ℕ). AppendsFront (written contents start) (written contents end) (xs ++ made)) none p.err)
 
   -- all went out, or where a write failed a beginning
-  pub finished : (mid : BlockWriter W) (old new : Option (List ℕ)) (result : Result (Unit {0}) Fault) → written contents start ≡ old → written contents end ≡ new → Pushes contents start mid made (Ok tt) → Pushes contents mid end [] result → OnOk result (held end ≡ [])
+  pub finished : (mid : BlockWriter W) (old new : Option (List ℕ)) (result : Result (Unit {0}) Fault)
+      → written contents start ≡ old → written contents end ≡ new → Pushes contents start mid made (Ok tt)
+      → Pushes contents mid end [] result → OnOk result (held end ≡ [])
       → OnOk result (Appends old new made) × OnErr result (AppendsFront old new made)
   finished mid old new result e f p q empty = rw (← e, ← f) (pushed_out result (pushes_both contents start mid end made [] made result (sym (append-nil made)) p q) empty)
 
 -- all was listed, and what is held is written at the end
 pub ends_listed : {W : Type 0} (contents : W → Option (List ℕ)) (job : Job) (known : Option (List ℕ)) (text : List ℕ) (start mid end : BlockWriter W) (old new : Option (List ℕ)) (result : Result (Unit {0}) Fault)
-    → IfSome known (λ bytes. text ≡ bytes) → IsUtf8 text → length text < 2 ^ 32 → held start ≡ [] → written contents start ≡ old → written contents end ≡ new → Lists contents job text start mid (Ok tt) → Pushes contents mid end [] result → OnOk result (held end ≡ [])
+    → IfSome known (λ bytes. text ≡ bytes) → IsUtf8 text → length text < 2 ^ 32 → held start ≡ []
+    → written contents start ≡ old → written contents end ≡ new → Lists contents job text start mid (Ok tt)
+    → Pushes contents mid end [] result → OnOk result (held end ≡ [])
     → IfSome known (λ bytes. Ends job bytes old new result)
 ends_listed contents job known text start mid end old new result is utf8 fits none e f p q empty =
     let out = finished contents start end none p.0 mid old new result e f p.2 q empty in

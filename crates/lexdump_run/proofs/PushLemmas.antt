@@ -1,14 +1,10 @@
 -- Bytes that are pushed, one after another.
 use Rattle.std.proofs.Common.{◌≡◌, ℕ, List, [], ◌++◌, refl, sym, ap, ◌∙◌, append_assoc, append-nil, subst, Option, Result, Ok, Err, arith}
 use Rattle.std.proofs.lemmas.Grind.{common_steps}
-use Rattle.std.specs.Prelude.{OnOk}
-use Rattle.std.specs.Result.{IsErrAnd}
-use Rattle.std.specs.Io.KnownBytes.{Appends}
+use Rattle.std.specs.{Prelude.{OnOk}, Result.{IsErrAnd}, Io.KnownBytes.{Appends}}
 use Rattle.ends.proofs.KnownLemmas.{appends-none, appends-more, front_first, front_more}
-use Rattle.ends.specs.Known.{Went}
-use Rattle.ends.specs.declared.fault.Fault.{Fault}
-use Rattle.lexdump_run.specs.declared.output.BlockWriter.{BlockWriter}
-use Rattle.lexdump_run.specs.Pushed.{held, Pushes}
+use Rattle.ends.specs.{Known.{Went}, declared.fault.Fault.{Fault}}
+use Rattle.lexdump_run.specs.{declared.output.BlockWriter.{BlockWriter}, Pushed.{held, Pushes}}
 
 -- bytes are written past a block that holds none
 pub went_past : (old new : Option (List ℕ)) (none bytes : List ℕ) (result : Result (Unit {0}) Fault) → none ≡ [] → OnOk result (Appends old new bytes) → OnOk result (Went old new (none ++ bytes) none)
@@ -30,7 +26,9 @@ module _ {W : Type 0} (contents : W → Option (List ℕ)) where
   }
 
   -- two pushes in a row
-  pub pushes_both : (old mid new : BlockWriter W) (one two bytes : List ℕ) (result : Result (Unit {0}) Fault) → bytes ≡ one ++ two → Pushes contents old mid one (Ok tt) → Pushes contents mid new two result → Pushes contents old new bytes result
+  pub pushes_both : (old mid new : BlockWriter W) (one two bytes : List ℕ) (result : Result (Unit {0}) Fault)
+      → bytes ≡ one ++ two → Pushes contents old mid one (Ok tt) → Pushes contents mid new two result
+      → Pushes contents old new bytes result
   pushes_both old mid new one two bytes (Ok done) e p q = record {
     same_output = q.same_output ∙ p.same_output;
     failed = grind (arith, common_steps, p.failed, q.failed);
@@ -47,7 +45,9 @@ module _ {W : Type 0} (contents : W → Option (List ℕ)) where
   }
 
   -- a push that fails before all is pushed
-  pub pushes_first : (old new : BlockWriter W) (one two bytes : List ℕ) (fault : Fault) (result : Result (Unit {0}) Fault) → bytes ≡ one ++ two → Pushes contents old new one (Err fault) → IsErrAnd result (λ y. y ≡ fault) → Pushes contents old new bytes result
+  pub pushes_first : (old new : BlockWriter W) (one two bytes : List ℕ) (fault : Fault) (result : Result (Unit {0}) Fault)
+      → bytes ≡ one ++ two → Pushes contents old new one (Err fault) → IsErrAnd result (λ y. y ≡ fault)
+      → Pushes contents old new bytes result
   pushes_first old new one two bytes fault (Ok done) e p is = elim is [ ]
   pushes_first old new one two bytes fault (Err _) e p is = record {
     same_output = p.same_output;

@@ -1,9 +1,6 @@
 -- Writes one after another, as the calls that they make.
-use Rattle.std.proofs.Common.{List, [], ◌∷◌, ◌++◌, ℕ, refl, append-nil, arith}
-use Rattle.std.proofs.lemmas.List.Folds.{concat-append}
-use Rattle.std.specs.Fmt.{WritesInCalls}
-use Rattle.std.specs.Result.{IsOk}
-use Rattle.std.specs.Prelude.{OnOk, Result}
+use Rattle.std.proofs.{Common.{List, [], ◌∷◌, ◌++◌, ℕ, refl, append-nil, arith}, lemmas.List.Folds.{concat-append}}
+use Rattle.std.specs.{Fmt.{WritesInCalls}, Result.{IsOk}, Prelude.{OnOk, Result}}
 use Rattle.std.proofs.lemmas.Grind.{common_steps}
 use Rattle.rustc_literal_escaper.proofs.RunLemmas.{folds-append}
 

@@ -1,24 +1,15 @@
 -- The errors of a literal in a file.
 use Rattle.std.proofs.Common.{◌≡◌, ℕ, zero, suc, ◌==◌, Bool, true, false, true≢false, List, [], ◌∷◌, ◌++◌, append-nil, length, map, refl, sym, ap, ◌∙◌, arith, Option, Some, None}
-use Rattle.std.specs.List.{position_or_len}
-use Rattle.std.specs.Option.{option_map, option_to_list}
-use Rattle.std.specs.Str.{chars, IsUtf8}
+use Rattle.std.specs.{List.{position_or_len}, Option.{option_map, option_to_list}, Str.{chars, IsUtf8}}
 use Rattle.std.specs.declared.ops.Range.{Range}
-use Rattle.std.proofs.lemmas.Bool.Decides.{nat_tests}
-use Rattle.std.proofs.lemmas.Str.{chars-nil}
-use Rattle.std.proofs.lemmas.Grind.{common_steps}
+use Rattle.std.proofs.lemmas.{Bool.Decides.{nat_tests}, Str.{chars-nil}, Grind.{common_steps}}
 use Rattle.rustc_literal_escaper.proofs.AnswerLemmas.{errors_of-read}
-use Rattle.rustc_literal_escaper.specs.Answers.{errors_of, items_of}
-use Rattle.rustc_literal_escaper.specs.Grammar.{Error, Item}
-use Rattle.rustc_literal_escaper.specs.Meaning.{error_of, errors_in, is_raw, is_single, put}
-use Rattle.rustc_literal_escaper.specs.laws.Elements.{nothing}
-use Rattle.rustc_literal_escaper.specs.means.Elements.{front_by, items_from}
-use Rattle.rustc_literal_escaper.specs.means.Single.{read_errors, single_error}
-use Rattle.rustc_literal_escaper.specs.declared.error.EscapeError.{EscapeError}
-use Rattle.rustc_literal_escaper.specs.declared.mode.Mode.{Mode}
-use Rattle.rustc_literal_escaper.specs.declared.mode.Mode.TheVariants.{Byte, Char, Str}
-use Rattle.marks.specs.LineEnds.{file_errors, file_items, moved, place, unix}
-use Rattle.marks.specs.Literal.{first_offset}
+use Rattle.rustc_literal_escaper.specs.{Answers.{errors_of, items_of}, Grammar.{Error, Item}}
+use Rattle.rustc_literal_escaper.specs.{Meaning.{error_of, errors_in, is_raw, is_single, put}, laws.Elements.{nothing}}
+use Rattle.rustc_literal_escaper.specs.means.{Elements.{front_by, items_from}, Single.{read_errors, single_error}}
+use Rattle.rustc_literal_escaper.specs.declared.{error.EscapeError.{EscapeError}, mode.Mode.{Mode}}
+use Rattle.rustc_literal_escaper.specs.declared.mode.Mode.TheVariants.{Str}
+use Rattle.marks.specs.{LineEnds.{file_errors, file_items, moved, place, unix}, Literal.{first_offset}}
 use Rattle.marks.specs.means.LineEnds.{single_left}
 use Rattle.marks.proofs.LineEndLemmas.{chars-unix, utf8-unix}
 
@@ -52,7 +43,7 @@ same-moved : (s : List ℕ) (es : List Error) → position_or_len (λ x. x == 13
 same-moved s [] none = refl
 same-moved s (e ∷ es) none = rw (same-place s e.0.start none, same-place s e.0.end none) (ap (λ (es : List Error). e ∷ es) (same-moved s es none))
 
-same_errors : (mode : Mode) (text : List ℕ) → first_offset 13 text ≡ length text → errors_of mode text ≡ file_errors mode text
+pub same_errors : (mode : Mode) (text : List ℕ) → first_offset 13 text ≡ length text → errors_of mode text ≡ file_errors mode text
 unfolding first_offset
 same_errors mode text none = sym (same-moved text (errors_of mode text) none) ∙ ap (λ (s : List ℕ). map (move text) (errors_of mode s)) (sym (same-unix text none))
 
@@ -62,7 +53,7 @@ list-moved text o = grind (arith, common_steps)
 read-single : (mode : Mode) (text : List ℕ) → is_single mode ≡ true → read_errors mode text ≡ option_to_list (single_error (length text) mode (chars text))
 read-single mode text single = rw single refl
 
-single_errors : (mode : Mode) (text : List ℕ) → IsUtf8 text → is_single mode ≡ true → option_to_list (single_left text mode (unix (chars text))) ≡ file_errors mode text
+pub single_errors : (mode : Mode) (text : List ℕ) → IsUtf8 text → is_single mode ≡ true → option_to_list (single_left text mode (unix (chars text))) ≡ file_errors mode text
 single_errors mode text is single =
     grind (arith, common_steps, list-moved, chars-unix, read-single, errors_of-read, utf8-unix)
 
@@ -71,18 +62,10 @@ single_errors mode text is single =
 no-items : items_of false [] ≡ []
 no-items = ap (items_from (front_by false) 0) chars-nil ∙ nothing (front_by false) 0
 
-no-file-errors : (mode : Mode) → errors_in mode (file_items false []) ≡ []
+pub no-file-errors : (mode : Mode) → errors_in mode (file_items false []) ≡ []
 no-file-errors mode = ap (λ (is : List Item). errors_in mode (map (λ (i : Item). (moved [] i.0, i.1)) is)) no-items
 
-no-errors : errors_of Str [] ≡ []
+pub no-errors : errors_of Str [] ≡ []
 no-errors = ap (errors_in Str) no-items
 
-module _ (mode : Mode) (text : List ℕ) (faults : List Error) (elements : List Item) where
-  pub plain_found : first_offset 13 text ≡ length text → faults ≡ errors_of mode text → elements ≡ file_items false [] → faults ++ errors_in mode elements ≡ file_errors mode text
-  plain_found none f e = ap (λ (es : List Error). faults ++ es) (ap (errors_in mode) e ∙ no-file-errors mode) ∙ (append-nil faults ∙ (f ∙ same_errors mode text none))
-
-  pub single_found : (alone : Option Error) → IsUtf8 text → is_single mode ≡ true → faults ≡ errors_of Str [] → alone ≡ single_left text mode (unix (chars text)) → elements ≡ file_items false [] → faults ++ (option_to_list alone ++ errors_in mode elements) ≡ file_errors mode text
-  single_found alone is single f a e = grind (arith, common_steps, no-errors, no-file-errors, append-nil, single_errors)
-
-  pub strings_found : (raw : Bool) → is_single mode ≡ false → raw ≡ is_raw mode → faults ≡ errors_of Str [] → elements ≡ file_items raw text → faults ++ errors_in mode elements ≡ file_errors mode text
-  strings_found raw double r f e = grind (arith, common_steps, no-errors, string_errors)
+pub ruleset fault_lemmas = (no-file-errors, no-errors, same_errors, single_errors, string_errors, append-nil)

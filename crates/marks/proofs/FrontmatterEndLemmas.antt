@@ -1,28 +1,21 @@
 -- The error at the end of a frontmatter is the one that its lines say.
 use Rattle.std.proofs.Common.{◌≡◌, ℕ, zero, suc, ◌+◌, ◌-◌, ◌<◌, ◌≤◌, ◌==◌, nat_eq, nat_lt, not, ◌&&◌, ◌||◌, Bool, true, false, true≢false, if◌then◌else◌, List, [], ◌∷◌, ◌++◌, codes, length, take, drop, get_or, refl, sym, ap, ◌∙◌, subst, arith, append_assoc, append-nil, drop-drop, length-append, take-append-drop, Option, Some, None, inl, inr}
-use Rattle.std.specs.Char.{encode_utf8}
-use Rattle.std.specs.List.{after_last, list_all, list_any, prefix_len}
-use Rattle.std.specs.Option.{option_or}
+use Rattle.std.specs.{Char.{encode_utf8}, List.{after_last, list_all, list_any, prefix_len}, Option.{option_or}}
 use Rattle.std.specs.Str.{chars, encode_utf8_all, IsUtf8}
 use Rattle.std.proofs.Math.Seq.{drop-append_seam, get_or-append_seam}
 use Rattle.std.proofs.lemmas.Bool.{and_from, and_parts, cases_eq, eq-eqb, eqb-true, false_from_ne_true, ltb-false, ltb-true, ne_eqb, or_parts}
-use Rattle.std.proofs.lemmas.List.{nil_from_length}
-use Rattle.std.proofs.lemmas.List.Elements.{All-from_get_or}
+use Rattle.std.proofs.lemmas.List.{nil_from_length, Elements.{All-from_get_or}}
 use Rattle.std.proofs.lemmas.List.Folds.{list_all-append, list_any-append, list_any_at, list_any_none}
 use Rattle.std.proofs.lemmas.List.Sums.{prefix_len_is}
 use Rattle.std.proofs.lemmas.Str.{char_from_byte, encode_ascii, encodes-append, encodes-chars, inside_one, length-encode, length-le-encodes, len_utf8_bounds}
-use Rattle.std.proofs.lemmas.Bool.Decides.{nat_tests}
-use Rattle.std.proofs.lemmas.Grind.{common_steps}
+use Rattle.std.proofs.lemmas.{Bool.Decides.{nat_tests}, Grind.{common_steps}}
 use Rattle.memchr.specs.Find.{IsLastByte, is_byte}
 use Rattle.rustc_lexer.specs.Classes.{AreAll, Chars, NextIsNot, NextNotIn, begins, is_among, is_horizontal_whitespace, is_id_start, is_info, is_inline, is_whitespace, next_is}
 use Rattle.rustc_lexer.specs.FrontmatterGrammar as the
 use Rattle.rustc_lexer.specs.FrontmatterGrammar.{IsBodyBefore, IsLabelBefore, IsOpeningBefore, endings, fence}
-use Rattle.rustc_lexer.specs.declared.token.TokenKind.{TokenKind}
-use Rattle.rustc_lexer.specs.declared.token.TokenKind.TheVariants.{Frontmatter}
-use Rattle.rustc_lexer.specs.laws.Choice.{by_either, by_test}
-use Rattle.rustc_lexer.specs.laws.Fences.{begins-dashes, begins-enough}
-use Rattle.rustc_lexer.specs.means.Frontmatter.{blanks_len, is_dash}
-use Rattle.rustc_lexer.specs.means.Scan.{run_len}
+use Rattle.rustc_lexer.specs.declared.token.TokenKind.{TokenKind, TheVariants.{Frontmatter}}
+use Rattle.rustc_lexer.specs.laws.{Choice.{by_either, by_test}, Fences.{begins-dashes, begins-enough}}
+use Rattle.rustc_lexer.specs.means.{Frontmatter.{blanks_len, is_dash}, Scan.{run_len}}
 use Rattle.rustc_lexer.specs.laws.LanguageFrontmatter.{fence-length, run-fence}
 use Rattle.rustc_lexer.specs.laws.LanguageRuns.{among, other_than, run-stops, run_len-here, start-word_start, word_start-no_space}
 use Rattle.rustc_lexer.specs.laws.Reach.{run_all}
@@ -31,8 +24,7 @@ use Rattle.marks.specs.declared.fault.Fault.{Fault}
 use Rattle.marks.specs.declared.fault.Fault.TheVariants.{WhitespaceBeforeFrontmatter, UnclosedFrontmatter, WhitespaceBeforeFrontmatterClose, FrontmatterCloseMismatch, ExtraAfterFrontmatterClose}
 use Rattle.rustc_literal_escaper.specs.Grammar.{is_newline}
 use Rattle.marks.specs.Frontmatter.{blanks, closing_fault, dashes, end_fault, is_end, is_of, past_infostring, past_run}
-use Rattle.marks.specs.Fault.{fault_of, front_fault, kind_fault}
-use Rattle.marks.specs.TextFault.{frontmatter_fault}
+use Rattle.marks.specs.{Fault.{fault_of, front_fault, kind_fault}, TextFault.{frontmatter_fault}}
 use Rattle.marks.specs.FrontmatterEnd.{EndsAfter, IsEndFault, IsOpen, NoLineBegins, TellsFrontmatter, closed, indented, more_words, other_dashes, unclosed}
 use Rattle.marks.proofs.FrontmatterLemmas.{last-line, skip_ends, skip_on}
 

@@ -1,9 +1,7 @@
 -- The last line of a text, and a run of bytes.
 use Rattle.std.proofs.Common.{◌≡◌, ℕ, ◌+◌, ◌-◌, suc, Bool, true, false, List, [], ◌∷◌, refl, drop, length, not, sym, take, ap, arith, Some, None}
-use Rattle.std.specs.List.{after_last, list_any, prefix_len, suffix_len}
-use Rattle.std.specs.Str.{byte}
-use Rattle.std.proofs.lemmas.Bool.{false_from_ne_true, not_from_false, not_from_true}
-use Rattle.std.proofs.lemmas.List.Elements.{All-from_get_or}
+use Rattle.std.specs.{List.{after_last, list_any, prefix_len, suffix_len}, Str.{byte}}
+use Rattle.std.proofs.lemmas.{Bool.{false_from_ne_true, not_from_false, not_from_true}, List.Elements.{All-from_get_or}}
 use Rattle.std.proofs.lemmas.List.Folds.{list_any_at, list_any_none}
 use Rattle.std.proofs.lemmas.List.Sums.{prefix_len-drop_all, prefix_len-drop_no, prefix_len-drop_yes, suffix_len_is}
 use Rattle.std.proofs.lemmas.Grind.{common_steps}

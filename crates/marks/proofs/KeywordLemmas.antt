@@ -1,13 +1,15 @@
 -- What it takes for a word to be no keyword of a sort.
-use Rattle.std.proofs.Common.{arith}
-use Rattle.std.proofs.lemmas.Grind.{common_steps}
-use Rattle.std.proofs.Common.{rules, ◌≡◌, ℕ, false, List, [], ◌∷◌, refl}
+use Rattle.std.proofs.{Common.{arith}, lemmas.Grind.{common_steps}, Common.{◌≡◌, ℕ, false, List, [], ◌∷◌, refl}}
 use Rattle.std.specs.List.{AllByRecursion}
 use Rattle.std.proofs.lemmas.Slice.Eq.{bytes_eq-Decides}
 use Rattle.marks.specs.Keyword.{has, is_in, made}
-use Rattle.rustc_lexer.specs.declared.edition.Edition.{Edition}
-use Rattle.rustc_lexer.specs.declared.edition.Edition.TheVariants.{E2015, E2018, E2021, E2024}
+use Rattle.rustc_lexer.specs.declared.edition.Edition.{Edition, TheVariants.{E2015, E2018, E2024}}
 use Rattle.marks.specs.declared.keyword.KeywordKind.{KeywordKind}
+
+infixr 20 ◌&◌
+-- one fact, and then another
+pub ◌&◌ : {A B : Type 0} → A → B → A × B
+◌&◌ a b = (a, b)
 
 abbrev pub IsNoneOf : List ℕ → List (List ℕ) → Type 0
 IsNoneOf word words = AllByRecursion (λ keyword. word ≡ keyword → ⊥) words

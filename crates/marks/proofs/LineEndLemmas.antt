@@ -1,19 +1,13 @@
 -- A text of a file is read in parts that cut no line end.
 use Rattle.std.proofs.Common.{◌≡◌, ℕ, zero, suc, zero-add, get_or, append-nil, drop, if◌then◌else◌, codes, nat_lt, ◌+◌, ◌-◌, ◌<◌, ◌≤◌, ◌==◌, ◌&&◌, not, Bool, true, false, List, [], ◌∷◌, ◌++◌, append_assoc, length, length-append, map, refl, sym, ap, subst, ◌∙◌, arith, Option, None}
-use Rattle.std.specs.List.{list_all, list_any}
-use Rattle.std.specs.Option.{is_some, option_to_list}
-use Rattle.std.specs.Str.{chars, IsUtf8}
-use Rattle.std.proofs.lemmas.Bool.{and_parts, eqb-true, or_parts}
-use Rattle.std.proofs.lemmas.Bool.Decides.{nat_tests}
-use Rattle.std.proofs.lemmas.Grind.{common_steps}
+use Rattle.std.specs.{List.{list_all, list_any}, Option.{is_some, option_to_list}, Str.{chars, IsUtf8}}
+use Rattle.std.proofs.lemmas.{Bool.{and_parts, eqb-true, or_parts, Decides.{nat_tests}}, Grind.{common_steps}}
 use Rattle.std.proofs.lemmas.Str.{encodes-chars, chars-encodes, scalars-chars, encode_ascii, encodes-append}
-use Rattle.std.proofs.Math.Utf8.{encode, encodes, scalar, scalars}
-use Rattle.std.proofs.lemmas.List.{map-append}
+use Rattle.std.proofs.{Math.Utf8.{encode, encodes, scalar, scalars}, lemmas.List.{map-append}}
 use Rattle.rustc_literal_escaper.specs.declared.element.Element.{Element}
 use Rattle.rustc_literal_escaper.specs.Grammar as g
 use Rattle.rustc_literal_escaper.specs.Grammar.{AreDigits, IsEscapeBefore, Item, is_among, is_digit_or_underscore, is_hex, is_newline, is_passed_over, next_is}
-use Rattle.rustc_literal_escaper.specs.Items.{TakesFirst}
-use Rattle.rustc_literal_escaper.specs.laws.Elements.{either, items-cons, nothing}
+use Rattle.rustc_literal_escaper.specs.{Items.{TakesFirst}, laws.Elements.{either, items-cons, nothing}}
 use Rattle.rustc_literal_escaper.specs.means.Elements as reading
 use Rattle.rustc_literal_escaper.specs.means.Elements.{front_by, item_at, items_from}
 use Rattle.rustc_literal_escaper.specs.means.Escape.{escape, front_run, past_run}
@@ -149,7 +143,8 @@ get_or-past : (rest : List ℕ) (n : ℕ) → 0 < n → get_or (0 ∷ rest) n 0 
 get_or-past rest zero some = absurd (omega arith)
 get_or-past rest (suc n) some = let back : n ≡ suc n - 1 = omega arith in ap (λ (k : ℕ). get_or rest k 0) back
 
-pub last_byte : (rest left bytes w : List ℕ) → IsUtf8 rest → IsUtf8 left → bytes ≡ rest → 0 < length rest - length left → chars rest ≡ w ++ chars left → (get_or bytes (length rest - length left - 1) 0 == 13) ≡ (last_from 0 w == 13)
+pub last_byte : (rest left bytes w : List ℕ) → IsUtf8 rest → IsUtf8 left → bytes ≡ rest → 0 < length rest - length left
+    → chars rest ≡ w ++ chars left → (get_or bytes (length rest - length left - 1) 0 == 13) ≡ (last_from 0 w == 13)
 last_byte rest left bytes w all spelt same some whole =
     ap (λ (bs : List ℕ). get_or bs (length rest - length left - 1) 0 == 13) same
     ∙ (ap (λ (d : ℕ). d == 13) (sym (get_or-past rest (length rest - length left) some)) ∙ last_read rest left w all spelt whole)
@@ -193,11 +188,13 @@ all_items raw text is = ap (left_items raw text) (sym (chars-unix text is))
 pub no_items : (raw : Bool) (text : List ℕ) → left_items raw text [] ≡ []
 no_items raw text = ap (map (λ (i : Item). (moved text i.0, i.1))) (nothing (front_by raw) (length (unix text)))
 
-found-moved : (text s : List ℕ) (found : List (Element × List ℕ)) → map (λ (i : Item). (moved text i.0, i.1)) (map (item_at (length (unix text)) (reading.place (length (unix text)) s)) found) ≡ map (file_item text (offset_of text s)) found
+found-moved : (text s : List ℕ) (found : List (Element × List ℕ))
+    → map (λ (i : Item). (moved text i.0, i.1)) (map (item_at (length (unix text)) (reading.place (length (unix text)) s)) found) ≡ map (file_item text (offset_of text s)) found
 found-moved text s [] = refl
 found-moved text s (f ∷ found) = ap (λ (is : List Item). file_item text (offset_of text s) f ∷ is) (found-moved text s found)
 
-pub items_cons : (raw : Bool) (text s : List ℕ) (c : ℕ) → left_items raw text (c ∷ s) ≡ map (file_item text (offset_of text (c ∷ s))) (front_by raw c s).found ++ left_items raw text (front_by raw c s).left
+pub items_cons : (raw : Bool) (text s : List ℕ) (c : ℕ)
+    → left_items raw text (c ∷ s) ≡ map (file_item text (offset_of text (c ∷ s))) (front_by raw c s).found ++ left_items raw text (front_by raw c s).left
 items_cons raw text s c =
     ap (map (λ (i : Item). (moved text i.0, i.1))) (items-cons raw (length (unix text)) c s)
     ∙ (map-append (λ (i : Item). (moved text i.0, i.1)) (map (item_at (length (unix text)) (reading.place (length (unix text)) (c ∷ s))) (front_by raw c s).found) (items_from (front_by raw) (length (unix text)) (front_by raw c s).left)
@@ -291,7 +288,8 @@ module _ (rest left : List ℕ) (e : Element) (returned : Bool) (all : IsUtf8 re
 
 -- ---- white space that is skipped
 
-pub passed_same : (s : List ℕ) → (past_run is_passed_over (unix s) ≡ unix (past_run is_passed_over s)) × (list_any is_newline (front_run is_passed_over (unix s)) ≡ list_any is_newline (front_run is_passed_over s))
+pub passed_same : (s : List ℕ)
+    → (past_run is_passed_over (unix s) ≡ unix (past_run is_passed_over s)) × (list_any is_newline (front_run is_passed_over (unix s)) ≡ list_any is_newline (front_run is_passed_over s))
 passed_same [] = (refl, refl)
 passed_same (c ∷ s) = grind (arith, common_steps, nat_tests, passed_same s)
 
@@ -321,6 +319,8 @@ items_step raw text t u s left c start first second next a b is at found rest =
 pub none_found : (first second : Option Item) (rest : List Item) → is_some first ≡ false → (first ≡ None → second ≡ None) → option_to_list first ++ (option_to_list second ++ rest) ≡ rest
 none_found first second rest none also = grind (arith, common_steps)
 
-pub takes_items : (raw : Bool) (text t s left : List ℕ) (waiting first second : Option Item) → is_some waiting ≡ false → t ≡ text → left_items raw text s ≡ option_to_list first ++ (option_to_list second ++ left_items raw text left) → (first ≡ None → (second ≡ None) × (left ≡ []))
+pub takes_items : (raw : Bool) (text t s left : List ℕ) (waiting first second : Option Item) → is_some waiting ≡ false
+    → t ≡ text → left_items raw text s ≡ option_to_list first ++ (option_to_list second ++ left_items raw text left)
+    → (first ≡ None → (second ≡ None) × (left ≡ []))
     → TakesFirst (option_to_list waiting ++ left_items raw text s) first (option_to_list second ++ left_items raw t left)
 takes_items raw text t s left waiting first second none same found all = grind (arith, common_steps, all, no_items)

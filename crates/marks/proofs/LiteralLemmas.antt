@@ -2,36 +2,24 @@
 use Rattle.std.proofs.Common.{◌≡◌, ℕ, ◌+◌, ◌-◌, ◌<◌, ◌≤◌, Bool, List, [], ◌∷◌, ◌++◌, map, take, drop, ap, subst, ◌∙◌, arith, take-append-drop, length-drop, append-nil, length, IsCharBoundary, IsUtf8, Option, Some}
 use Rattle.std.specs.Fmt.{WritesInCalls}
 use Rattle.rustc_lexer.specs.Classes.{bytes}
-use Rattle.std.proofs.lemmas.Bool.{cases_lt}
-use Rattle.std.proofs.lemmas.List.{drop-drop, get_or-take, length-take-le}
-use Rattle.std.proofs.lemmas.List.Concat.{flat_map-append}
-use Rattle.std.proofs.lemmas.List.Edits.{length-between}
-use Rattle.std.proofs.lemmas.List.Elements.{All-head, All-tail}
+use Rattle.std.proofs.lemmas.{Bool.{cases_lt}, List.{drop-drop, get_or-take, length-take-le, Concat.{flat_map-append}}}
+use Rattle.std.proofs.lemmas.List.{Edits.{length-between}, Elements.{All-head, All-tail}}
 use Rattle.std.specs.Str.{chars}
-use Rattle.std.proofs.lemmas.Str.{IsCharBoundary-from_rest, IsUtf8-between, encodes-chars}
-use Rattle.std.proofs.lemmas.Grind.{common_steps}
-use Rattle.rustc_literal_escaper.specs.Grammar.{Item}
-use Rattle.rustc_literal_escaper.specs.Answers.{items_of}
-use Rattle.rustc_literal_escaper.specs.Meaning.{is_raw}
+use Rattle.std.proofs.lemmas.{Str.{IsCharBoundary-from_rest, IsUtf8-between, encodes-chars}, Grind.{common_steps}}
+use Rattle.rustc_literal_escaper.specs.{Grammar.{Item}, Answers.{items_of}, Meaning.{is_raw}}
 use Rattle.rustc_literal_escaper.specs.laws.TheAnswers.{items-are}
-use Rattle.marks.specs.laws.Literal.{stretches-read, the_stretches}
-use Rattle.marks.specs.laws.Pieces.{pieces-some, told}
+use Rattle.marks.specs.laws.{Literal.{stretches-read, the_stretches}, Pieces.{pieces-some, told}}
 use Rattle.marks.specs.LineEnds.{file_items, place, unix}
 use Rattle.marks.specs.Literal as lit
-use Rattle.rustc_literal_escaper.specs.Items.{ArePlaced, IsPlaced}
-use Rattle.rustc_literal_escaper.specs.declared.mode.Mode.{Mode}
-use Rattle.marks.specs.declared.class.Class.TheVariants.{Text}
-use Rattle.marks.specs.declared.literal.Look.{Look}
-use Rattle.marks.specs.declared.format.Format.{Format}
+use Rattle.rustc_literal_escaper.specs.{Items.{ArePlaced, IsPlaced}, declared.mode.Mode.{Mode}}
+use Rattle.marks.specs.declared.{class.Class.TheVariants.{Text}, literal.Look.{Look}, format.Format.{Format}}
 use Rattle.std.specs.List.{between}
 use Rattle.marks.specs.Answers.{stretches_of, string_stretches}
 use Rattle.marks.specs.Literal.{Stretch, single_stretches, stretches_at, look_parts, parts_from, char_error, char_look, moved_stretch, stretch}
-use Rattle.marks.specs.Marked.{literal_parts}
-use Rattle.marks.specs.means.Literal.{WritesOn, element_look, gap, stretches_from}
+use Rattle.marks.specs.{Marked.{literal_parts}, means.Literal.{WritesOn, element_look, gap, stretches_from}}
 use Rattle.marks.specs.means.Literal as means
 use Rattle.marks.specs.Part.{Own, own, with_marks, without_marks}
-use Rattle.marks.proofs.LineEndLemmas.{utf8-unix}
-use Rattle.marks.proofs.MovedLemmas.{items_placed, place-end, stretches-moved}
+use Rattle.marks.proofs.{LineEndLemmas.{utf8-unix}, MovedLemmas.{items_placed, place-end, stretches-moved}}
 use Rattle.marks.proofs.PartLemmas.{without_fault, writes_parts}
 
 without_look : (look : Look) (text : List ℕ) → without_marks (look_parts look text) ≡ text
@@ -47,7 +35,9 @@ without_literal mode text = without_from 0 text (stretches_of mode text)
 
 -- ---- the stretches of a string are those that the code finds
 
-pub string_found : (mode : Mode) (text : List ℕ) (begin close : ℕ) → IsUtf8 text → begin ≤ close → IsCharBoundary text begin → IsCharBoundary text close → means.string_stretches mode begin close text ≡ string_stretches mode begin close text
+pub string_found : (mode : Mode) (text : List ℕ) (begin close : ℕ) → IsUtf8 text → begin ≤ close
+    → IsCharBoundary text begin → IsCharBoundary text close
+    → means.string_stretches mode begin close text ≡ string_stretches mode begin close text
 string_found mode text begin close utf8 le at_begin at_close =
     let inside : List ℕ = between begin close text in
     let left : List ℕ = unix inside in
@@ -65,7 +55,9 @@ string_found mode text begin close utf8 le at_begin at_close =
 -- ---- the places
 
 -- a place between characters of what stands between the quotes is one of the literal
-pub boundary_in : (text : List ℕ) (begin close k : ℕ) → begin ≤ close → IsCharBoundary text begin → IsCharBoundary text close → IsCharBoundary (between begin close text) k → (begin + k ≤ close) × IsCharBoundary text (begin + k)
+pub boundary_in : (text : List ℕ) (begin close k : ℕ) → begin ≤ close → IsCharBoundary text begin
+    → IsCharBoundary text close → IsCharBoundary (between begin close text) k
+    → (begin + k ≤ close) × IsCharBoundary text (begin + k)
 boundary_in text begin close k order at_begin at_close at_k =
     grind (arith, common_steps, length-drop, length-take-le, cases_lt, IsCharBoundary-from_rest, get_or-take)
 
@@ -76,7 +68,9 @@ pub record Placed (text : List ℕ) (close start end : ℕ) : Type 0 where
   pub at_start : IsCharBoundary text start
   pub at_end : IsCharBoundary text end
 
-pub placed_first : (text : List ℕ) (begin close : ℕ) (items rest : List Item) (item : Item) → begin ≤ close → IsCharBoundary text begin → IsCharBoundary text close → ArePlaced (between begin close text) items → items ≡ item ∷ rest
+pub placed_first : (text : List ℕ) (begin close : ℕ) (items rest : List Item) (item : Item) → begin ≤ close
+    → IsCharBoundary text begin → IsCharBoundary text close → ArePlaced (between begin close text) items
+    → items ≡ item ∷ rest
     → Placed text close (begin + item.0.start) (begin + item.0.end) × ArePlaced (between begin close text) rest
 placed_first text begin close items rest item order at_begin at_close are is =
     let all : ArePlaced (between begin close text) (item ∷ rest) = subst (ArePlaced (between begin close text)) is are in
@@ -86,12 +80,14 @@ placed_first text begin close items rest item order at_begin at_close are is =
     let end = boundary_in text begin close item.0.end order at_begin at_close one.end in
     (record { low = omega arith; high = end.0; at_start = start.1; at_end = end.1 }, All-tail (IsPlaced (between begin close text)) item rest all)
 
-pub placed_all : (text inside : List ℕ) (begin close : ℕ) (raw : Bool) (items : List Item) → IsUtf8 inside → items ≡ file_items raw inside → inside ≡ between begin close text → ArePlaced (between begin close text) items
+pub placed_all : (text inside : List ℕ) (begin close : ℕ) (raw : Bool) (items : List Item) → IsUtf8 inside
+    → items ≡ file_items raw inside → inside ≡ between begin close text → ArePlaced (between begin close text) items
 placed_all text inside begin close raw items utf8 are is = grind (arith, common_steps, items_placed)
 
 -- ---- an item that was reported already
 
-told_already : (mode : Mode) (begin at close : ℕ) (items rest : List Item) (item : Item) → items ≡ item ∷ rest → begin + item.0.start < at → stretches_from mode begin at close items ≡ stretches_from mode begin at close rest
+told_already : (mode : Mode) (begin at close : ℕ) (items rest : List Item) (item : Item) → items ≡ item ∷ rest
+    → begin + item.0.start < at → stretches_from mode begin at close items ≡ stretches_from mode begin at close rest
 told_already mode begin at close items rest item is less = ap (stretches_from mode begin at close) is ∙ told mode begin close at item rest less
 
 -- ---- the calls
@@ -112,13 +108,16 @@ module _ {W : Type 0} (took : W → List ℕ → W → Type 0) where
   WritesLeft format text w shown ss last = WritesInCalls took w (with_marks format (parts_from shown (drop shown text) ss)) last
 
   -- some stretches, and then no more
-  pub writes_last : (format : Format) (text rest : List ℕ) (shown to : ℕ) (ss : List Stretch) (w v u : W) → WritesOn took format text w shown ss v to → rest ≡ drop to text → WritesInCalls took v (with_marks format (Own Text rest ∷ [])) u
+  pub writes_last : (format : Format) (text rest : List ℕ) (shown to : ℕ) (ss : List Stretch) (w v u : W)
+      → WritesOn took format text w shown ss v to → rest ≡ drop to text
+      → WritesInCalls took v (with_marks format (Own Text rest ∷ [])) u
       → WritesLeft format text w shown ss u
   writes_last format text rest shown to ss w v u on is wrote =
       subst (λ (all : List Stretch). WritesLeft format text w shown all u) (append-nil ss) (on [] u (subst (λ (xs : List ℕ). WritesInCalls took v (with_marks format (Own Text xs ∷ [])) u) is wrote))
 
   -- what stands between single quotes
-  pub writes_single : (format : Format) (mode : Mode) (text inside rest : List ℕ) (begin close to : ℕ) (look : Option Look) (w v u : W) → look ≡ char_look (char_error mode inside) inside → inside ≡ between begin close text → rest ≡ drop to text
+  pub writes_single : (format : Format) (mode : Mode) (text inside rest : List ℕ) (begin close to : ℕ) (look : Option Look) (w v u : W)
+      → look ≡ char_look (char_error mode inside) inside → inside ≡ between begin close text → rest ≡ drop to text
       → WritesOn took format text w 0 (stretch begin close look) v to → WritesInCalls took v (with_marks format (Own Text rest ∷ [])) u
       → WritesInCalls took w (with_marks format (parts_from 0 text (single_stretches mode begin close text))) u
   writes_single format mode text inside rest begin close to look w v u looks is past on wrote =
@@ -130,17 +129,20 @@ module _ {W : Type 0} (took : W → List ℕ → W → Type 0) where
   writes_told format mode text begin at close shown items rest item w last is less more = grind (arith, common_steps, told_already)
 
   -- an element, and what stands before it
-  pub writes_item : (format : Format) (mode : Mode) (text : List ℕ) (begin at close shown to next : ℕ) (items rest : List Item) (item : Item) (look : Option Look) (w v u last : W) → items ≡ item ∷ rest → at ≤ begin + item.0.start → look ≡ element_look mode item.1
+  pub writes_item : (format : Format) (mode : Mode) (text : List ℕ) (begin at close shown to next : ℕ) (items rest : List Item) (item : Item) (look : Option Look) (w v u last : W)
+      → items ≡ item ∷ rest → at ≤ begin + item.0.start → look ≡ element_look mode item.1
       → WritesOn took format text w shown (gap at (begin + item.0.start)) v to → WritesOn took format text v to (stretch (begin + item.0.start) (begin + item.0.end) look) u next
       → WritesLeft format text u next (stretches_from mode begin (begin + item.0.end) close rest) last → WritesLeft format text w shown (stretches_from mode begin at close items) last
   writes_item format mode text begin at close shown to next items rest item look w v u last is high looks a b more =
       grind (arith, common_steps)
 
   -- all elements, and then none
-  pub writes_all : (format : Format) (mode : Mode) (text inside : List ℕ) (begin close : ℕ) (items : List Item) (w last : W) → items ≡ file_items (is_raw mode) inside → inside ≡ between begin close text
+  pub writes_all : (format : Format) (mode : Mode) (text inside : List ℕ) (begin close : ℕ) (items : List Item) (w last : W)
+      → items ≡ file_items (is_raw mode) inside → inside ≡ between begin close text
       → WritesLeft format text w 0 (stretches_from mode begin begin close items) last → WritesInCalls took w (with_marks format (parts_from 0 text (means.string_stretches mode begin close text))) last
   writes_all format mode text inside begin close items w last are is wrote = grind (arith, common_steps)
 
-  pub writes_end : (format : Format) (mode : Mode) (text rest : List ℕ) (begin at close shown to : ℕ) (items : List Item) (w v u : W) → items ≡ [] → rest ≡ drop to text → WritesOn took format text w shown (gap at close) v to
+  pub writes_end : (format : Format) (mode : Mode) (text rest : List ℕ) (begin at close shown to : ℕ) (items : List Item) (w v u : W)
+      → items ≡ [] → rest ≡ drop to text → WritesOn took format text w shown (gap at close) v to
       → WritesInCalls took v (with_marks format (Own Text rest ∷ [])) u → WritesLeft format text w shown (stretches_from mode begin at close items) u
   writes_end format mode text rest begin at close shown to items w v u none past on wrote = grind (arith, common_steps, writes_last)

@@ -1,40 +1,29 @@
 -- The stretches of a string are in order, and are wrong where the escaper reports errors.
 use Rattle.std.proofs.Common.{◌≡◌, ℕ, ◌+◌, ◌<◌, ◌≤◌, ◌⊎◌, inl, inr, nat_lt, not, if◌then◌else◌, Bool, true, false, List, [], ◌∷◌, ◌++◌, length, map, slice_index_or, refl, sym, ap, ◌∙◌, subst, arith, append-nil, append_assoc, codes, All, IsCharBoundary, IsUtf8, Option, Some, None}
-use Rattle.std.specs.Char.{is_whitespace}
-use Rattle.std.specs.List.{between, list_all, list_any}
-use Rattle.std.specs.declared.ops.Range.{Range}
-use Rattle.std.proofs.lemmas.Bool.{cases_lt, ltb-false, ltb-true}
-use Rattle.std.proofs.lemmas.Bool.Decides.{nat_tests}
+use Rattle.std.specs.{Char.{is_whitespace}, List.{between, list_all, list_any}, declared.ops.Range.{Range}}
+use Rattle.std.proofs.lemmas.Bool.{cases_lt, ltb-false, ltb-true, Decides.{nat_tests}}
 use Rattle.std.proofs.lemmas.List.Elements.{All-append, All-cons, All-head, All-map, All-nil, All-tail, All-weaker, Contains-append_right}
-use Rattle.std.proofs.lemmas.Grind.{common_steps}
-use Rattle.std.proofs.lemmas.List.Edits.{length-between}
-use Rattle.std.proofs.lemmas.Str.{IsUtf8-between}
+use Rattle.std.proofs.lemmas.{Grind.{common_steps}, List.Edits.{length-between}, Str.{IsUtf8-between}}
 use Rattle.rustc_lexer.specs.laws.Choice.{by_test}
 use Rattle.rustc_literal_escaper.specs.Answers.{items_of}
 use Rattle.rustc_literal_escaper.specs.Grammar as the
 use Rattle.rustc_literal_escaper.specs.Grammar.{AreItems, Error, Item, bytes, is_newline, item, lines_warning, space_warning}
-use Rattle.rustc_literal_escaper.specs.Items.{IsPlaced}
-use Rattle.rustc_literal_escaper.specs.Meaning.{error_of, errors_in, is_raw, is_single, put}
-use Rattle.rustc_literal_escaper.specs.laws.TheAnswers.{items-are}
-use Rattle.rustc_literal_escaper.specs.declared.element.Element.{Element}
+use Rattle.rustc_literal_escaper.specs.{Items.{IsPlaced}, Meaning.{error_of, errors_in, is_raw, is_single, put}}
+use Rattle.rustc_literal_escaper.specs.{laws.TheAnswers.{items-are}, declared.element.Element.{Element}}
 use Rattle.rustc_literal_escaper.specs.declared.element.Element.TheVariants.{Fault, Plain}
 use Rattle.rustc_literal_escaper.specs.declared.error.EscapeError.{EscapeError}
 use Rattle.rustc_literal_escaper.specs.declared.error.EscapeError.TheVariants.{MultipleSkippedLinesWarning, UnskippedWhitespaceWarning}
 use Rattle.rustc_literal_escaper.specs.declared.mode.Mode.{Mode}
-use Rattle.rustc_literal_escaper.specs.declared.mode.Mode.TheVariants.{Char}
 use Rattle.rustc_literal_escaper.proofs.PlacedLemmas.{are_placed}
-use Rattle.marks.specs.declared.literal.Look.{Look}
-use Rattle.marks.specs.declared.literal.Look.TheVariants.{Escape, Wrong}
+use Rattle.marks.specs.declared.literal.Look.{Look, TheVariants.{Escape, Wrong}}
 use Rattle.marks.specs.Answers.{stretches_in, string_stretches}
 use Rattle.marks.specs.LineEnds.{file_items, moved, place as file_place, unix}
 use Rattle.marks.specs.Literal.{Stretch, is_plain, single_stretches, stretch}
 use Rattle.marks.specs.LiteralMarks.{AreInOrder, IsMarked, IsReported, is_escaped, is_in}
 use Rattle.marks.specs.means.Literal as means
 use Rattle.marks.specs.means.Literal.{gap, look_by, stretches_from}
-use Rattle.marks.proofs.FileFaultLemmas.{string_errors}
-use Rattle.marks.proofs.LineEndLemmas.{place_less, utf8-unix}
-use Rattle.marks.proofs.LiteralLemmas.{string_found}
-use Rattle.marks.proofs.MovedLemmas.{place-end, place-le}
+use Rattle.marks.proofs.{FileFaultLemmas.{string_errors}, LineEndLemmas.{place_less, utf8-unix}}
+use Rattle.marks.proofs.{LiteralLemmas.{string_found}, MovedLemmas.{place-end, place-le}}
 
 fault-told : (mode : Mode) (error : EscapeError) → error_of mode (Fault error) ≡ Some error
 fault-told mode error = grind (arith, common_steps)
@@ -186,11 +175,14 @@ module _ (mode : Mode) (begin close : ℕ) where
         subst (Moved from) (sym (append_assoc (lines_warning from space) (space_warning from space next) items))
         (warned (list_any is_newline space) from MultipleSkippedLinesWarning (codes "\\\n" ++ space) (space_warning from space next ++ items) rest)
 
-all-in : (mode : Mode) (begin close : ℕ) (ss : List Stretch) (items : List Item) → All (IsTold mode begin close ss) items → list_all (λ (e : Error). is_in ss (begin + e.0.start)) (errors_in mode items) ≡ true
+all-in : (mode : Mode) (begin close : ℕ) (ss : List Stretch) (items : List Item)
+    → All (IsTold mode begin close ss) items
+    → list_all (λ (e : Error). is_in ss (begin + e.0.start)) (errors_in mode items) ≡ true
 all-in mode begin close ss [] told = refl
 all-in mode begin close ss (i ∷ items) told = grind (arith, common_steps, All-head (IsTold mode begin close ss) i items told, all-in mode begin close ss items (All-tail (IsTold mode begin close ss) i items told))
 
-pub strings_marked : (mode : Mode) (begin close : ℕ) (text : List ℕ) → IsUtf8 text → IsCharBoundary text begin → IsCharBoundary text close → begin ≤ close → is_single mode ≡ false → IsMarked mode begin close text
+pub strings_marked : (mode : Mode) (begin close : ℕ) (text : List ℕ) → IsUtf8 text → IsCharBoundary text begin
+    → IsCharBoundary text close → begin ≤ close → is_single mode ≡ false → IsMarked mode begin close text
 strings_marked mode begin close text utf8 at_begin at_close le double =
     let inside : List ℕ = between begin close text in
     let found : List Item = items_of (is_raw mode) (unix inside) in

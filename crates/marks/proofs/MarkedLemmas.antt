@@ -1,28 +1,17 @@
 -- What a marked text says, and the calls that write it.
 use Rattle.std.proofs.Common.{◌≡◌, ℕ, ◌+◌, ◌-◌, ◌==◌, inl, inr, List, [], ◌∷◌, ◌++◌, length, take, drop, refl, ap, subst, ◌∙◌, arith, take-add, take-append-drop, Option, append-nil}
-use Rattle.std.specs.Fmt.{WritesInCalls}
-use Rattle.std.specs.Prelude.{OnOk, Result}
-use Rattle.std.specs.Char.{encode_utf8, len_utf8}
+use Rattle.std.specs.{Fmt.{WritesInCalls}, Prelude.{OnOk, Result}, Char.{encode_utf8, len_utf8}}
 use Rattle.std.specs.Str.{IsCharBoundary, IsUtf8, chars}
-use Rattle.std.proofs.lemmas.Bool.{cases_Bool, eqb-true}
-use Rattle.std.proofs.lemmas.Str.{IsCharBoundary-past_char, IsCharBoundary-start}
-use Rattle.std.proofs.lemmas.List.Concat.{flat_map-append}
-use Rattle.std.proofs.lemmas.Grind.{common_steps}
-use Rattle.rustc_lexer.specs.declared.edition.Edition.{Edition}
-use Rattle.rustc_lexer.specs.declared.token.Token.{Token}
-use Rattle.rustc_lexer.specs.Document.{document_tokens, shebang_len}
-use Rattle.rustc_lexer.specs.Tokens.{bound, Partitions}
+use Rattle.std.proofs.lemmas.{Bool.{cases_Bool, eqb-true}, Str.{IsCharBoundary-past_char, IsCharBoundary-start}}
+use Rattle.std.proofs.lemmas.{List.Concat.{flat_map-append}, Grind.{common_steps}}
+use Rattle.rustc_lexer.specs.declared.{edition.Edition.{Edition}, token.Token.{Token}}
+use Rattle.rustc_lexer.specs.{Document.{document_tokens, shebang_len}, Tokens.{bound, Partitions}}
 use Rattle.rustc_literal_escaper.specs.declared.mode.Mode.{Mode}
-use Rattle.marks.specs.declared.class.Class.{Class}
-use Rattle.marks.specs.declared.class.Class.TheVariants.{Comment, Plain}
-use Rattle.marks.specs.declared.fault.Fault.{Fault}
-use Rattle.marks.specs.declared.format.Format.{Format}
-use Rattle.marks.specs.declared.format.Format.TheVariants.{Html}
-use Rattle.marks.specs.Escape.{unescaped, untagged}
+use Rattle.marks.specs.declared.{class.{Class.{Class, TheVariants.{Comment, Plain}}}, fault.Fault.{Fault}}
+use Rattle.marks.specs.{declared.{format.{Format.{Format, TheVariants.{Html}}}}, Escape.{unescaped, untagged}}
 use Rattle.marks.specs.Marked.{document_parts, mark_len, marked, marked_tokens, parts, parts_by, text_parts, token_parts}
 use Rattle.marks.specs.Part.{Own, own, with_marks, without_marks}
-use Rattle.marks.proofs.EscapeLemmas.{unescaped_escaped}
-use Rattle.marks.proofs.LiteralLemmas.{without_literal}
+use Rattle.marks.proofs.{EscapeLemmas.{unescaped_escaped}, LiteralLemmas.{without_literal}}
 use Rattle.marks.proofs.PartLemmas.{shows, without_fault, writes_parts}
 
 without_token : (fault : Option Fault) (mode : Option Mode) (class : Class) (text : List ℕ) → without_marks (parts_by fault mode class text) ≡ text
@@ -68,12 +57,14 @@ module _ {W : Type 0} (took : W → List ℕ → W → Type 0) where
   -- a byte order mark and the shebang line, and then the tokens of what follows them
   pub writes_past : (format : Format) (edition : Edition) (w0 w v u : W) (mark text : List ℕ)
       → WritesInCalls took w0 (with_marks format (Own Plain mark ∷ [])) w → WritesInCalls took w (with_marks format (Own Comment (take (shebang_len text) text) ∷ [])) v
-      → WritesInCalls took v (marked_tokens format edition (drop (shebang_len text) text) (document_tokens edition text)) u → WritesInCalls took w0 (with_marks format (Own Plain mark ∷ document_parts edition text)) u
+      → WritesInCalls took v (marked_tokens format edition (drop (shebang_len text) text) (document_tokens edition text)) u
+      → WritesInCalls took w0 (with_marks format (Own Plain mark ∷ document_parts edition text)) u
   writes_past format edition w0 w v u mark text before first more =
       writes_parts took format (Own Plain mark ∷ []) (document_parts edition text) w0 w u before
       (writes_parts took format (Own Comment (take (shebang_len text) text) ∷ []) (parts edition (drop (shebang_len text) text) (document_tokens edition text)) w v u first more)
 
   -- so the byte order mark and the document are the text
-  pub writes_whole : {T E : Type 0} (r : Result T E) (format : Format) (edition : Edition) (text mark rest : List ℕ) (n : ℕ) (w v : W) → n ≡ mark_len text → mark ≡ take (n - 0) text → rest ≡ drop n text
+  pub writes_whole : {T E : Type 0} (r : Result T E) (format : Format) (edition : Edition) (text mark rest : List ℕ) (n : ℕ) (w v : W)
+      → n ≡ mark_len text → mark ≡ take (n - 0) text → rest ≡ drop n text
       → OnOk r (WritesInCalls took w (with_marks format (Own Plain mark ∷ document_parts edition rest)) v) → OnOk r (WritesInCalls took w (marked format edition text) v)
   writes_whole r format edition text mark rest n w v is front past wrote = grind (arith, common_steps)

@@ -1,30 +1,18 @@
 -- What stands in a literal of a file, by what stands in the text with newlines for its line ends.
-use Rattle.std.proofs.Common.{◌≡◌, ℕ, zero, suc, add-zero, ◌+◌, ◌<◌, ◌≤◌, ◌⊎◌, inl, inr, nat_lt, get_or, append-nil, IsCharBoundary, IsUtf8, Bool, true, List, [], ◌∷◌, length, map, refl, sym, ap, ◌∙◌, arith, Option, Some, None, Result, Ok, Err}
-use Rattle.std.specs.Option.{option_map}
-use Rattle.std.specs.Result.{result_err}
-use Rattle.std.specs.Str.{chars}
-use Rattle.std.proofs.lemmas.Bool.{cases_lt}
-use Rattle.std.proofs.lemmas.Bool.Decides.{nat_tests}
-use Rattle.std.proofs.lemmas.Grind.{common_steps}
-use Rattle.std.proofs.lemmas.List.{map-append}
+use Rattle.std.proofs.Common.{◌≡◌, ℕ, zero, suc, add-zero, ◌+◌, ◌≤◌, ◌⊎◌, inl, inr, nat_lt, get_or, append-nil, IsCharBoundary, IsUtf8, Bool, true, List, [], ◌∷◌, length, map, refl, sym, ap, ◌∙◌, arith, Option, Result}
+use Rattle.std.specs.{Option.{option_map}, Result.{result_err}, Str.{chars}}
+use Rattle.std.proofs.lemmas.{Bool.{cases_lt, Decides.{nat_tests}}, Grind.{common_steps}, List.{map-append}}
 use Rattle.std.proofs.lemmas.List.Elements.{All-cons, All-head, All-nil, All-tail}
-use Rattle.rustc_literal_escaper.proofs.AnswerLemmas.{literal_read}
-use Rattle.rustc_literal_escaper.proofs.PlacedLemmas.{are_placed}
-use Rattle.rustc_literal_escaper.specs.Answers.{items_of, single_of, without_range}
-use Rattle.rustc_literal_escaper.specs.Grammar.{Error, Item}
-use Rattle.rustc_literal_escaper.specs.Items.{ArePlaced, IsPlaced}
-use Rattle.rustc_literal_escaper.specs.Meaning.{byte_of, char_of, error_of}
-use Rattle.rustc_literal_escaper.specs.declared.element.Element.{Element}
-use Rattle.rustc_literal_escaper.specs.declared.error.EscapeError.{EscapeError}
-use Rattle.rustc_literal_escaper.specs.declared.mode.Mode.{Mode}
-use Rattle.rustc_literal_escaper.specs.declared.mode.Mode.TheVariants.{Char, Byte}
+use Rattle.rustc_literal_escaper.proofs.{AnswerLemmas.{literal_read}, PlacedLemmas.{are_placed}}
+use Rattle.rustc_literal_escaper.specs.{Answers.{items_of, single_of, without_range}, Grammar.{Error, Item}}
+use Rattle.rustc_literal_escaper.specs.{Items.{ArePlaced, IsPlaced}, Meaning.{byte_of, char_of, error_of}}
+use Rattle.rustc_literal_escaper.specs.declared.{element.Element.{Element}, error.EscapeError.{EscapeError}}
+use Rattle.rustc_literal_escaper.specs.declared.mode.Mode.{Mode, TheVariants.{Char, Byte}}
 use Rattle.rustc_literal_escaper.specs.laws.Escape.{by_either}
-use Rattle.rustc_literal_escaper.specs.means.Single.{alone, alone_error, literal, single, single_error}
+use Rattle.rustc_literal_escaper.specs.means.Single.{alone, alone_error, literal, single_error}
 use Rattle.marks.specs.LineEnds.{ends_line, file_items, moved, place, unix}
-use Rattle.marks.specs.Literal.{char_error, moved_stretch, stretch}
-use Rattle.marks.specs.declared.literal.Look.{Look}
-use Rattle.marks.specs.means.LineEnds.{is_whole, single_left}
-use Rattle.marks.specs.means.Literal.{stretches_from}
+use Rattle.marks.specs.{Literal.{char_error, moved_stretch, stretch}, declared.literal.Look.{Look}}
+use Rattle.marks.specs.means.{LineEnds.{is_whole, single_left}, Literal.{stretches_from}}
 use Rattle.marks.proofs.LineEndLemmas.{chars-unix, place-append, place_less, utf8-unix}
 
 -- ---- places
@@ -72,7 +60,8 @@ same-order s begin i j = grind (arith, common_steps, nat_tests, place_less s i j
 stretch-moved : (begin : ℕ) (s : List ℕ) (start end : ℕ) (look : Option Look) → stretch (begin + place s start) (begin + place s end) look ≡ map (moved_stretch begin s) (stretch start end look)
 stretch-moved begin s start end look = grind (arith, common_steps)
 
-pub stretches-moved : (mode : Mode) (begin : ℕ) (s : List ℕ) (at close : ℕ) (items : List Item) → stretches_from mode begin (begin + place s at) (begin + place s close) (map (λ (i : Item). (moved s i.0, i.1)) items) ≡ map (moved_stretch begin s) (stretches_from mode 0 at close items)
+pub stretches-moved : (mode : Mode) (begin : ℕ) (s : List ℕ) (at close : ℕ) (items : List Item)
+    → stretches_from mode begin (begin + place s at) (begin + place s close) (map (λ (i : Item). (moved s i.0, i.1)) items) ≡ map (moved_stretch begin s) (stretches_from mode 0 at close items)
 stretches-moved mode begin s at close [] = grind (arith, common_steps, same-order s begin at close)
 stretches-moved mode begin s at close (i ∷ items) =
     grind (arith, common_steps, map-append, stretch-moved, same-order s begin i.0.start at, same-order s begin at i.0.start, stretches-moved mode begin s at close items, stretches-moved mode begin s i.0.end close items)
@@ -85,7 +74,9 @@ kind o = option_map (λ (e : Error). e.1) o
 alone-error : {U : Type 0} (meant : Result U EscapeError) (left : List ℕ) (total : ℕ) → kind (alone_error total (result_err meant) left) ≡ result_err (alone meant left)
 alone-error meant left total = grind (arith, common_steps)
 
-literal-error : {U : Type 0} (meaning : Element → Result U EscapeError) (mode : Mode) (total : ℕ) (s : List ℕ) → ((e : Element) → result_err (meaning e) ≡ error_of mode e) → kind (single_error total mode s) ≡ result_err (literal meaning s)
+literal-error : {U : Type 0} (meaning : Element → Result U EscapeError) (mode : Mode) (total : ℕ) (s : List ℕ)
+    → ((e : Element) → result_err (meaning e) ≡ error_of mode e)
+    → kind (single_error total mode s) ≡ result_err (literal meaning s)
 literal-error meaning mode total s w4 = grind (arith, common_steps, alone-error)
 
 kind-moved : (text : List ℕ) (o : Option Error) → kind (option_map (λ (e : Error). (moved text e.0, e.1)) o) ≡ kind o
@@ -102,6 +93,7 @@ abbrev pub alone_mode : Mode → Mode
 alone_mode Byte = Byte
 alone_mode mode = Char
 
-pub error_found : (mode picked : Mode) (text : List ℕ) (found : Option Error) → IsUtf8 text → picked ≡ alone_mode mode → found ≡ single_left text picked (unix (chars text)) → option_map (λ (e : Error). e.1) found ≡ char_error mode text
+pub error_found : (mode picked : Mode) (text : List ℕ) (found : Option Error) → IsUtf8 text → picked ≡ alone_mode mode
+    → found ≡ single_left text picked (unix (chars text)) → option_map (λ (e : Error). e.1) found ≡ char_error mode text
 error_found Byte picked text found is pick f = ap kind (f ∙ ap (λ (m : Mode). single_left text m (unix (chars text))) pick) ∙ single-error byte_of Byte text is (λ e. refl)
 error_found mode picked text found is pick f = ap kind (f ∙ ap (λ (m : Mode). single_left text m (unix (chars text))) pick) ∙ single-error char_of Char text is (λ e. refl)

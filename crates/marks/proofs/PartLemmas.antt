@@ -1,22 +1,14 @@
 -- A part of a text between its marks: what it says, and the calls that write it.
 use Rattle.std.proofs.Common.{◌≡◌, ℕ, zero, suc, ◌%◌, ◌==◌, Bool, true, false, List, [], ◌∷◌, ◌++◌, length, take, drop, refl, sym, ap, subst, ◌∙◌, arith, append_assoc, not, take-append-drop, ◌-◌, append-nil, true≢false}
-use Rattle.std.specs.Prelude.{decimal}
-use Rattle.std.specs.Fmt.{digit_glyph, digits, digits_onto, WritesInCalls}
-use Rattle.std.proofs.lemmas.Bool.{ne_eqb}
-use Rattle.std.proofs.lemmas.List.Concat.{flat_map-append}
-use Rattle.std.proofs.lemmas.Grind.{common_steps}
+use Rattle.std.specs.{Prelude.{decimal}, Fmt.{digit_glyph, digits, digits_onto, WritesInCalls}}
+use Rattle.std.proofs.lemmas.{Bool.{ne_eqb}, List.Concat.{flat_map-append}, Grind.{common_steps}}
 use Rattle.rustc_literal_escaper.specs.declared.error.EscapeError.{EscapeError}
-use Rattle.marks.specs.declared.class.Class.{Class}
-use Rattle.marks.specs.declared.fault.Fault.{Fault}
-use Rattle.marks.specs.declared.format.Format.{Format}
-use Rattle.marks.specs.declared.format.Format.TheVariants.{Html}
-use Rattle.marks.specs.Escape.{escaped, escaped_byte, untagged, untagged_from}
-use Rattle.marks.specs.Fault.{sentence}
+use Rattle.marks.specs.declared.{class.Class.{Class}, fault.Fault.{Fault}, format.{Format.{Format, TheVariants.{Html}}}}
+use Rattle.marks.specs.{Escape.{escaped, escaped_byte, untagged, untagged_from}, Fault.{sentence}}
 use Rattle.rustc_literal_escaper.specs.Numbers.{error_sentence}
 use Rattle.marks.specs.Mark.{class_open, class_close, fault_open, fault_close}
 use Rattle.marks.specs.Part.{Part, Own, Close, fault_parts, first_line, own, shown, with_marks, without_marks, written}
-use Rattle.marks.proofs.CallLemmas.{no_calls, one_call, writes_both}
-use Rattle.marks.proofs.EscapeLemmas.{untagged_escaped}
+use Rattle.marks.proofs.{CallLemmas.{no_calls, one_call, writes_both}, EscapeLemmas.{untagged_escaped}}
 
 pub without_fault : (fault : Fault) (class : Class) (text : List ℕ) → without_marks (fault_parts fault class text) ≡ text
 without_fault fault class text = grind (arith, common_steps, append-nil, take-append-drop)
@@ -75,7 +67,8 @@ module _ {W : Type 0} (took : W → List ℕ → W → Type 0) where
   writes_parts format ps qs w0 w1 w2 first more = subst (λ (bs : List ℕ). WritesInCalls took w0 bs w2) (sym (with_marks-append format ps qs)) (writes_both took w0 w1 w2 _ _ first more)
 
   -- a part of the text between the marks of its class
-  pub writes_in_class : (format : Format) (class : Class) (text : List ℕ) (w0 w1 w2 w3 : W) (before after : List ℕ) → (length text == 0) ≡ false → before ≡ class_open format class → after ≡ class_close format class
+  pub writes_in_class : (format : Format) (class : Class) (text : List ℕ) (w0 w1 w2 w3 : W) (before after : List ℕ)
+      → (length text == 0) ≡ false → before ≡ class_open format class → after ≡ class_close format class
       → took w0 before w1 → WritesInCalls took w1 (shown format class text) w2 → took w2 after w3 → WritesInCalls took w0 (with_marks format (Own class text ∷ [])) w3
   writes_in_class format class [] w0 w1 w2 w3 before after some opens closes a b d = absurd (true≢false some)
   writes_in_class format class (x ∷ xs) w0 w1 w2 w3 before after some opens closes a b d =

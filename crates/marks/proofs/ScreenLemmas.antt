@@ -1,12 +1,8 @@
 -- A text as a terminal shows it: that it holds no control characters but for layout, and its calls.
 use Rattle.std.proofs.Common.{◌≡◌, ℕ, ◌≤◌, ◌==◌, Bool, true, false, true≢false, ◌&&◌, ◌||◌, not, inl, inr, List, [], ◌∷◌, refl, sym, subst, arith, length-append}
-use Rattle.std.specs.Char.{encode_utf8, is_control}
-use Rattle.std.specs.Fmt.{WritesInCalls}
-use Rattle.std.specs.List.{list_all}
+use Rattle.std.specs.{Char.{encode_utf8, is_control}, Fmt.{WritesInCalls}, List.{list_all}}
 use Rattle.std.specs.Str.{chars, encode_utf8_all}
-use Rattle.std.proofs.lemmas.Bool.{cases_Bool}
-use Rattle.std.proofs.lemmas.Bool.Decides.{nat_tests}
-use Rattle.std.proofs.lemmas.Grind.{common_steps}
+use Rattle.std.proofs.lemmas.{Bool.{cases_Bool, Decides.{nat_tests}}, Grind.{common_steps}}
 use Rattle.std.proofs.lemmas.Str.{IsUtf8-past_char, chars_past_char, length-encode, len_utf8_bounds}
 use Rattle.marks.specs.declared.class.Class.{Class}
 use Rattle.marks.specs.Screen.{at_line_end, is_layout, is_shown, seen, seen_char, symbol}

@@ -1,15 +1,9 @@
 -- Carriage returns that no newline follows, and parts of a text whose places may lie past its end.
 use Rattle.std.proofs.Common.{◌≡◌, ℕ, zero, suc, ◌+◌, ◌-◌, ◌<◌, ◌||◌, true, false, List, [], ◌∷◌, drop, take, length, get_or, min, sym, ap, refl, arith, ◌∙◌, Some, None}
-use Rattle.std.specs.List.{between, list_any}
-use Rattle.std.specs.Str.{IsAscii, chars}
-use Rattle.std.proofs.lemmas.Bool.{false_from_ne_true}
-use Rattle.std.proofs.lemmas.Bool.Decides.{nat_tests}
-use Rattle.std.proofs.lemmas.Grind.{common_steps}
-use Rattle.std.proofs.lemmas.List.{drop_min, length-take, take_min}
-use Rattle.std.proofs.lemmas.List.Elements.{All-from_get_or}
-use Rattle.std.proofs.lemmas.List.Folds.{list_any_none}
-use Rattle.std.proofs.lemmas.Slice.{between_is}
-use Rattle.std.proofs.lemmas.Str.{chars-IsAscii}
+use Rattle.std.specs.{List.{between, list_any}, Str.{IsAscii, chars}}
+use Rattle.std.proofs.lemmas.{Bool.{false_from_ne_true, Decides.{nat_tests}}, Grind.{common_steps}}
+use Rattle.std.proofs.lemmas.List.{drop_min, length-take, take_min, Elements.{All-from_get_or}, Folds.{list_any_none}}
+use Rattle.std.proofs.lemmas.{Slice.{between_is}, Str.{chars-IsAscii}}
 use Rattle.memchr.specs.Find.{IsFirstByte, is_byte}
 use Rattle.rustc_lexer.specs.Classes.{Fits}
 use Rattle.marks.specs.TextFault.{goes_on, has_bare_return, turns_direction}

@@ -51,6 +51,7 @@ impl<'a> Model for FaultsInFile<'a> {
 impl<'a> FaultsInFile<'a> {
     /// Returns an iterator over the errors and warnings of a literal of this kind. `contents` is the text between the
     /// quotes.
+    #[tactic(auto, using(crate::proofs::FileFaultLemmas::fault_lemmas, std::proofs::lemmas::Grind::common_steps))]
     pub fn new(contents: &'a str, mode: Mode) -> FaultsInFile<'a>
         ensures { result ≡ file_errors mode contents.now }
     {

@@ -44,7 +44,6 @@ pub fn keyword_kind(word: &str, edition: Edition) -> Option<KeywordKind>
 }
 
 /// Returns whether a word is a strict keyword.
-#[tactic(auto, using(crate::proofs::KeywordLemmas::has_not))]
 pub(crate) fn is_strict(word: &str, edition: Edition) -> bool
     ensures { result ≡ spec.has KeywordKind.Strict edition word.now }
 {

@@ -1,19 +1,13 @@
 -- A batch, by what `fill` says of the tokens that are left.
 use Rattle.std.proofs.Common.{◌≡◌, ℕ, ◌+◌, ◌-◌, ◌≤◌, List, length, drop, sym, ap, subst, ◌∙◌, arith, length-drop, IsCharBoundary}
-use Rattle.std.proofs.lemmas.Grind.{common_steps}
-use Rattle.std.proofs.lemmas.Str.{IsCharBoundary-from_rest, IsUtf8-drop}
+use Rattle.std.proofs.lemmas.{Grind.{common_steps}, Str.{IsCharBoundary-from_rest, IsUtf8-drop}}
 use Rattle.std.proofs.Math.Nat.{min-le_right}
-use Rattle.rustc_lexer.specs.declared.edition.Edition.{Edition}
-use Rattle.rustc_lexer.specs.declared.token.FrontmatterAllowed.{FrontmatterAllowed}
-use Rattle.rustc_lexer.specs.Tokens.{bound, tokens_of, tokens_left}
-use Rattle.rustc_lexer.specs.means.Tokens.{IsFilled}
-use Rattle.rustc_lexer.specs.LanguageText.{Mode, mode_edition, mode_in}
-use Rattle.rustc_lexer.specs.Classes.{IsText}
-use Rattle.rustc_lexer.specs.State.{State}
+use Rattle.rustc_lexer.specs.declared.{edition.Edition.{Edition}, token.FrontmatterAllowed.{FrontmatterAllowed}}
+use Rattle.rustc_lexer.specs.{Tokens.{bound, tokens_of, tokens_left}, means.Tokens.{IsFilled}}
+use Rattle.rustc_lexer.specs.{LanguageText.{Mode, mode_edition, mode_in}, Classes.{IsText}, State.{State}}
 use Rattle.rustc_lexer.specs.laws.Tokens.{partitions}
 use Rattle.rustc_lexer.proofs.lemmas.tokens.Fill.{past_fill, Leaves}
-use Rattle.rustc_lexer_c.specs.declared.batch.CPlace.{CPlace}
-use Rattle.rustc_lexer_c.specs.declared.token.CToken.{CToken}
+use Rattle.rustc_lexer_c.specs.declared.{batch.CPlace.{CPlace}, token.CToken.{CToken}}
 use Rattle.rustc_lexer_c.specs.Batch.{IsBatch, allowed_of, allowed_number, mode_number, state_at, state_past}
 use Rattle.rustc_lexer_c.specs.Numbers.{token_numbers}
 
@@ -68,6 +62,8 @@ module _ (edition : Edition) (text : List ℕ) (is : IsText text) (place : CPlac
   same_edition : mode_edition t.mode ≡ edition
   same_edition = leaves.edition ∙ (ap (λ (x : State). mode_edition x.mode) begun ∙ mode_of-edition (allowed_of place.frontmatter_allowed) edition)
 
-  pub batch_is : (place' : CPlace) (allowed : FrontmatterAllowed) → place'.at ≡ length text - length t.rest → t.mode ≡ mode_in allowed (mode_edition t.mode) → place'.frontmatter_allowed ≡ allowed_number allowed → IsBatch text (state_at edition text place) buffer place' filled count
+  pub batch_is : (place' : CPlace) (allowed : FrontmatterAllowed) → place'.at ≡ length text - length t.rest
+      → t.mode ≡ mode_in allowed (mode_edition t.mode) → place'.frontmatter_allowed ≡ allowed_number allowed
+      → IsBatch text (state_at edition text place) buffer place' filled count
   batch_is place' allowed at held number =
       grind (arith, common_steps, place_is, rest_is, same_edition, mode_of-edition, here, IsCharBoundary-from_rest, inside, state_is, number_of-mode, allowed_back, leaves)

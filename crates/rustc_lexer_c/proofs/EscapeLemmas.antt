@@ -1,21 +1,15 @@
 -- One more unit of a literal.
 use Rattle.std.proofs.Common.{◌≡◌, ℕ, false, true≢false, ◌+◌, ◌≤◌, List, [], ◌∷◌, length, take, drop, min, max, sym, ap, ◌∙◌, arith, Option, Some, None}
-use Rattle.std.proofs.lemmas.Bool.{cond_both}
-use Rattle.std.proofs.lemmas.Grind.{common_steps}
-use Rattle.std.proofs.lemmas.List.{drop-drop, length-map, length-set}
+use Rattle.std.proofs.lemmas.{Bool.{cond_both}, Grind.{common_steps}, List.{drop-drop, length-map, length-set}}
 use Rattle.std.proofs.Math.Nat.{le-max_left, le-max_right}
-use Rattle.std.specs.Option.{is_some}
-use Rattle.std.specs.Str.{IsUtf8}
-use Rattle.rustc_literal_escaper.specs.declared.mode.Mode.{Mode}
-use Rattle.rustc_literal_escaper.specs.Items.{TakesFirst}
-use Rattle.rustc_literal_escaper.specs.Answers.{errors_of}
+use Rattle.std.specs.{Option.{is_some}, Str.{IsUtf8}}
+use Rattle.rustc_literal_escaper.specs.{declared.mode.Mode.{Mode}, Items.{TakesFirst}, Answers.{errors_of}}
 use Rattle.rustc_literal_escaper.specs.Grammar.{Error}
 use Rattle.rustc_literal_escaper.proofs.FewLemmas.{errors_of-few, items-few}
 use Rattle.rustc_lexer.specs.laws.Choice.{by_either}
 use Rattle.marks.specs.LineEnds.{ends_line, file_errors, moved, unix}
 use Rattle.marks.proofs.LineEndLemmas.{utf8-unix}
-use Rattle.rustc_lexer_c.specs.declared.escapes.CUnit.{CUnit}
-use Rattle.rustc_lexer_c.specs.Escapes.{IsUnits, units_of, wrong_unit, wrong_units_of}
+use Rattle.rustc_lexer_c.specs.{declared.escapes.CUnit.{CUnit}, Escapes.{IsUnits, units_of, wrong_unit, wrong_units_of}}
 use Rattle.rustc_lexer_c.proofs.BufferLemmas.{all_taken, back_step, buffer_filled, count_second, few_step, front_step, left_step}
 
 -- what is left past one more, if there is one
@@ -24,11 +18,15 @@ passed_step all at past over None is taken = taken.1 ∙ (ap (drop 1) (sym taken
 passed_step all at past over (Some x) is taken = left_step all past over x (sym is ∙ taken)
 
 -- what the buffer holds at the end
-pub units_done : (all : List CUnit) (passed : ℕ) (buffer old : List CUnit) (count : ℕ) → take count buffer ≡ take count (drop passed all) → drop count buffer ≡ drop count old → count ≡ min (length old) (length (drop passed all)) → IsUnits all passed old buffer count
+pub units_done : (all : List CUnit) (passed : ℕ) (buffer old : List CUnit) (count : ℕ)
+    → take count buffer ≡ take count (drop passed all) → drop count buffer ≡ drop count old
+    → count ≡ min (length old) (length (drop passed all)) → IsUnits all passed old buffer count
 units_done all passed buffer old count front back is = grind (arith, common_steps, buffer_filled)
 
 -- past all of them nothing is written
-pub none_left : (all at past : List CUnit) (over passed : ℕ) (buffer : List CUnit) (next : Option CUnit) → at ≡ drop over all → over ≤ passed → is_some next ≡ false → TakesFirst at next past → IsUnits all passed buffer buffer 0
+pub none_left : (all at past : List CUnit) (over passed : ℕ) (buffer : List CUnit) (next : Option CUnit)
+    → at ≡ drop over all → over ≤ passed → is_some next ≡ false → TakesFirst at next past
+    → IsUnits all passed buffer buffer 0
 none_left all at past over passed buffer next is low none taken = grind (arith, common_steps, all_taken, units_done, count_second)
 
 unix-shorter : (s : List ℕ) → length (unix s) ≤ length s

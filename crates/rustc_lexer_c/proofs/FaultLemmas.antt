@@ -1,20 +1,15 @@
 -- The kind that numbers stand for has the class and the error of each token with these numbers.
 use Rattle.std.proofs.Common.{◌≡◌, true, false, List, ℕ, None, Some, ap, arith, refl, sym, ◌∙◌}
 use Rattle.std.proofs.lemmas.Grind.{common_steps}
-use Rattle.rustc_lexer.specs.declared.edition.Edition.{Edition}
-use Rattle.rustc_lexer.specs.declared.edition.Edition.TheVariants.{E2024}
-use Rattle.rustc_lexer.specs.declared.token.Token.{Token}
+use Rattle.rustc_lexer.specs.declared.{edition.{Edition.{Edition, TheVariants.{E2024}}}, token.Token.{Token}}
 use Rattle.rustc_lexer.specs.declared.token.Base.TheVariants.{Binary, Octal, Decimal, Hexadecimal}
 use Rattle.rustc_lexer.specs.declared.token.LiteralKind.{LiteralKind}
 use Rattle.rustc_lexer.specs.declared.token.LiteralKind.TheVariants.{Int, Float, Char, Byte, Str, ByteStr, CStr, RawStr, RawByteStr, RawCStr}
-use Rattle.rustc_lexer.specs.declared.token.TokenKind.{TokenKind}
-use Rattle.rustc_lexer.specs.declared.token.TokenKind.TheVariants.{Literal}
+use Rattle.rustc_lexer.specs.declared.token.TokenKind.{TokenKind, TheVariants.{Literal}}
 use Rattle.rustc_lexer.specs.Kinds.{kind_entry, literal_entry}
-use Rattle.rustc_lexer_c.specs.declared.token.CToken.{CToken}
-use Rattle.rustc_lexer_c.specs.Faults.{kind_of}
+use Rattle.rustc_lexer_c.specs.{declared.token.CToken.{CToken}, Faults.{kind_of}}
 use Rattle.rustc_lexer_c.specs.Numbers.{first_of, literal_second, literal_third, second_of, third_of, token_numbers}
-use Rattle.marks.specs.Class.{class_of}
-use Rattle.marks.specs.Fault.{fault_of}
+use Rattle.marks.specs.{Class.{class_of}, Fault.{fault_of}}
 
 abbrev AreKept : TokenKind → ℕ → List ℕ → Edition → Type 0
 AreKept kind len text edition =

@@ -1,25 +1,15 @@
 -- The head of a document as numbers, and back.
 use Rattle.std.proofs.Common.{◌≡◌, ℕ, zero, suc, Bool, true, not, List, length, map, drop, nat_eq, refl, sym, ap, ◌∙◌, subst, arith, Option, Some, None}
 use Rattle.std.proofs.lemmas.Grind.{common_steps}
-use Rattle.rustc_lexer.specs.declared.head.Head.{Head}
-use Rattle.rustc_lexer.specs.declared.relex.relexing.Change.{Change}
-use Rattle.rustc_lexer.specs.declared.token.Token.{Token}
-use Rattle.rustc_lexer.specs.declared.token.TokenKind.{TokenKind}
-use Rattle.rustc_lexer.specs.Answers.{first_in}
-use Rattle.rustc_lexer.specs.Classes.{IsText}
-use Rattle.rustc_lexer.specs.Document.{is_frontmatter}
-use Rattle.rustc_lexer.specs.LanguageText.{newest}
-use Rattle.rustc_lexer.specs.Locality.{IsGrammar}
-use Rattle.rustc_lexer.specs.Relexing.{IsChange, IsEditOf, IsMadeOf, IsBodyChange, IsHeadOf}
-use Rattle.rustc_lexer.specs.Tokens.{tokens_by}
+use Rattle.rustc_lexer.specs.declared.{head.Head.{Head}, relex.relexing.Change.{Change}, token.Token.{Token}}
+use Rattle.rustc_lexer.specs.{declared.token.TokenKind.{TokenKind}, Answers.{first_in}, Classes.{IsText}}
+use Rattle.rustc_lexer.specs.{Document.{is_frontmatter}, LanguageText.{newest}, Locality.{IsGrammar}}
+use Rattle.rustc_lexer.specs.{Relexing.{IsChange, IsEditOf, IsMadeOf, IsBodyChange, IsHeadOf}, Tokens.{tokens_by}}
 use Rattle.rustc_lexer.specs.laws.Edition.{edition_grammar}
-use Rattle.rustc_lexer.proofs.lemmas.heads.ByTokens.{some_head}
-use Rattle.rustc_lexer.proofs.lemmas.edits.ByLengths.{made_change}
-use Rattle.rustc_lexer_c.specs.declared.head.CHead.{CHead}
-use Rattle.rustc_lexer_c.specs.declared.relex.CEdit.{CEdit}
+use Rattle.rustc_lexer.proofs.lemmas.{heads.ByTokens.{some_head}, edits.ByLengths.{made_change}}
+use Rattle.rustc_lexer_c.specs.declared.{head.CHead.{CHead}, relex.CEdit.{CEdit}}
 use Rattle.rustc_lexer_c.specs.Head.{FindsHead, frontmatter_of, head_numbers, head_of, numbers_of_head, two_of}
-use Rattle.rustc_lexer_c.specs.Numbers.{bool_number, first_of, second_of, token_numbers}
-use Rattle.rustc_lexer_c.specs.Relex.{change_of}
+use Rattle.rustc_lexer_c.specs.{Numbers.{bool_number, first_of, second_of, token_numbers}, Relex.{change_of}}
 
 bool-back : (b : Bool) → not (nat_eq (bool_number b) 0) ≡ b
 bool-back b = grind (arith, common_steps)
@@ -80,7 +70,8 @@ module _ (text : List ℕ) (is : IsText text) (edit : CEdit) (c : CHead) (body :
         let b = all first before insert text (edition_grammar newest) e (of_old before insert e same) is_now in
         not (subst (λ (n : ℕ). IsChange (drop n text) change) (sym is_now.end_is) (made_change (edition_grammar newest) b.made_of)))
 
-    pub found : IsChange text (change_of edit) → IsChange (drop now.body text) change → FindsHead text edit c (numbers_of_head now) body (record { start = change.start; old_stop = change.old_stop; new_stop = change.new_stop }) kept (bool_number keeps) 0
+    pub found : IsChange text (change_of edit) → IsChange (drop now.body text) change
+        → FindsHead text edit c (numbers_of_head now) body (record { start = change.start; old_stop = change.old_stop; new_stop = change.new_stop }) kept (bool_number keeps) 0
     found fine may = record {
       status_is = grind (arith, common_steps);
       head = λ _. numbers_are text is now is_now;

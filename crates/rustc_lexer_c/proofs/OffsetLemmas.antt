@@ -1,14 +1,10 @@
 -- Steps from a boundary of tokens, of which C gives the lengths.
 use Rattle.std.proofs.Common.{◌≡◌, ℕ, ◌+◌, ◌-◌, ◌<◌, ◌≤◌, List, length, get_or, sym, ap, ◌∙◌, arith}
 use Rattle.std.proofs.lemmas.List.{get_or-map}
-use Rattle.rustc_lexer.specs.declared.relex.front.TokenStart.{TokenStart}
-use Rattle.rustc_lexer.specs.declared.token.Token.{Token}
-use Rattle.rustc_lexer.specs.Offsets.{ContainsByte}
-use Rattle.rustc_lexer.specs.Tokens.{bound}
-use Rattle.rustc_lexer.proofs.lemmas.edits.Lengths.{as_many, no_token}
-use Rattle.rustc_lexer.proofs.lemmas.edits.Offsets.{ahead_is, back_is}
-use Rattle.rustc_lexer_c.specs.declared.token.CToken.{CToken}
-use Rattle.rustc_lexer_c.specs.Offsets.{ArePlaced}
+use Rattle.rustc_lexer.specs.declared.{relex.front.TokenStart.{TokenStart}, token.Token.{Token}}
+use Rattle.rustc_lexer.specs.{Offsets.{ContainsByte}, Tokens.{bound}}
+use Rattle.rustc_lexer.proofs.lemmas.edits.{Lengths.{as_many, no_token}, Offsets.{ahead_is, back_is}}
+use Rattle.rustc_lexer_c.specs.{declared.token.CToken.{CToken}, Offsets.{ArePlaced}}
 
 module _ (numbers : List CToken) (first : ℕ) (tokens : List Token) (at : TokenStart) (is : ArePlaced numbers first tokens at) where
   pub many : length numbers ≡ length tokens

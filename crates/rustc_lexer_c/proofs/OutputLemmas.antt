@@ -1,14 +1,10 @@
 -- What many writes into a buffer of a caller's come to.
 use Rattle.std.proofs.Common.{◌≡◌, ◌≤◌, ◌+◌, ◌-◌, ℕ, List, [], ◌∷◌, length, take, drop, ◌++◌, refl, sym, ap, subst, ◌∙◌, arith, append_assoc, append-nil}
-use Rattle.std.proofs.lemmas.Grind.{common_steps}
-use Rattle.std.proofs.lemmas.List.{drop-drop, length-take-le}
+use Rattle.std.proofs.lemmas.{Grind.{common_steps}, List.{drop-drop, length-take-le}}
 use Rattle.std.proofs.lemmas.Slice.{drop-put_mid, take-put_mid}
 use borrow.Rule.Slice.PartMut.{put_mid}
-use Rattle.std.specs.Fmt.{WritesInCalls}
-use Rattle.std.specs.List.{concat, FoldsTo}
-use Rattle.rustc_lexer_c.specs.declared.buffer.Buffer.{Buffer}
-use Rattle.rustc_lexer_c.specs.Marks.{IsFront}
-use Rattle.rustc_lexer_c.specs.Buffer.{Appends}
+use Rattle.std.specs.{Fmt.{WritesInCalls}, List.{concat, FoldsTo}}
+use Rattle.rustc_lexer_c.specs.{declared.buffer.Buffer.{Buffer}, Marks.{IsFront}, Buffer.{Appends}}
 
 -- what a list holds once others stand in it from a place on
 module _ (a : ℕ) (xs ys : List ℕ) (low : a ≤ length xs) where

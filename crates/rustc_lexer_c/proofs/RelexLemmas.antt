@@ -1,24 +1,14 @@
 -- How far a text is relexed, as numbers and back.
 use Rattle.std.proofs.Common.{◌≡◌, ◌≢◌, ℕ, ◌+◌, ◌-◌, ◌<◌, ◌≤◌, true, List, ◌++◌, length, map, take, drop, sym, ap, ◌∙◌, subst, arith, take-add}
-use Rattle.std.proofs.lemmas.Grind.{common_steps}
-use Rattle.std.proofs.lemmas.List.{length-map, length-take-le, drop_at, take-map, drop-map}
-use Rattle.rustc_lexer.specs.declared.edition.Edition.{Edition}
-use Rattle.rustc_lexer.specs.declared.relex.relexing.Relexed.{Relexed}
-use Rattle.rustc_lexer.specs.declared.relex.relexing.Relexing.{Relexing}
-use Rattle.rustc_lexer.specs.declared.token.Token.{Token}
-use Rattle.rustc_lexer.specs.Tokens.{tokens_by, tokens_of}
-use Rattle.rustc_lexer.specs.Answers.{first_in}
-use Rattle.rustc_lexer.specs.LanguageText.{part}
-use Rattle.rustc_lexer.specs.Edits.{IsRelexed, part_by}
-use Rattle.rustc_lexer.specs.Relexing.{known}
+use Rattle.std.proofs.lemmas.{Grind.{common_steps}, List.{length-map, length-take-le, drop_at, take-map, drop-map}}
+use Rattle.rustc_lexer.specs.declared.{edition.Edition.{Edition}, relex.relexing.Relexed.{Relexed}}
+use Rattle.rustc_lexer.specs.declared.{relex.relexing.Relexing.{Relexing}, token.Token.{Token}}
+use Rattle.rustc_lexer.specs.{Tokens.{tokens_by, tokens_of}, Answers.{first_in}, LanguageText.{part}}
+use Rattle.rustc_lexer.specs.{Edits.{IsRelexed, part_by}, Relexing.{known}}
 use Rattle.rustc_lexer.specs.Relexing.{IsMadeOf, IsUnderWay, IsWhole, MayGoOn, TakesSteps, is_over}
-use Rattle.rustc_lexer.specs.Locality.{IsGrammar}
-use Rattle.rustc_lexer.specs.laws.Edition.{edition_grammar}
-use Rattle.rustc_lexer.proofs.lemmas.edits.OneAnswer.{relexed_is}
-use Rattle.rustc_lexer.proofs.lemmas.edits.UnderWay.{over_met, few_lexed, counts_met}
-use Rattle.rustc_lexer_c.specs.declared.relex.CEdit.{CEdit}
-use Rattle.rustc_lexer_c.specs.declared.relex.CRelexing.{CRelexing}
-use Rattle.rustc_lexer_c.specs.declared.token.CToken.{CToken}
+use Rattle.rustc_lexer.specs.{Locality.{IsGrammar}, laws.Edition.{edition_grammar}}
+use Rattle.rustc_lexer.proofs.lemmas.edits.{OneAnswer.{relexed_is}, UnderWay.{over_met, few_lexed, counts_met}}
+use Rattle.rustc_lexer_c.specs.declared.{relex.{CEdit.{CEdit}, CRelexing.{CRelexing}}, token.CToken.{CToken}}
 use Rattle.rustc_lexer_c.specs.Numbers.{token_numbers}
 use Rattle.rustc_lexer_c.specs.Relex.{IsPassed, IsRelexBatch, change_of, front_of, lexed_before, numbers_of, relexing_of, written}
 
@@ -27,12 +17,17 @@ relex_back : (text : List ℕ) (n : ℕ) (at : Relexing) → at.back.index ≤ n
 relex_back text n at few over = grind (arith, common_steps)
 
 -- what this call wrote comes behind what was written
-written_more : (new : List Token) (front before count lexed : ℕ) (buffer filled : List CToken) → lexed ≡ before + count → front + lexed ≤ length new → filled ≡ map token_numbers (take count (drop (front + before) new)) ++ drop count buffer → written new front lexed ≡ written new front before ++ take count filled
+written_more : (new : List Token) (front before count lexed : ℕ) (buffer filled : List CToken) → lexed ≡ before + count
+    → front + lexed ≤ length new
+    → filled ≡ map token_numbers (take count (drop (front + before) new)) ++ drop count buffer
+    → written new front lexed ≡ written new front before ++ take count filled
 written_more new front before count lexed buffer filled sum inside e =
     grind (arith, common_steps, length-take-le, take-add)
 
 -- the list that is put together is that of the new tokens
-list_whole : (tokens new : List Token) (at : Relexing) (n : ℕ) (old : List CToken) → n ≡ at.back.index → old ≡ map token_numbers tokens → IsWhole tokens new at → take at.front.index old ++ (written new at.front.index at.lexed ++ drop n old) ≡ map token_numbers new
+list_whole : (tokens new : List Token) (at : Relexing) (n : ℕ) (old : List CToken) → n ≡ at.back.index
+    → old ≡ map token_numbers tokens → IsWhole tokens new at
+    → take at.front.index old ++ (written new at.front.index at.lexed ++ drop n old) ≡ map token_numbers new
 list_whole tokens new at n old same e whole = grind (arith, common_steps, take-map, drop-map)
 
 module _ (edition : Edition) (text : List ℕ) (old : List CToken) (change : CEdit) (c : CRelexing) (buffer filled : List CToken) (count : ℕ) (begin at : Relexing) where
@@ -46,7 +41,9 @@ module _ (edition : Edition) (text : List ℕ) (old : List CToken) (change : CEd
   over_is before insert is stands =
       let law = edition_grammar edition in grind (arith, common_steps, over_met law is stands)
 
-  pub batch_is : count ≤ length buffer → TakesSteps first text (change_of change).new_stop begin count at → filled ≡ map token_numbers (take count (tokens_by first (drop begin.at text))) ++ drop count buffer → MayGoOn text (length old) at → (count < length buffer → is_over text at ≡ true) → begin.lexed ≡ lexed_before c
+  pub batch_is : count ≤ length buffer → TakesSteps first text (change_of change).new_stop begin count at
+      → filled ≡ map token_numbers (take count (tokens_by first (drop begin.at text))) ++ drop count buffer
+      → MayGoOn text (length old) at → (count < length buffer → is_over text at ≡ true) → begin.lexed ≡ lexed_before c
       → (c.stage ≢ 0 → begin.front ≡ front_of c)
       → ((first : List ℕ → Token) (before insert : List ℕ) → IsGrammar first → IsMadeOf first before lens (change_of change) insert text → IsPassed first before (change_of change) text (length old) c → IsUnderWay first before (change_of change) text begin)
       → ((before insert : List ℕ) → IsMadeOf first before lens (change_of change) insert text → IsUnderWay first before (change_of change) text begin → IsUnderWay first before (change_of change) text at × (tokens_by first (drop begin.at text) ≡ drop (known begin) (tokens_by first text)))

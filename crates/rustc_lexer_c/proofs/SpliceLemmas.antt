@@ -1,7 +1,6 @@
 -- What a list holds once other items stand between its front and its back.
 use Rattle.std.proofs.Common.{◌≡◌, ℕ, ◌+◌, ◌-◌, ◌≤◌, List, ◌++◌, length, take, drop, sym, ap, ◌∙◌, arith, length-drop}
-use Rattle.std.proofs.lemmas.List.{drop-take, length-take-le, take-append-le, take-take}
-use Rattle.std.proofs.lemmas.List.Edits.{take-paste}
+use Rattle.std.proofs.lemmas.List.{drop-take, length-take-le, take-append-le, take-take, Edits.{take-paste}}
 use Rattle.std.proofs.Math.Seq.{drop-append_seam, paste, take-append-add}
 
 module _ {X : Type 0} (xs ys : List X) (front back count : ℕ) (apart : front + back ≤ count) (inside : count ≤ length xs) (room : front + length ys + back ≤ length xs) where
@@ -36,7 +35,9 @@ module _ {X : Type 0} (xs ys : List X) (front back count : ℕ) (apart : front +
   front_fits : length (take front moved) ≡ front
   front_fits = ap (λ (l : List X). length l) front_of ∙ length-take-le front xs (omega arith)
 
-  pub put_between : (now filled : List X) → now ≡ paste xs end (drop (count - back) xs) (count - (count - back)) → filled ≡ take front now ++ (ys ++ drop end now) → take (end + back) filled ≡ take front (take count xs) ++ (ys ++ drop (count - back) (take count xs))
+  pub put_between : (now filled : List X) → now ≡ paste xs end (drop (count - back) xs) (count - (count - back))
+      → filled ≡ take front now ++ (ys ++ drop end now)
+      → take (end + back) filled ≡ take front (take count xs) ++ (ys ++ drop (count - back) (take count xs))
   put_between now filled copied put =
       let long : count - (count - back) ≡ back = omega arith in
       let same : now ≡ moved = copied ∙ ap (λ n. paste xs end (drop (count - back) xs) n) long in

@@ -1,18 +1,14 @@
 -- A character or a byte between single quotes, and the answers of the grammar by what the code reads.
-use Rattle.std.proofs.Common.{◌≡◌, ℕ, List, [], Result, Ok, Err, refl, sym, ap, ◌∙◌, length, arith, ◌∷◌, Option}
+use Rattle.std.proofs.Common.{◌≡◌, ℕ, List, [], Result, Ok, Err, refl, sym, ap, ◌∙◌, length, arith}
 use Rattle.std.specs.Str.{chars, IsUtf8, encode_utf8_all}
-use Rattle.std.proofs.lemmas.Str.{encodes-chars}
-use Rattle.std.proofs.lemmas.Grind.{common_steps}
-use Rattle.std.specs.Option.{option_to_list}
-use Rattle.std.specs.Result.{result_err}
-use Rattle.rustc_literal_escaper.specs.declared.element.Element.{Element}
-use Rattle.rustc_literal_escaper.specs.declared.error.EscapeError.{EscapeError}
+use Rattle.std.proofs.lemmas.{Str.{encodes-chars}, Grind.{common_steps}}
+use Rattle.std.specs.{Result.{result_err}}
+use Rattle.rustc_literal_escaper.specs.declared.{element.Element.{Element}, error.EscapeError.{EscapeError}}
 use Rattle.rustc_literal_escaper.specs.declared.error.EscapeError.TheVariants.{MoreThanOneChar}
-use Rattle.rustc_literal_escaper.specs.means.Single.{alone, literal, StartsWithSingle, alone_error, only, read_errors, read_single, single, single_error}
+use Rattle.rustc_literal_escaper.specs.means.Single.{alone, literal, StartsWithSingle, alone_error, only, read_errors, read_single, single_error}
 use Rattle.rustc_literal_escaper.specs.declared.mode.Mode.{Mode}
-use Rattle.rustc_literal_escaper.specs.declared.mode.Mode.TheVariants.{Char, Byte}
 use Rattle.rustc_literal_escaper.specs.Answers.{errors_of, single_of, without_range}
-use Rattle.rustc_literal_escaper.specs.Meaning.{byte_of, char_of, error_of}
+use Rattle.rustc_literal_escaper.specs.Meaning.{error_of}
 
 pub alone_whole : {U : Type 0} (meant : Result U EscapeError) → alone meant [] ≡ meant
 alone_whole meant = grind (arith, common_steps)
@@ -48,7 +44,9 @@ only-error total meant left = grind (arith, common_steps)
 pub literal_read : {U : Type 0} (meaning : Element → Result U EscapeError) (s : List ℕ) → without_range (single_of meaning s) ≡ literal meaning s
 literal_read meaning s = grind (arith, common_steps, only-value)
 
-error-is : {U : Type 0} (meaning : Element → Result U EscapeError) (mode : Mode) (total : ℕ) (s : List ℕ) → ((e : Element) → result_err (meaning e) ≡ error_of mode e) → result_err (read_single total meaning s) ≡ single_error total mode s
+error-is : {U : Type 0} (meaning : Element → Result U EscapeError) (mode : Mode) (total : ℕ) (s : List ℕ)
+    → ((e : Element) → result_err (meaning e) ≡ error_of mode e)
+    → result_err (read_single total meaning s) ≡ single_error total mode s
 error-is meaning mode total s w4 = grind (arith, common_steps, only-error)
 
 pub errors_of-read : (mode : Mode) (text : List ℕ) → IsUtf8 text → errors_of mode text ≡ read_errors mode text

@@ -1,16 +1,11 @@
 -- The digits between braces, one by one, and the tables of digits and of the escapes of one character.
 use Rattle.std.proofs.Common.{◌≡◌, ℕ, zero-add, add-zero, ◌+◌, ◌*◌, ◌^◌, ◌<◌, ◌≤◌, ◌==◌, ◌||◌, Bool, true, false, if◌then◌else◌, List, [], ◌∷◌, length, fold, filter, refl, sym, ap, ◌∙◌, subst, arith, nat_le, nat_lt, min, get_or}
 use Rattle.std.specs.Char.{digit_value}
-use Rattle.std.proofs.lemmas.Bool.{ne_eqb}
-use Rattle.std.proofs.lemmas.Bool.Decides.{nat_tests}
-use Rattle.std.proofs.Math.Nat.{pow-le-pow_right}
-use Rattle.std.proofs.lemmas.Grind.{common_steps}
-use Rattle.std.proofs.lemmas.List.FromFn.{get_or-map-range_with_len}
-use Rattle.rustc_literal_escaper.specs.declared.element.Element.{Element}
-use Rattle.rustc_literal_escaper.specs.declared.element.Element.TheVariants.{Unicode, Fault}
+use Rattle.std.proofs.{lemmas.{Bool.{ne_eqb, Decides.{nat_tests}}}, Math.Nat.{pow-le-pow_right}}
+use Rattle.std.proofs.lemmas.{Grind.{common_steps}, List.FromFn.{get_or-map-range_with_len}}
+use Rattle.rustc_literal_escaper.specs.declared.element.Element.{Element, TheVariants.{Unicode, Fault}}
 use Rattle.rustc_literal_escaper.specs.declared.error.EscapeError.TheVariants.{InvalidCharInUnicodeEscape, UnclosedUnicodeEscape, OverlongUnicodeEscape}
-use Rattle.rustc_literal_escaper.specs.Grammar.{is_hex, is_digit_or_underscore}
-use Rattle.rustc_literal_escaper.specs.laws.Escape.{digit-runs}
+use Rattle.rustc_literal_escaper.specs.{Grammar.{is_hex, is_digit_or_underscore}, laws.Escape.{digit-runs}}
 use Rattle.rustc_literal_escaper.specs.means.Escape.{closed_at_run, front_run, past_run, short}
 use Rattle.rustc_literal_escaper.specs.declared.escape.TheConstants.{DIGITS, SHORT}
 

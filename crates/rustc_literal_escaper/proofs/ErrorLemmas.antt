@@ -1,16 +1,10 @@
 -- The errors of a list of items, one item at a time.
 use Rattle.std.proofs.Common.{◌≡◌, false, ℕ, ◌-◌, length, List, [], ◌∷◌, ◌++◌, Option, Some, None, refl, ap, ◌∙◌, arith}
-use Rattle.std.specs.List.{FoldsTo}
-use Rattle.std.specs.Str.{chars, IsUtf8}
-use Rattle.std.proofs.lemmas.Str.{encodes-chars}
-use Rattle.std.proofs.lemmas.Grind.{common_steps}
-use Rattle.rustc_literal_escaper.specs.declared.error.EscapeError.TheVariants.{MoreThanOneChar}
-use Rattle.rustc_literal_escaper.specs.declared.error.EscapeError.{EscapeError}
-use Rattle.rustc_literal_escaper.specs.declared.mode.Mode.{Mode}
-use Rattle.rustc_literal_escaper.specs.Grammar.{Error, Item}
-use Rattle.rustc_literal_escaper.specs.Answers.{items_of}
-use Rattle.rustc_literal_escaper.specs.means.Single.{alone_error, read_errors}
-use Rattle.rustc_literal_escaper.specs.Meaning.{errors_in, is_raw, is_single}
+use Rattle.std.specs.{List.{FoldsTo}, Str.{chars, IsUtf8}}
+use Rattle.std.proofs.lemmas.{Str.{encodes-chars}, Grind.{common_steps}}
+use Rattle.rustc_literal_escaper.specs.declared.error.EscapeError.{TheVariants.{MoreThanOneChar}, EscapeError}
+use Rattle.rustc_literal_escaper.specs.{declared.mode.Mode.{Mode}, Grammar.{Error, Item}, Answers.{items_of}}
+use Rattle.rustc_literal_escaper.specs.{means.Single.{alone_error, read_errors}, Meaning.{errors_in, is_raw, is_single}}
 use Rattle.rustc_literal_escaper.proofs.RunLemmas.{folds-on}
 
 -- what is wrong between single quotes, by what is wrong with the element, or by what is left
@@ -31,7 +25,9 @@ pub errors-append : (mode : Mode) (xs ys : List Item) → errors_in mode (xs ++ 
 errors-append mode [] ys = refl
 errors-append mode (x ∷ xs) ys = grind (arith, common_steps, errors-append mode xs ys)
 
-pub folds-errors : {P : Type 0} (R : P → Error → P → Type 0) (mode : Mode) (p q r : P) (all found rest : List Item) → all ≡ found ++ rest → FoldsTo R p (errors_in mode found) q → FoldsTo R q (errors_in mode rest) r → FoldsTo R p (errors_in mode all) r
+pub folds-errors : {P : Type 0} (R : P → Error → P → Type 0) (mode : Mode) (p q r : P) (all found rest : List Item)
+    → all ≡ found ++ rest → FoldsTo R p (errors_in mode found) q → FoldsTo R q (errors_in mode rest) r
+    → FoldsTo R p (errors_in mode all) r
 folds-errors R mode p q r all found rest e f g = folds-on R p q r (errors_in mode all) (errors_in mode found) (errors_in mode rest) (ap (errors_in mode) e ∙ errors-append mode found rest) f g
 
 pub ruleset error_lemmas = (alone_error-some, alone_error-more)

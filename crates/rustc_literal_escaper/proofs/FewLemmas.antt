@@ -1,20 +1,14 @@
 -- There are no more elements between quotes than bytes, and no more errors than elements.
 use Rattle.std.proofs.Common.{ℕ, ◌≤◌, Bool, if◌then◌else◌, List, [], ◌∷◌, length, max, Option, ap, arith, length-append}
 use Rattle.std.proofs.Math.Nat.{le-max_left, le-max_right}
-use Rattle.std.specs.List.{list_any}
-use Rattle.std.specs.Option.{option_to_list}
-use Rattle.std.specs.Str.{chars, IsUtf8}
-use Rattle.std.proofs.lemmas.Str.{encodes-chars, length-le-encodes}
-use Rattle.std.proofs.lemmas.Grind.{common_steps}
-use Rattle.rustc_literal_escaper.specs.declared.element.Element.{Element}
-use Rattle.rustc_literal_escaper.specs.declared.element.Element.TheVariants.{Fault}
+use Rattle.std.specs.{List.{list_any}, Option.{option_to_list}, Str.{chars, IsUtf8}}
+use Rattle.std.proofs.lemmas.{Str.{encodes-chars, length-le-encodes}, Grind.{common_steps}}
+use Rattle.rustc_literal_escaper.specs.declared.element.Element.{Element, TheVariants.{Fault}}
 use Rattle.rustc_literal_escaper.specs.declared.error.EscapeError.TheVariants.{MultipleSkippedLinesWarning}
-use Rattle.rustc_literal_escaper.specs.declared.mode.Mode.{Mode}
-use Rattle.rustc_literal_escaper.specs.Answers.{errors_of, items_of}
+use Rattle.rustc_literal_escaper.specs.{declared.mode.Mode.{Mode}, Answers.{errors_of, items_of}}
 use Rattle.rustc_literal_escaper.specs.Grammar as g
 use Rattle.rustc_literal_escaper.specs.Grammar.{AreItems, Error, IsElementBefore, Item, is_newline, item, space_warning}
-use Rattle.rustc_literal_escaper.specs.Meaning.{errors_in}
-use Rattle.rustc_literal_escaper.specs.laws.TheAnswers.{items-are}
+use Rattle.rustc_literal_escaper.specs.{Meaning.{errors_in}, laws.TheAnswers.{items-are}}
 use Rattle.rustc_literal_escaper.proofs.AnswerLemmas.{errors_of-read}
 
 -- an element has at least one character

@@ -1,13 +1,10 @@
 -- The first items of a text, step by step; those of plain characters, and those of the parts of a raw string.
 use Rattle.std.proofs.Common.{◌≡◌, ℕ, ◌-◌, Bool, false, List, [], ◌∷◌, ◌++◌, length, map, Option, None, refl, sym, ap, ◌∙◌, arith, true, length-append}
-use Rattle.std.specs.Option.{is_some, option_to_list}
-use Rattle.std.specs.Str.{chars, IsUtf8, encode_utf8_all}
-use Rattle.std.proofs.lemmas.Str.{encodes-chars, chars-append, encodes-append}
-use Rattle.std.proofs.lemmas.Grind.{common_steps}
+use Rattle.std.specs.{Option.{is_some, option_to_list}, Str.{chars, IsUtf8, encode_utf8_all}}
+use Rattle.std.proofs.lemmas.{Str.{encodes-chars, chars-append, encodes-append}, Grind.{common_steps}}
 use Rattle.std.specs.List.{list_all}
 use Rattle.std.proofs.lemmas.Bool.{and_parts, not-true}
-use Rattle.rustc_literal_escaper.specs.declared.element.Element.{Element}
-use Rattle.rustc_literal_escaper.specs.Grammar.{Item}
+use Rattle.rustc_literal_escaper.specs.{declared.element.Element.{Element}, Grammar.{Item}}
 use Rattle.rustc_literal_escaper.specs.Items.{TakesFirst, elements_in, is_plain, StandsForItself}
 use Rattle.rustc_literal_escaper.specs.laws.Elements.{items-cons, nothing, items-one}
 use Rattle.rustc_literal_escaper.specs.means.Elements.{Front, StartsWithOne, front_by, item_at, items_from, one, front, place, raw_front, raw_element}
@@ -55,7 +52,8 @@ unfolding front raw_front
 front_by-plain raw c s e = grind (arith, common_steps, not-true, and_parts)
 
 -- it is an item
-pub items-plain : (raw : Bool) (total c : ℕ) (s : List ℕ) → is_plain raw c ≡ true → items_from (front_by raw) total (c ∷ s) ≡ item_at total (place total (c ∷ s)) (Plain c, s) ∷ items_from (front_by raw) total s
+pub items-plain : (raw : Bool) (total c : ℕ) (s : List ℕ) → is_plain raw c ≡ true
+    → items_from (front_by raw) total (c ∷ s) ≡ item_at total (place total (c ∷ s)) (Plain c, s) ∷ items_from (front_by raw) total s
 items-plain raw total c s e = items-one raw total c s s (Plain c) (front_by-plain raw c s e)
 
 pub first-plain : (raw : Bool) (total : ℕ) (rest left : List ℕ) (c : ℕ) → IsUtf8 rest → IsUtf8 left → chars rest ≡ c ∷ chars left → is_plain raw c ≡ true

@@ -1,20 +1,13 @@
 -- Items and their places.
 use Rattle.std.proofs.Common.{◌≡◌, ℕ, ◌-◌, ◌<◌, Bool, true, false, Some, None, List, [], ◌∷◌, length, map, ◌++◌, ◌||◌, ◌==◌, if◌then◌else◌, refl, ap, ◌∙◌, arith}
-use Rattle.std.specs.Char.{is_whitespace}
-use Rattle.std.specs.List.{list_any, slice_get}
-use Rattle.std.specs.Str.{chars, encode_utf8_all, IsUtf8}
-use Rattle.std.proofs.lemmas.Bool.{cond-false, cond-true}
-use Rattle.std.proofs.lemmas.Bool.Decides.{nat_tests}
-use Rattle.std.proofs.Math.Bool.{or-false, or_assoc}
-use Rattle.std.proofs.lemmas.List.{map-append}
-use Rattle.std.proofs.lemmas.Str.{byte_from_char, char_from_byte, chars-nil, encodes-chars}
+use Rattle.std.specs.{Char.{is_whitespace}, List.{list_any, slice_get}, Str.{chars, encode_utf8_all, IsUtf8}}
+use Rattle.std.proofs.{lemmas.{Bool.{cond-false, cond-true, Decides.{nat_tests}}}, Math.Bool.{or-false, or_assoc}}
+use Rattle.std.proofs.lemmas.{List.{map-append}, Str.{byte_from_char, char_from_byte, chars-nil, encodes-chars}}
 use Rattle.std.proofs.lemmas.Grind.{common_steps}
 use Rattle.rustc_literal_escaper.specs.declared.element.Element.TheVariants.{Fault}
 use Rattle.rustc_literal_escaper.specs.declared.error.EscapeError.TheVariants.{MultipleSkippedLinesWarning, UnskippedWhitespaceWarning}
-use Rattle.rustc_literal_escaper.specs.Grammar.{Item, is_newline, is_passed_over}
-use Rattle.rustc_literal_escaper.specs.laws.Escape.{run-cut}
-use Rattle.rustc_literal_escaper.specs.means.Elements.{item_at, line_end, more_space}
-use Rattle.rustc_literal_escaper.specs.means.Escape.{front_run, past_run}
+use Rattle.rustc_literal_escaper.specs.{Grammar.{Item, is_newline, is_passed_over}, laws.Escape.{run-cut}}
+use Rattle.rustc_literal_escaper.specs.means.{Elements.{item_at, line_end, more_space}, Escape.{front_run, past_run}}
 
 -- whether a newline is among the white space ahead
 unfoldable pub newline_ahead : List ℕ → Bool

@@ -1,26 +1,19 @@
 -- The text before each item and after it is cut between characters, and the places of the items make up the text.
 use Rattle.std.proofs.Common.{◌≡◌, ℕ, ◌+◌, ◌<◌, Bool, true, false, if◌then◌else◌, List, [], ◌∷◌, ◌++◌, length-append, append_assoc, refl, sym, ap, subst, ◌∙◌, arith, length, filter}
-use Rattle.std.specs.Prelude.{IsCharBoundary}
-use Rattle.std.specs.Char.{is_whitespace, is_ascii}
-use Rattle.std.specs.List.{list_any, list_all}
+use Rattle.std.specs.{Prelude.{IsCharBoundary}, Char.{is_whitespace, is_ascii}, List.{list_any, list_all}}
 use Rattle.std.specs.Str.{all_scalars, chars, encode_utf8_all, IsUtf8}
-use Rattle.std.proofs.lemmas.Bool.{and_parts}
-use Rattle.std.proofs.lemmas.List.Elements.{All-append, All-cons, All-nil, filter-append}
+use Rattle.std.proofs.lemmas.{Bool.{and_parts}, List.Elements.{All-append, All-cons, All-nil, filter-append}}
 use Rattle.std.proofs.lemmas.Str.{encodes-append, encodes-chars, scalars-chars, length-le-encodes, IsCharBoundary-at_seam, encodes-IsAscii}
 use Rattle.std.specs.declared.ops.Range.{Range}
-use Rattle.std.proofs.lemmas.Bool.Decides.{nat_tests}
-use Rattle.std.proofs.lemmas.Grind.{common_steps}
-use Rattle.rustc_literal_escaper.specs.declared.element.Element.{Element}
-use Rattle.rustc_literal_escaper.specs.declared.element.Element.TheVariants.{Fault}
+use Rattle.std.proofs.lemmas.{Bool.Decides.{nat_tests}, Grind.{common_steps}}
+use Rattle.rustc_literal_escaper.specs.declared.element.Element.{Element, TheVariants.{Fault}}
 use Rattle.rustc_literal_escaper.specs.declared.error.EscapeError.TheVariants.{MultipleSkippedLinesWarning, UnskippedWhitespaceWarning}
 use Rattle.rustc_literal_escaper.specs.Answers.{items_of}
 use Rattle.rustc_literal_escaper.specs.Grammar as g
 use Rattle.rustc_literal_escaper.specs.Grammar.{AreItems, IsElementBefore, Item, bytes, is_newline, item, lines_warning, space_warning, IsEscapeBefore, IsRawElement, is_passed_over}
 use Rattle.rustc_literal_escaper.specs.Items.{ArePlaced, IsPlaced, AreLineEnds, IsMadeOf, IsRebuilt, is_unit, is_warning, places_of}
-use Rattle.rustc_literal_escaper.specs.laws.Elements.{bytes-append, either}
-use Rattle.rustc_literal_escaper.specs.laws.TheAnswers.{items-are}
-use Rattle.rustc_literal_escaper.proofs.FewLemmas.{some}
-use Rattle.rustc_literal_escaper.proofs.WrittenLemmas.{all-weaker, is-ascii}
+use Rattle.rustc_literal_escaper.specs.laws.{Elements.{bytes-append, either}, TheAnswers.{items-are}}
+use Rattle.rustc_literal_escaper.proofs.{FewLemmas.{some}, WrittenLemmas.{all-weaker, is-ascii}}
 
 scalars-end : (front left : List ℕ) → all_scalars (front ++ left) ≡ true → all_scalars left ≡ true
 scalars-end [] left e = e
@@ -135,7 +128,9 @@ none : (raw : Bool) → AreLineEnds raw []
 none raw = grind (arith, common_steps)
 
 -- an element, and what is made of the text after it
-one-made : (raw : Bool) (from : ℕ) (e : Element) (w next : List ℕ) (items : List Item) → Tells e → IsMadeOf raw (from + bytes w) (encode_utf8_all next) (places_of items) → IsMadeOf raw from (encode_utf8_all (w ++ next)) (places_of (item from e w ∷ items))
+one-made : (raw : Bool) (from : ℕ) (e : Element) (w next : List ℕ) (items : List Item) → Tells e
+    → IsMadeOf raw (from + bytes w) (encode_utf8_all next) (places_of items)
+    → IsMadeOf raw from (encode_utf8_all (w ++ next)) (places_of (item from e w ∷ items))
 one-made raw from e w next items tells made = rw tells (encode_utf8_all next, record { skipped = []; covered = encode_utf8_all w; line_ends = none raw; start = (omega arith); end = refl; whole = encodes-append w next }, made)
 
 made : {raw : Bool} {from : ℕ} {s : List ℕ} {items : List Item} → AreItems raw from s items → IsMadeOf raw from (encode_utf8_all s) (places_of items)

@@ -4,21 +4,12 @@ use Rattle.std.specs.Char.{digit_char, digit_value, is_ascii, IsScalar}
 use Rattle.std.specs.Char.Escape.{escape_ascii, escape_default, escape_or, escape_unicode, hex_digit_at}
 use Rattle.std.specs.List.{list_all}
 use Rattle.std.proofs.lemmas.Bool.{agree_below_at, cond-false, cond-true, cond_both, le-leb, lt-ltb, ltb-false, ltb-true}
-use Rattle.std.proofs.lemmas.Bool.Decides.{nat_tests}
-use Rattle.std.proofs.lemmas.List.{append-nil}
-use Rattle.std.proofs.Math.Nat.{div-one}
-use Rattle.std.proofs.lemmas.Str.{digit_value-digit_char}
-use Rattle.std.proofs.lemmas.Grind.{common_steps}
-use Rattle.rustc_literal_escaper.specs.declared.element.Element.{Element}
-use Rattle.rustc_literal_escaper.specs.declared.element.Element.TheVariants.{Byte, Plain, Unicode}
-use Rattle.rustc_literal_escaper.specs.declared.error.EscapeError.{EscapeError}
-use Rattle.rustc_literal_escaper.specs.means.Elements.{front, StartsWithOne}
-use Rattle.rustc_literal_escaper.specs.laws.Escape.{by_char}
-use Rattle.rustc_literal_escaper.specs.means.Escape.{braced, escape}
-use Rattle.rustc_literal_escaper.specs.Grammar.{is_hex}
-use Rattle.rustc_literal_escaper.specs.Meaning.{char_of}
-use Rattle.rustc_literal_escaper.specs.Written.{CharComesBack}
-use Rattle.rustc_literal_escaper.specs.means.Single.{StartsWithSingle}
+use Rattle.std.proofs.{lemmas.{Bool.Decides.{nat_tests}, List.{append-nil}}, Math.Nat.{div-one}}
+use Rattle.std.proofs.lemmas.{Str.{digit_value-digit_char}, Grind.{common_steps}}
+use Rattle.rustc_literal_escaper.specs.declared.element.Element.{Element, TheVariants.{Byte, Plain, Unicode}}
+use Rattle.rustc_literal_escaper.specs.{declared.error.EscapeError.{EscapeError}, means.Elements.{front, StartsWithOne}}
+use Rattle.rustc_literal_escaper.specs.{laws.Escape.{by_char}, means.Escape.{braced, escape}, Grammar.{is_hex}}
+use Rattle.rustc_literal_escaper.specs.{Meaning.{char_of}, Written.{CharComesBack}, means.Single.{StartsWithSingle}}
 use Rattle.rustc_literal_escaper.proofs.AnswerLemmas.{literal_read, literal_is}
 use Rattle.rustc_literal_escaper.proofs.DigitLemmas.{left_at, left_at-brace, left_at-digit, left_at-start, with_digit}
 use Rattle.rustc_literal_escaper.proofs.ItemLemmas.{front_by-plain}

@@ -1,19 +1,14 @@
 -- Runs of simple characters, passed over, and the items of each.
 use Rattle.std.proofs.Common.{◌≡◌, ℕ, ◌≤◌, ◌==◌, nat_lt, not, Bool, true, List, ◌++◌, length, take, drop, None, arith, sym, ap, ◌∙◌, ◌-◌, [], ◌∷◌, length-append, refl, subst}
-use Rattle.std.specs.Char.{is_ascii}
-use Rattle.std.specs.List.{list_all, prefix_len, FoldsTo}
+use Rattle.std.specs.{Char.{is_ascii}, List.{list_all, prefix_len, FoldsTo}}
 use Rattle.std.specs.Str.{chars, IsAscii, IsCharBoundary, IsUtf8, encode_utf8_all}
-use Rattle.std.proofs.lemmas.Bool.{and_from, and_parts, not-true}
-use Rattle.std.proofs.lemmas.List.{take-append-drop}
+use Rattle.std.proofs.lemmas.{Bool.{and_from, and_parts, not-true}, List.{take-append-drop}}
 use Rattle.std.proofs.lemmas.Str.{chars-append, chars-IsAscii, IsCharBoundary-from_take, IsUtf8-from_ascii, encodes-append, encodes-chars, encodes-IsAscii}
 use Rattle.std.proofs.lemmas.Grind.{common_steps}
-use Rattle.rustc_literal_escaper.specs.declared.element.Element.TheVariants.{Plain}
-use Rattle.rustc_literal_escaper.specs.declared.mode.Mode.{Mode}
-use Rattle.rustc_literal_escaper.specs.Meaning.{error_of}
-use Rattle.rustc_literal_escaper.specs.means.Plain.{is_fine, is_simple, Passes, plain_items}
+use Rattle.rustc_literal_escaper.specs.declared.{element.Element.TheVariants.{Plain}, mode.Mode.{Mode}}
+use Rattle.rustc_literal_escaper.specs.{Meaning.{error_of}, means.Plain.{is_fine, is_simple, Passes, plain_items}}
 use Rattle.rustc_literal_escaper.specs.Items.{is_plain}
-use Rattle.rustc_literal_escaper.proofs.LaneLemmas.{run_front}
-use Rattle.rustc_literal_escaper.proofs.WrittenLemmas.{all-weaker, is-ascii}
+use Rattle.rustc_literal_escaper.proofs.{LaneLemmas.{run_front}, WrittenLemmas.{all-weaker, is-ascii}}
 use Rattle.rustc_literal_escaper.specs.means.Elements.{front_by, items_from, place}
 use Rattle.rustc_literal_escaper.proofs.ItemLemmas.{items-plain}
 

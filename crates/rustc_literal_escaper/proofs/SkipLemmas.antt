@@ -1,24 +1,16 @@
 -- Plain characters, passed over.
-use Rattle.std.proofs.Common.{◌≡◌, ℕ, ◌+◌, ◌<◌, ◌≤◌, Bool, true, false, List, [], ◌∷◌, ◌++◌, length, length-append, take, drop, Option, Some, None, refl, sym, ap, subst, ◌∙◌, arith}
-use Rattle.std.specs.Char.{encode_utf8}
-use Rattle.std.specs.List.{list_all, slice_index}
-use Rattle.std.specs.Str.{chars, encode_utf8_all, IsUtf8}
-use Rattle.std.proofs.lemmas.Bool.{and_parts, false_from_ne_true}
-use Rattle.std.proofs.lemmas.Bool.Decides.{nat_tests}
+use Rattle.std.proofs.Common.{◌≡◌, ℕ, ◌+◌, ◌<◌, ◌≤◌, Bool, true, false, List, [], ◌∷◌, ◌++◌, length, length-append, take, drop, Some, None, refl, sym, ap, subst, ◌∙◌, arith}
+use Rattle.std.specs.{Char.{encode_utf8}, List.{list_all, slice_index}, Str.{chars, encode_utf8_all, IsUtf8}}
+use Rattle.std.proofs.lemmas.Bool.{and_parts, false_from_ne_true, Decides.{nat_tests}}
 use Rattle.std.proofs.lemmas.List.{append-nil, get_or-append-add, get_or_append_left, length-take, take-append-drop}
 use Rattle.std.proofs.lemmas.Str.{chars-append, chars-nil, encode_ascii, encodes-chars, IsCharBoundary-before_ascii, IsUtf8-take}
 use Rattle.std.proofs.lemmas.Grind.{common_steps}
 use Rattle.memchr.specs.Find.{is_byte, is_byte3, IsFirstByte}
-use Rattle.rustc_literal_escaper.specs.declared.element.Element.TheVariants.{Plain}
-use Rattle.rustc_literal_escaper.specs.declared.mode.Mode.{Mode}
-use Rattle.rustc_literal_escaper.specs.declared.mode.Mode.TheVariants.{Str}
-use Rattle.rustc_literal_escaper.specs.means.Elements.{front_by, items_from}
-use Rattle.rustc_literal_escaper.specs.Meaning.{error_of, errors_in}
-use Rattle.rustc_literal_escaper.specs.Items.{is_plain}
+use Rattle.rustc_literal_escaper.specs.declared.{element.Element.TheVariants.{Plain}, mode.Mode.{Mode}}
+use Rattle.rustc_literal_escaper.specs.{declared.mode.Mode.TheVariants.{Str}, means.Elements.{front_by, items_from}}
+use Rattle.rustc_literal_escaper.specs.{Meaning.{error_of, errors_in}, Items.{is_plain}}
 use Rattle.rustc_literal_escaper.specs.means.Plain.{Passes, is_simple}
-use Rattle.rustc_literal_escaper.proofs.ErrorLemmas.{errors-append}
-use Rattle.rustc_literal_escaper.proofs.ItemLemmas.{items-plain}
-use Rattle.rustc_literal_escaper.proofs.RunLemmas.{simple-fine}
+use Rattle.rustc_literal_escaper.proofs.{ErrorLemmas.{errors-append}, ItemLemmas.{items-plain}, RunLemmas.{simple-fine}}
 
 -- where nothing is wrong with them, the errors are those of what is left
 module _ (mode : Mode) (raw : Bool) (class : ℕ → Bool) (fine : (c : ℕ) → class c ≡ true → (is_plain raw c ≡ true) × (error_of mode (Plain c) ≡ None)) (total : ℕ) where
@@ -31,7 +23,8 @@ module _ (mode : Mode) (raw : Bool) (class : ℕ → Bool) (fine : (c : ℕ) →
   fewer-past (c ∷ cs) left e = grind (arith, common_steps, and_parts, items-plain, fewer-past cs left)
 
 -- so it is past simple characters, and past plain ones where none of them is wrong
-pub simple_same : (mode : Mode) (raw : Bool) (total : ℕ) (s left : List ℕ) → Passes (is_simple raw) s left → errors_in mode (items_from (front_by raw) total left) ≡ errors_in mode (items_from (front_by raw) total s)
+pub simple_same : (mode : Mode) (raw : Bool) (total : ℕ) (s left : List ℕ) → Passes (is_simple raw) s left
+    → errors_in mode (items_from (front_by raw) total left) ≡ errors_in mode (items_from (front_by raw) total s)
 simple_same mode raw total s left p = grind (arith, common_steps, errors-past mode raw (is_simple raw) (simple-fine mode raw) total p.passed left p.all, p.whole)
 
 pub simple_fewer : (raw : Bool) (total : ℕ) (s left : List ℕ) → Passes (is_simple raw) s left → length (items_from (front_by raw) total left) ≤ length (items_from (front_by raw) total s)

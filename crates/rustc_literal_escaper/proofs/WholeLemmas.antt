@@ -1,33 +1,21 @@
 -- An element that is the whole text between single quotes.
 use Rattle.std.proofs.Common.{◌≡◌, ◌≤◌, ◌<◌, ◌+◌, ◌*◌, ◌^◌, ◌&&◌, ◌++◌, ◌-◌, suc, min, take, drop, drop-cons, zero-add, ℕ, Bool, true, false, List, [], ◌∷◌, length, Result, Option, Some, None, sym, ap, subst, ◌∙◌, arith}
-use Rattle.std.specs.Char.{digit_value, is_ascii}
-use Rattle.std.specs.List.{list_all, slice_index}
-use Rattle.std.specs.Str.{chars}
-use Rattle.std.proofs.lemmas.Bool.{not-true}
-use Rattle.std.proofs.lemmas.Bool.Decides.{nat_tests}
-use Rattle.std.proofs.lemmas.Grind.{common_steps}
-use Rattle.std.proofs.Math.ListN.{drop_of_length-le}
-use Rattle.std.proofs.lemmas.List.Folds.{list_all-append}
+use Rattle.std.specs.{Char.{digit_value, is_ascii}, List.{list_all, slice_index}, Str.{chars}}
+use Rattle.std.proofs.lemmas.{Bool.{not-true, Decides.{nat_tests}}, Grind.{common_steps}}
+use Rattle.std.proofs.{Math.ListN.{drop_of_length-le}, lemmas.List.Folds.{list_all-append}}
 use Rattle.std.specs.Option.{IfSome}
-use Rattle.std.proofs.lemmas.List.{nil_from_length, take-append-drop, get_or-drop}
-use Rattle.std.proofs.lemmas.Nat.{pow-add}
+use Rattle.std.proofs.lemmas.{List.{nil_from_length, take-append-drop, get_or-drop}, Nat.{pow-add}}
 use Rattle.std.proofs.lemmas.Str.{chars-IsAscii, chars-nil}
-use Rattle.rustc_literal_escaper.specs.declared.element.Element.{Element}
-use Rattle.rustc_literal_escaper.specs.declared.error.EscapeError.{EscapeError}
-use Rattle.rustc_literal_escaper.specs.declared.element.Element.TheVariants.{Plain, Unicode}
-use Rattle.rustc_literal_escaper.specs.declared.mode.Mode.{Mode}
-use Rattle.rustc_literal_escaper.specs.means.Elements.{front_by, items_from, raw_element}
-use Rattle.rustc_literal_escaper.specs.Answers.{items_of}
-use Rattle.rustc_literal_escaper.specs.Meaning.{errors_in, is_raw, is_single}
-use Rattle.rustc_literal_escaper.specs.means.Plain.{is_simple, Passes}
+use Rattle.rustc_literal_escaper.specs.declared.{element.Element.{Element}, error.EscapeError.{EscapeError}}
+use Rattle.rustc_literal_escaper.specs.declared.{element.Element.TheVariants.{Plain, Unicode}, mode.Mode.{Mode}}
+use Rattle.rustc_literal_escaper.specs.{means.Elements.{front_by, items_from, raw_element}, Answers.{items_of}}
+use Rattle.rustc_literal_escaper.specs.{Meaning.{errors_in, is_raw, is_single}, means.Plain.{is_simple, Passes}}
 use Rattle.rustc_literal_escaper.specs.means.Escape.{braced, escape, short}
 use Rattle.rustc_literal_escaper.specs.means.Single.{StartsWithSingle, alone, read_errors, single}
 use Rattle.rustc_literal_escaper.proofs.DigitLemmas.{with_digit, left_at, left_at-brace, left_at-digit, left_at-start, hex-yes}
 use Rattle.rustc_literal_escaper.proofs.ErrorLemmas.{read_errors-strings}
 use Rattle.rustc_literal_escaper.specs.laws.Elements.{nothing}
-use Rattle.rustc_literal_escaper.proofs.SkipLemmas.{simple_same}
-use Rattle.rustc_literal_escaper.proofs.AnswerLemmas.{alone_whole}
-use Rattle.rustc_literal_escaper.proofs.WrittenLemmas.{is-ascii}
+use Rattle.rustc_literal_escaper.proofs.{SkipLemmas.{simple_same}, AnswerLemmas.{alone_whole}, WrittenLemmas.{is-ascii}}
 
 pub alone_at : {U : Type 0} (meaning : Element → Result U EscapeError) (c : ℕ) (s : List ℕ) (e : Element) → (e, []) ≡ single c s → meaning e ≡ alone (meaning (single c s).0) (single c s).1
 alone_at meaning c s e at = subst (λ (p : Element × List ℕ). meaning e ≡ alone (meaning p.0) p.1) at (sym (alone_whole (meaning e)))
@@ -42,7 +30,8 @@ chars_one bs l m a = chars_are bs _ (grind (arith, common_steps)) (grind (arith,
 pub chars_two : (bs : List ℕ) → 2 ≤ length bs → length bs < 3 → slice_index bs 0 < 128 → slice_index bs 1 < 128 → chars bs ≡ slice_index bs 0 ∷ slice_index bs 1 ∷ []
 chars_two bs l m a b = chars_are bs _ (grind (arith, common_steps)) (grind (arith, common_steps, nat_tests))
 
-pub chars_three : (bs : List ℕ) → 3 ≤ length bs → length bs < 4 → slice_index bs 0 < 128 → slice_index bs 1 < 128 → slice_index bs 2 < 128 → chars bs ≡ slice_index bs 0 ∷ slice_index bs 1 ∷ slice_index bs 2 ∷ []
+pub chars_three : (bs : List ℕ) → 3 ≤ length bs → length bs < 4 → slice_index bs 0 < 128 → slice_index bs 1 < 128
+    → slice_index bs 2 < 128 → chars bs ≡ slice_index bs 0 ∷ slice_index bs 1 ∷ slice_index bs 2 ∷ []
 chars_three bs l m a b d = chars_are bs _ (grind (arith, common_steps)) (grind (arith, common_steps, nat_tests))
 
 -- a backslash and a character that makes a byte with it
@@ -86,7 +75,8 @@ in_braces digits e = (list_all is_ascii digits ≡ true) × ((e, []) ≡ braced 
 braces_whole : (bs digits : List ℕ) (e : Element) → bs ≡ 117 ∷ 123 ∷ digits ++ (125 ∷ []) → in_braces digits e → (e, []) ≡ escape (chars bs)
 braces_whole bs digits e is h = grind (arith, common_steps, list_all-append, chars_are)
 
-braces_is : (bs : List ℕ) (n : ℕ) → length bs ≡ n + 4 → slice_index bs 0 ≡ 117 → slice_index bs 1 ≡ 123 → slice_index bs (length bs - 1) ≡ 125 → bs ≡ 117 ∷ 123 ∷ (slice_index bs 2 ∷ take n (drop 3 bs)) ++ (125 ∷ [])
+braces_is : (bs : List ℕ) (n : ℕ) → length bs ≡ n + 4 → slice_index bs 0 ≡ 117 → slice_index bs 1 ≡ 123
+    → slice_index bs (length bs - 1) ≡ 125 → bs ≡ 117 ∷ 123 ∷ (slice_index bs 2 ∷ take n (drop 3 bs)) ++ (125 ∷ [])
 braces_is bs n e u brace close = grind (arith, common_steps, get_or-drop, last_byte)
 
 pub number_escape : (bs : List ℕ) (r : Option Element) → 4 ≤ length bs → slice_index bs 0 ≡ 117 → slice_index bs 1 ≡ 123 → slice_index bs (length bs - 1) ≡ 125

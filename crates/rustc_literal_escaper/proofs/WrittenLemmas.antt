@@ -1,23 +1,14 @@
 -- What is written of characters and bytes, read between double quotes.
 use Rattle.std.proofs.Common.{Bool, ◌≡◌, ℕ, suc, ◌<◌, ◌==◌, true, false, List, [], ◌∷◌, ◌++◌, length, map, Result, Ok, refl, sym, ap, ◌∙◌, arith, get_or, length-append, ◌+◌, subst, take}
-use Rattle.std.specs.Char.{is_ascii, IsScalar}
-use Rattle.std.specs.Char.Escape.{escape_ascii, escape_default}
-use Rattle.std.specs.List.{AllByRecursion, flat_map, list_all, list_any, slice_index}
-use Rattle.std.specs.Prelude.{String}
-use Rattle.std.specs.String.{string_bytes}
-use Rattle.std.specs.Str.{all_scalars, chars, encode_utf8_all, IsAscii, IsCharBoundary, IsUtf8}
-use Rattle.std.proofs.lemmas.List.{append-nil, map-id}
-use Rattle.std.proofs.lemmas.Bool.{and_from, and_parts, lt-ltb, ltb-true, or_parts}
-use Rattle.std.proofs.Math.Seq.{take-append_seam}
-use Rattle.std.proofs.lemmas.List.Recursion.{and_at}
-use Rattle.std.proofs.lemmas.List.Folds.{list_all-append}
+use Rattle.std.specs.Char.{is_ascii, IsScalar, Escape.{escape_ascii, escape_default}}
+use Rattle.std.specs.{List.{AllByRecursion, flat_map, list_all, list_any, slice_index}, Prelude.{String}}
+use Rattle.std.specs.{String.{string_bytes}, Str.{all_scalars, chars, encode_utf8_all, IsAscii, IsCharBoundary, IsUtf8}}
+use Rattle.std.proofs.lemmas.{List.{append-nil, map-id}, Bool.{and_from, and_parts, lt-ltb, ltb-true, or_parts}}
+use Rattle.std.proofs.{Math.Seq.{take-append_seam}, lemmas.{List.{Recursion.{and_at}, Folds.{list_all-append}}}}
 use Rattle.std.proofs.lemmas.Str.{chars-IsAscii, encodes-IsAscii, IsCharBoundary-from_take, IsUtf8-string_bytes, scalars-chars}
-use Rattle.std.proofs.lemmas.Str.Ascii.{IsAscii-from_reads}
-use Rattle.std.proofs.lemmas.Grind.{common_steps}
-use Rattle.rustc_literal_escaper.specs.declared.element.Element.{Element}
-use Rattle.rustc_literal_escaper.specs.declared.error.EscapeError.{EscapeError}
-use Rattle.rustc_literal_escaper.specs.Grammar.{Item}
-use Rattle.rustc_literal_escaper.specs.means.Elements.{front, items_from, StartsWithOne}
+use Rattle.std.proofs.lemmas.{Str.Ascii.{IsAscii-from_reads}, Grind.{common_steps}}
+use Rattle.rustc_literal_escaper.specs.declared.{element.Element.{Element}, error.EscapeError.{EscapeError}}
+use Rattle.rustc_literal_escaper.specs.{Grammar.{Item}, means.Elements.{front, items_from, StartsWithOne}}
 use Rattle.rustc_literal_escaper.specs.Meaning.{byte_of, char_of, unit_of, unit_of_byte}
 use Rattle.rustc_literal_escaper.specs.Written.{Grows, StandsFor, written_bytes, written_text}
 use Rattle.rustc_literal_escaper.specs.laws.Elements.{items-cons, nothing}

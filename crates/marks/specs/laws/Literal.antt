@@ -15,7 +15,9 @@ items-same : {raw : Bool} {s : List ℕ} {a b : List Item} → AreItems raw 0 s 
 items-same {s = s} is also = let size : 0 + bytes s ≡ bytes s = omega arith in sym (items-read is (bytes s) size) ∙ items-read also (bytes s) size
 
 -- the stretches of pieces, by the items of the same text
-pub stretches-read : {mode : Mode} {raw : Bool} {s : List ℕ} {pieces : List Piece} {items : List Item} → ArePieces mode raw s pieces → AreItems raw 0 s items → (from close : ℕ) → from + bytes s ≡ close → stretches_from mode from from close items ≡ stretches_at from pieces
+pub stretches-read : {mode : Mode} {raw : Bool} {s : List ℕ} {pieces : List Piece} {items : List Item}
+    → ArePieces mode raw s pieces → AreItems raw 0 s items → (from close : ℕ) → from + bytes s ≡ close
+    → stretches_from mode from from close items ≡ stretches_at from pieces
 stretches-read {mode} {s = s} {pieces} are is from close ends =
     let read = pieces-read mode from close are 0 (omega arith) in
     let here : from + 0 ≡ from = omega arith in

@@ -1,11 +1,7 @@
 -- What stands between double quotes has pieces, and one list of stretches: that of its items.
-use Rattle.std.proofs.Common.{◌≡◌, ℕ, ◌+◌, ◌<◌, ◌≤◌, Bool, true, false, true≢false, if◌then◌else◌, List, [], ◌∷◌, ◌++◌, refl, sym, ap, subst, ◌∙◌, arith, append_assoc, append-nil, codes, Option, Some, None}
-use Rattle.std.specs.Char.{is_whitespace}
-use Rattle.std.specs.List.{list_all, list_any}
-use Rattle.std.proofs.lemmas.Bool.{le-ltb, lt-ltb}
-use Rattle.std.proofs.lemmas.Bool.Decides.{nat_tests}
-use Rattle.std.proofs.lemmas.Grind.{common_steps}
-use Rattle.std.proofs.lemmas.Str.{length-le-encodes}
+use Rattle.std.proofs.Common.{◌≡◌, ℕ, ◌+◌, ◌<◌, ◌≤◌, Bool, true, false, if◌then◌else◌, List, [], ◌∷◌, ◌++◌, refl, sym, ap, subst, ◌∙◌, arith, append_assoc, append-nil, codes, Option, Some, None}
+use Rattle.std.specs.{Char.{is_whitespace}, List.{list_all, list_any}}
+use Rattle.std.proofs.lemmas.{Bool.{le-ltb, lt-ltb, Decides.{nat_tests}}, Grind.{common_steps}, Str.{length-le-encodes}}
 use Rattle.rustc_lexer.specs.Classes.{Chars, bytes, next_is}
 use Rattle.rustc_literal_escaper.specs.Grammar as the
 use Rattle.rustc_literal_escaper.specs.Grammar.{AreItems, IsElementBefore, Item, is_among, is_newline, is_passed_over, item, lines_warning, space_warning}
@@ -17,7 +13,6 @@ use Rattle.rustc_literal_escaper.specs.declared.element.Element.TheVariants.{Fau
 use Rattle.rustc_literal_escaper.specs.declared.error.EscapeError.{EscapeError}
 use Rattle.rustc_literal_escaper.specs.declared.error.EscapeError.TheVariants.{MultipleSkippedLinesWarning, UnskippedWhitespaceWarning}
 use Rattle.rustc_literal_escaper.specs.declared.mode.Mode.{Mode}
-use Rattle.rustc_literal_escaper.specs.declared.mode.Mode.TheVariants.{Char}
 use Rattle.marks.specs.declared.literal.Look.{Look}
 use Rattle.marks.specs.declared.literal.Look.TheVariants.{Escape, Wrong}
 use Rattle.marks.specs.Literal as lit
@@ -67,7 +62,9 @@ plain-space c white stays = grind (arith, common_steps, nat_tests)
 
 module _ (mode : Mode) where
   -- a line end that has no warning, before some pieces
-  skip : {s : Chars} {pieces : List Piece} → ArePieces mode false s pieces → (space : Chars) → list_all is_passed_over space ≡ true → list_any is_newline space ≡ false → next_is is_whitespace s ≡ false → HasPieces mode false (line space ++ s)
+  skip : {s : Chars} {pieces : List Piece} → ArePieces mode false s pieces → (space : Chars)
+      → list_all is_passed_over space ≡ true → list_any is_newline space ≡ false → next_is is_whitespace s ≡ false
+      → HasPieces mode false (line space ++ s)
   skip (lit.last {gap = g} are) space all one quiet = (_, lit.last (lit.more space all one (ap (next_is is_whitespace) (append-nil g) ∙ quiet) are))
   skip (lit.more {gap = g} {w} {next} {look} {pieces} are is rest) space all one quiet =
       let more : List Piece = skipped (line (space ++ g)) ++ (w, look) ∷ pieces in
@@ -126,7 +123,8 @@ module _ (mode : Mode) (begin close : ℕ) where
     are : AreItems raw j (w ++ next) all
     same : (at : ℕ) → at ≤ begin + j → found at all ≡ gap at (begin + j) ++ (stretch (begin + j) (begin + (j + bytes w)) look ++ found (begin + (j + bytes w)) items)
 
-  piece-read : {raw : Bool} {next : Chars} {look : Option Look} {w : Chars} → IsPieceBefore mode next raw look w → (j : ℕ) (items : List Item) → AreItems raw (j + bytes w) next items → ReadsPiece raw j w next look items
+  piece-read : {raw : Bool} {next : Chars} {look : Option Look} {w : Chars} → IsPieceBefore mode next raw look w
+      → (j : ℕ) (items : List Item) → AreItems raw (j + bytes w) next items → ReadsPiece raw j w next look items
   piece-read (lit.element {element = e} {w} is other looks) j items are = record {
     all = item j e w ∷ items;
     are = the.element is other are;

@@ -1,8 +1,7 @@
 -- The stretches of a literal, as the code finds them in the items of what stands between the
 -- quotes.
 use Rattle.std.specs.Prelude.{ℕ, ◌+◌, nat_lt, if◌then◌else◌, List, [], ◌∷◌, ◌++◌, drop, Option, Some, None}
-use Rattle.std.specs.Fmt.{WritesInCalls}
-use Rattle.std.specs.List.{between}
+use Rattle.std.specs.{Fmt.{WritesInCalls}, List.{between}}
 use Rattle.rustc_lexer.specs.Classes.{Utf8}
 use Rattle.rustc_literal_escaper.specs.declared.element.Element.{Element}
 use Rattle.rustc_literal_escaper.specs.declared.element.Element.TheVariants.{Plain}

@@ -1,8 +1,7 @@
 -- How many bytes one character more takes.
 use Rattle.std.proofs.Common.{◌≡◌, ℕ, suc, ◌+◌, List, ◌∷◌, length, take, drop, ap, ◌∙◌, length-append}
 use Rattle.std.proofs.Math.Seq.{take-add}
-use Rattle.std.specs.Char.{encode_utf8}
-use Rattle.std.specs.Str.{encode_utf8_all}
+use Rattle.std.specs.{Char.{encode_utf8}, Str.{encode_utf8_all}}
 use Rattle.std.proofs.lemmas.Str.{encodes-append}
 use Rattle.rustc_lexer.specs.means.Scan.{bytes_of}
 

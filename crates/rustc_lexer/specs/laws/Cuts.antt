@@ -1,8 +1,7 @@
 -- Cutting a text: locality of lists of tokens, and what follows a bound.
 use Rattle.std.proofs.lemmas.Grind.{common_steps}
 use Rattle.std.proofs.Common.{◌≡◌, ℕ, zero, suc, ◌+◌, ◌<◌, ◌≤◌, List, [], ◌∷◌, ◌++◌, length, take, drop, refl, sym, ap, ◌∙◌, arith, length-drop, IsUtf8, chars, drop-drop, take-add, take-take, take-append-drop}
-use Rattle.std.proofs.lemmas.List.{drop-take}
-use Rattle.std.proofs.lemmas.Str.{chars-append, IsUtf8-append, IsUtf8-nil, IsUtf8-take}
+use Rattle.std.proofs.lemmas.{List.{drop-take}, Str.{chars-append, IsUtf8-append, IsUtf8-nil, IsUtf8-take}}
 use Rattle.rustc_lexer.specs.{Token}
 use Rattle.rustc_lexer.specs.Locality.{AgreePast, IsGrammar}
 use Rattle.rustc_lexer.specs.Partition.{bound, cut_by, tokens_by}
@@ -89,7 +88,9 @@ agree_left n m text other agree = record {
 }
 
 -- locality: texts that agree past bound k of one of them have the same first k tokens
-pub tokens_local : {first : List ℕ → Token} (law : IsGrammar first) (k : ℕ) (text other : List ℕ) → IsText text → IsText other → k ≤ length (tokens_by first text) → AgreePast (bound (tokens_by first text) k) text other → take k (tokens_by first other) ≡ take k (tokens_by first text)
+pub tokens_local : {first : List ℕ → Token} (law : IsGrammar first) (k : ℕ) (text other : List ℕ) → IsText text
+    → IsText other → k ≤ length (tokens_by first text) → AgreePast (bound (tokens_by first text) k) text other
+    → take k (tokens_by first other) ≡ take k (tokens_by first text)
 tokens_local law zero text other is its few agree = refl
 tokens_local {first} law (suc k) [] other is its few agree = absurd (let short : suc k ≤ length (tokens_by first []) = few in let none : length (tokens_by first []) ≡ 0 = ap length (tokens-nil first) in omega arith)
 tokens_local {first} law (suc k) (c ∷ cs) other is its few agree =

@@ -1,8 +1,7 @@
 -- Two characters past its end are enough for the first token of an edition.
 use Rattle.std.proofs.Common.{◌≡◌, ℕ, ◌≤◌, ◌<◌, List, ◌∷◌, length, take, drop, refl, sym, ap, ◌∙◌, subst, arith, chars}
 use Rattle.std.specs.Str.{IsCharBoundary}
-use Rattle.std.proofs.lemmas.Str.{length-le-encodes}
-use Rattle.std.proofs.lemmas.Grind.{common_steps}
+use Rattle.std.proofs.lemmas.{Str.{length-le-encodes}, Grind.{common_steps}}
 use Rattle.rustc_lexer.specs.Locality.{IsGrammar, AgreePast}
 use Rattle.rustc_lexer.specs.{Edition, Token, TokenKind}
 use Rattle.rustc_lexer.specs.Classes.{bytes, IsText}

@@ -1,8 +1,6 @@
 -- Searches of a frontmatter's closing.
 use Rattle.std.proofs.Common.{◌≡◌, ℕ, zero, suc, ◌+◌, ◌-◌, ◌<◌, ◌≤◌, ◌==◌, ◌&&◌, nat_lt, Bool, true, false, true≢false, if◌then◌else◌, List, [], ◌∷◌, ◌++◌, length, take, drop, get_or, refl, sym, ap, ◌∙◌, subst, arith, Option, Some, None, length-drop, drop-drop, inl, inr}
-use Rattle.std.proofs.Math.Seq.{take-suc}
-use Rattle.std.proofs.lemmas.Bool.{eqb-true, and_parts, lt-ltb, cases_lt}
-use Rattle.std.proofs.lemmas.List.{get_or-drop}
+use Rattle.std.proofs.{Math.Seq.{take-suc}, lemmas.{Bool.{eqb-true, and_parts, lt-ltb, cases_lt}, List.{get_or-drop}}}
 use Rattle.std.proofs.lemmas.Grind.{common_steps}
 use Rattle.rustc_lexer.specs.Classes.{is_horizontal_whitespace, is_inline}
 use Rattle.memchr.specs.Find.{IsFirstByte, is_byte}
@@ -95,7 +93,8 @@ lone-none blank (c ∷ s) e = by_either (begins (fence 3) (c ∷ s))
     (λ t. rw t (ap one_more (lone-none (blank_past blank c) s (one_more-none (first (fence 3) s) (sym (offset-on (begins (fence 3)) c s t) ∙ e)))))
 
 -- by the first three dashes
-pub lone-three : (blank : Bool) (k : ℕ) (s : List ℕ) → first (fence 3) s ≡ Some k → first_lone blank 0 s ≡ (if blank_over blank (take k s) then Some k else more (k + 3) (first_lone true 0 (drop (k + 3) s)))
+pub lone-three : (blank : Bool) (k : ℕ) (s : List ℕ) → first (fence 3) s ≡ Some k
+    → first_lone blank 0 s ≡ (if blank_over blank (take k s) then Some k else more (k + 3) (first_lone true 0 (drop (k + 3) s)))
 lone-three blank k [] e = absurd (let no : None ≡ Some k = e in cc)
 lone-three blank k (c ∷ s) e = by_either (begins (fence 3) (c ∷ s))
     (λ t.
@@ -109,7 +108,8 @@ lone-three blank k (c ∷ s) e = by_either (begins (fence 3) (c ∷ s))
     three None = refl
     three (Some n) = ap Some (omega arith)
 
-    on : (m : ℕ) → k ≡ suc m → begins (fence 3) (c ∷ s) ≡ false → first_lone (blank_past blank c) 0 s ≡ (if blank_over (blank_past blank c) (take m s) then Some m else more (m + 3) (first_lone true 0 (drop (m + 3) s)))
+    on : (m : ℕ) → k ≡ suc m → begins (fence 3) (c ∷ s) ≡ false
+        → first_lone (blank_past blank c) 0 s ≡ (if blank_over (blank_past blank c) (take m s) then Some m else more (m + 3) (first_lone true 0 (drop (m + 3) s)))
         → first_lone blank 0 (c ∷ s) ≡ (if blank_over blank (take k (c ∷ s)) then Some k else more (k + 3) (first_lone true 0 (drop (k + 3) (c ∷ s))))
     on m same t ih =
         let far : suc (m + 3) ≡ k + 3 = omega (arith, same) in

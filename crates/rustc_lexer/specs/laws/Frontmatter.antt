@@ -1,13 +1,10 @@
 -- The opening of a frontmatter, and where the token ends.
 use Rattle.std.proofs.Common.{◌≡◌, ℕ, zero, suc, ◌+◌, ◌-◌, ◌<◌, ◌≤◌, ◌&&◌, ◌||◌, nat_lt, not, Bool, true, false, if◌then◌else◌, List, [], ◌∷◌, ◌++◌, codes, length, take, drop, get_or, refl, sym, ap, ◌∙◌, subst, arith, Some, None, length-append, length-drop, length-take, append_assoc}
-use Rattle.std.specs.Char.{encode_utf8}
-use Rattle.std.specs.Str.{chars, encode_utf8_all, IsUtf8, IsCharBoundary}
+use Rattle.std.specs.{Char.{encode_utf8}, Str.{chars, encode_utf8_all, IsUtf8, IsCharBoundary}}
 use Rattle.std.proofs.Math.Seq.{drop-append_seam, take-append_seam}
-use Rattle.std.proofs.lemmas.Bool.{eqb-true, and_parts, lt-ltb, or_parts}
-use Rattle.std.proofs.lemmas.List.{get_or-drop}
+use Rattle.std.proofs.lemmas.{Bool.{eqb-true, and_parts, lt-ltb, or_parts}, List.{get_or-drop}}
 use Rattle.std.proofs.lemmas.Str.{encode_ascii, byte_from_char, inside_one, length-encode, len_utf8_bounds, length-le-encodes, IsCharBoundary-from_drop}
-use Rattle.std.proofs.Math.Bool.{and-false}
-use Rattle.std.proofs.lemmas.Grind.{common_steps}
+use Rattle.std.proofs.{Math.Bool.{and-false}, lemmas.Grind.{common_steps}}
 use Rattle.rustc_lexer.specs.{Edition, Token, Frontmatter}
 use Rattle.rustc_lexer.specs.Classes.{is_whitespace, is_id_start, is_info}
 use Rattle.rustc_lexer.specs.LanguageText.{Mode}
@@ -30,7 +27,8 @@ pub past-then : (f g : List ℕ → ℕ) (text mid left : List ℕ) → IsUtf8 t
 past-then f g text mid left is e h = grind (arith, common_steps, chars-past, past-past)
 
 module _ (rest : List ℕ) (is : IsUtf8 rest) where
-  pub infostring-yes : (tail left : List ℕ) → next_is is_id_start (chars rest) ≡ true → tail ≡ past 1 rest → left ≡ past (run_len is_info (chars tail)) tail → left ≡ past (infostring_len (chars rest)) rest
+  pub infostring-yes : (tail left : List ℕ) → next_is is_id_start (chars rest) ≡ true → tail ≡ past 1 rest
+      → left ≡ past (run_len is_info (chars tail)) tail → left ≡ past (infostring_len (chars rest)) rest
   infostring-yes tail left e at f = grind (arith, common_steps, chars-past, past-past)
 
   pub infostring-no : next_is is_id_start (chars rest) ≡ false → rest ≡ past (infostring_len (chars rest)) rest
@@ -109,7 +107,9 @@ module _ (text fence label : List ℕ) (is : IsUtf8 text) (fence_is : fence ≡ 
     unfolding past_opening
     past_opening-is = past-then (then_len spaces_len (run_len is_dash)) label_len text label rest is (past-then spaces_len (run_len is_dash) text fence label is fence_is label_is) rest_is
 
-    pub frontmatter-is : (len end : ℕ) (space bad : Bool) → end ≡ closing_end (length fence - length label) rest → len ≡ length text - length rest + end → space ≡ next_is is_whitespace (chars text) → bad ≡ not (next_is is_newline (chars rest))
+    pub frontmatter-is : (len end : ℕ) (space bad : Bool) → end ≡ closing_end (length fence - length label) rest
+        → len ≡ length text - length rest + end → space ≡ next_is is_whitespace (chars text)
+        → bad ≡ not (next_is is_newline (chars rest))
         → record { kind = Frontmatter space bad; len = len } ≡ frontmatter text
     unfolding frontmatter past_opening
     frontmatter-is len end space bad end_is len_is space_is bad_is =
@@ -122,7 +122,8 @@ pub if_found_none : (end : ℕ → ℕ) (otherwise : ℕ) → if_found None end 
 if_found_none end otherwise = refl
 
 -- the closing, by what the searches answer
-pub closing_end_is : (n : ℕ) (rest : List ℕ) → closing_end n rest ≡ if_found (first (newline ∷ fence n) rest) (λ offset. line_end (offset + 1) rest) (if_found (first (codes "\n---") rest) (λ offset. line_end (offset + 1) rest)
+pub closing_end_is : (n : ℕ) (rest : List ℕ)
+    → closing_end n rest ≡ if_found (first (newline ∷ fence n) rest) (λ offset. line_end (offset + 1) rest) (if_found (first (codes "\n---") rest) (λ offset. line_end (offset + 1) rest)
     (if_found (first (codes "\nuse ") rest) (λ offset. offset) (if_found (first (codes "\n//!") rest) (λ offset. offset)
     (if_found (first (codes "\n#![") rest) (λ offset. offset) (if_found (first_lone true 0 rest) (λ offset. line_end offset rest) (length rest))))))
 unfolding closing_end
@@ -156,5 +157,7 @@ frontmatter-cut text is e =
 pub ruleset cut_lemmas = (frontmatter-cut)
 
 -- what holds of the frontmatter, where one opens, and of the token of each edition holds of the token
-pub token_at-either : (P : Token → Type 0) (mode : Mode) (text : List ℕ) → ((edition : Edition) → P (first_token_in edition text)) → (opens (chars text) ≡ true → P (frontmatter text)) → P (token_at mode text)
+pub token_at-either : (P : Token → Type 0) (mode : Mode) (text : List ℕ)
+    → ((edition : Edition) → P (first_token_in edition text)) → (opens (chars text) ≡ true → P (frontmatter text))
+    → P (token_at mode text)
 token_at-either w0 w1 text lexeme opened = grind (arith, common_steps)

@@ -1,8 +1,7 @@
 -- What is read at the front of a text is a token of the language, a token of the language is what is read, and how far it
 -- looks.
 use Rattle.std.proofs.Common.{◌≡◌, ℕ, ◌==◌, Bool, true, false, List, [], ◌∷◌, ◌++◌, length, take, drop, codes, refl, sym, ap, ◌∙◌, subst, take-append-drop, arith, bytes_eq}
-use Rattle.std.proofs.Math.Seq.{take-append_seam}
-use Rattle.std.proofs.lemmas.Bool.{and_parts, or_parts, or_from, eqb-true}
+use Rattle.std.proofs.{Math.Seq.{take-append_seam}, lemmas.Bool.{and_parts, or_parts, or_from, eqb-true}}
 use Rattle.std.proofs.lemmas.List.{append-nil}
 use Rattle.std.specs.Char.{is_ascii_digit}
 use Rattle.std.proofs.lemmas.Grind.{common_steps}

@@ -1,12 +1,10 @@
 -- The end of a frontmatter is the one that the language has, and it is the same in characters and in bytes.
-use Rattle.std.proofs.Common.{◌≡◌, ℕ, zero, suc, ◌+◌, ◌≤◌, ◌<◌, ◌==◌, ◌&&◌, nat_lt, not, get_or, inl, inr, Bool, true, false, true≢false, List, [], ◌∷◌, ◌++◌, length, take, drop, codes, refl, sym, ap, ◌∙◌, subst, arith, append_assoc, length-append, length-take, take-append-drop, Option, Some, None}
+use Rattle.std.proofs.Common.{◌≡◌, ℕ, zero, suc, ◌+◌, ◌≤◌, ◌<◌, ◌==◌, ◌&&◌, nat_lt, not, get_or, inl, inr, Bool, true, false, List, [], ◌∷◌, ◌++◌, length, take, drop, codes, refl, sym, ap, ◌∙◌, subst, arith, append_assoc, length-append, length-take, take-append-drop, Option, Some, None}
 use Rattle.std.proofs.Math.Seq.{take-append_seam, drop-append_seam}
 use Rattle.std.proofs.lemmas.Bool.{and_parts, cases_lt, eqb-true, false_from_ne_true, ltb-true, lt-ltb, not-true}
 use Rattle.std.proofs.lemmas.List.{append-nil}
 use Rattle.std.proofs.lemmas.Str.{encode_ascii, encodes-append, inside_one, length-encode, len_utf8_bounds}
-use Rattle.std.specs.Char.{encode_utf8}
-use Rattle.std.specs.List.{list_all}
-use Rattle.std.specs.Str.{encode_utf8_all}
+use Rattle.std.specs.{Char.{encode_utf8}, List.{list_all}, Str.{encode_utf8_all}}
 use Rattle.std.proofs.lemmas.Grind.{common_steps}
 use Rattle.rustc_lexer.specs.Classes.{is_inline, bytes, Chars, AreAll, NextIsNot}
 use Rattle.rustc_lexer.specs.FrontmatterGrammar as the

@@ -1,9 +1,7 @@
 -- Comments, white space and symbols are in their languages, and what is there is read so.
-use Rattle.std.proofs.Common.{◌≡◌, ℕ, suc, ◌+◌, ◌==◌, ◌&&◌, not, Bool, true, false, true≢false, if◌then◌else◌, List, [], ◌∷◌, ◌++◌, length, take, drop, codes, refl, sym, ap, ◌∙◌, subst, arith, take-append-drop, take_all, Option, Some, None}
-use Rattle.std.proofs.Math.Seq.{take-append_seam, drop-length}
-use Rattle.std.proofs.lemmas.Bool.{and_parts, eqb-true, or_parts, or_from}
-use Rattle.std.proofs.lemmas.List.{append-nil}
-use Rattle.std.proofs.lemmas.Grind.{common_steps}
+use Rattle.std.proofs.Common.{◌≡◌, ℕ, suc, ◌==◌, ◌&&◌, not, Bool, true, false, true≢false, if◌then◌else◌, List, [], ◌∷◌, ◌++◌, length, take, drop, codes, refl, sym, ap, ◌∙◌, subst, arith, take-append-drop, take_all, Option, Some, None}
+use Rattle.std.proofs.{Math.Seq.{take-append_seam, drop-length}, lemmas.Bool.{and_parts, eqb-true, or_parts, or_from}}
+use Rattle.std.proofs.lemmas.{List.{append-nil}, Grind.{common_steps}}
 use Rattle.rustc_lexer.specs.{DocStyle, Outer, Inner, LineComment, BlockComment, Whitespace, GuardedStrPrefix, Pound, Slash}
 use Rattle.rustc_lexer.specs.means.BlockComment.{block_doc_style, block_comment_to, block_comment, comment_end}
 use Rattle.rustc_lexer.specs.Classes.{is_among, is_whitespace, NextNotIn, AreAll, NextIsNot, is_inline}
@@ -83,7 +81,8 @@ line-sound s =
     let n : ℕ = run_len is_inline s in
     the.line_comment (run_all is_inline s) (run-stops is_inline s) (subst (λ (style : Option DocStyle). IsLineStyle style (take n s)) (line_doc_style-own s) (line-styled (take n s)))
 
-pub line-read : (style : Option DocStyle) (w next : List ℕ) → AreAll is_inline w → NextIsNot is_inline next → IsLineStyle style w → Read (LineComment style) (suc (suc (length w))) (47 ∷ 47 ∷ w ++ next)
+pub line-read : (style : Option DocStyle) (w next : List ℕ) → AreAll is_inline w → NextIsNot is_inline next
+    → IsLineStyle style w → Read (LineComment style) (suc (suc (length w))) (47 ∷ 47 ∷ w ++ next)
 line-read style w next all stop is = grind (arith, common_steps, run_len-here, take-append_seam, line_doc_style-own, read-first, chooses-slash, pair, line-style, style-is)
 
 -- ---- block comments
@@ -120,7 +119,8 @@ pub block-read : (style : Option DocStyle) (w next : List ℕ) → IsCommentRest
 block-read style w next p is =
     grind (arith, comment_end-found p next, (decided-front 2 block_doc_style style_decided w next (rest-long p) ∙ block-style-is is), read-first, chooses-slash)
 
-pub open-read : (style : Option DocStyle) (w next : List ℕ) → next ≡ [] → ((n : ℕ) → IsCommentRest (take n w) → ⊥) → IsBlockStyle style w → Read (BlockComment style false) (suc (suc (length w))) (47 ∷ 42 ∷ w ++ next)
+pub open-read : (style : Option DocStyle) (w next : List ℕ) → next ≡ [] → ((n : ℕ) → IsCommentRest (take n w) → ⊥)
+    → IsBlockStyle style w → Read (BlockComment style false) (suc (suc (length w))) (47 ∷ 42 ∷ w ++ next)
 open-read style w next none never is =
     let lost : comment_end w ≡ None = by_found (comment_end w) (λ n e. absurd (never n (comment_end-rest w n e))) (λ e. e) in
     grind (arith, common_steps, none, append-nil w, lost, block-style-is is, read-first, chooses-slash)

@@ -50,6 +50,7 @@ split-same {w = w} other cut same = grind (arith, common_steps, same, cut.front,
 
 -- ---- the token at the front
 
-pub first-is : {next : List ℕ} {kind : TokenKind} {c : ℕ} {w : List ℕ} → IsTokenBefore next kind (c ∷ w) → (text : List ℕ) → chars text ≡ c ∷ w ++ next → first_token text ≡ record { kind = kind; len = bytes (c ∷ w) }
+pub first-is : {next : List ℕ} {kind : TokenKind} {c : ℕ} {w : List ℕ} → IsTokenBefore next kind (c ∷ w)
+    → (text : List ℕ) → chars text ≡ c ∷ w ++ next → first_token text ≡ record { kind = kind; len = bytes (c ∷ w) }
 unfolding first_token
 first-is {next} {kind} {c} {w} p text e = grind (arith, common_steps, token-read, take-append_seam)

@@ -1,11 +1,9 @@
 -- What is taken as a guarded string is what the language says, and nothing else is.
-use Rattle.std.proofs.Common.{◌≡◌, ◌↔◌, ℕ, zero, suc, ◌+◌, ◌<◌, ◌≤◌, ◌==◌, min, inl, inr, Bool, true, false, if◌then◌else◌, List, [], ◌∷◌, ◌++◌, length, take, drop, codes, refl, sym, ap, ◌∙◌, subst, arith, append_assoc, length-append, take-append-drop, Option, Some, None}
+use Rattle.std.proofs.Common.{◌≡◌, ◌↔◌, ℕ, zero, suc, ◌+◌, ◌<◌, ◌≤◌, ◌==◌, min, inl, inr, Bool, true, false, if◌then◌else◌, List, [], ◌∷◌, ◌++◌, length, take, drop, codes, refl, sym, ap, ◌∙◌, subst, arith, append_assoc, length-append, take-append-drop, Option, Some}
 use Rattle.std.proofs.Math.Nat.{min-le_left, min-le_right, min-eq_left, min-eq_right}
-use Rattle.std.proofs.Math.Seq.{take-append_seam, drop-append_seam}
-use Rattle.std.proofs.lemmas.Bool.{cases_lt, eqb-true, or_from}
+use Rattle.std.proofs.{Math.Seq.{take-append_seam, drop-append_seam}, lemmas.Bool.{cases_lt, eqb-true, or_from}}
 use Rattle.std.specs.Str.{chars}
-use Rattle.std.proofs.Math.Bool.{or-false}
-use Rattle.std.proofs.lemmas.Grind.{common_steps}
+use Rattle.std.proofs.{Math.Bool.{or-false}, lemmas.Grind.{common_steps}}
 use Rattle.rustc_lexer.specs.{GuardedStr}
 use Rattle.rustc_lexer.specs.Classes.{is_among, NextIsNot, bytes}
 use Rattle.rustc_lexer.specs.means.Guarded as spec
@@ -55,7 +53,8 @@ body-closed n w z e = grind (arith, common_steps, drop-append_seam)
 body-open : (n : ℕ) (w z : List ℕ) → double_quoted_string (w ++ z) ≡ (false, length w) → guarded_body n (w ++ z) ≡ (false, length w + 0)
 body-open n w z e = ap (λ (r : Bool × ℕ). let q : Bool × ℕ = (r.0, r.1 + (if r.0 then closing_len n (drop r.1 (w ++ z)) else 0)) in q) e
 
-closing-read : {n k : ℕ} {suffix next : List ℕ} → k ≤ n → (k < n → NextIsNot (is_among (codes "#")) (suffix ++ next)) → IsSuffixBefore next suffix → closing_len n (hashes k ++ (suffix ++ next)) ≡ k + length suffix
+closing-read : {n k : ℕ} {suffix next : List ℕ} → k ≤ n → (k < n → NextIsNot (is_among (codes "#")) (suffix ++ next))
+    → IsSuffixBefore next suffix → closing_len n (hashes k ++ (suffix ++ next)) ≡ k + length suffix
 closing-read {n} {k} {suffix} {next} le stop is =
     grind (arith, common_steps, cases_lt, guard-hashes, same-class, min-eq_right, min-eq_left, hash_run-hashes, past-guard, suffix-read)
 

@@ -1,8 +1,7 @@
 -- The token at the front of a text in an edition is the one that its language has there.
 use Rattle.std.proofs.Common.{◌≡◌, ◌≢◌, ◌↔◌, ℕ, ◌+◌, ◌<◌, ◌≤◌, ◌==◌, Bool, true, false, true≢false, List, [], ◌∷◌, ◌++◌, length, take, drop, codes, refl, sym, ap, ◌∙◌, subst, arith, take-append-drop}
 use lib.Utf8.{encode}
-use Rattle.std.proofs.Math.Seq.{take-append_seam}
-use Rattle.std.proofs.lemmas.Bool.{and_parts, leb-true, leb-false, eqb-true}
+use Rattle.std.proofs.{Math.Seq.{take-append_seam}, lemmas.Bool.{and_parts, leb-true, leb-false, eqb-true}}
 use Rattle.std.specs.Str.{chars}
 use Rattle.std.proofs.lemmas.Grind.{common_steps}
 use Rattle.rustc_lexer.specs.{Edition, Token, TokenKind, Ident, UnknownPrefix, UnknownPrefixLifetime, RawLifetime, Lifetime, GuardedStrPrefix, Pound}
@@ -88,7 +87,9 @@ raw-first next text e goes =
     let n : ℕ = 2 + run_len is_id_continue (drop 2 next) in
     ap (λ (t : Token). t.kind) (first-is (hash_ident-sound IsRawBefore (λ w rest is stop. the.raw_lifetime is stop) next goes) text (e ∙ ap (λ (u : List ℕ). 39 ∷ 114 ∷ u) (sym (take-append-drop n next))))
 
-pub token-read-in : {edition : Edition} {next : List ℕ} {kind : TokenKind} {c : ℕ} {w : List ℕ} → IsTokenIn edition next kind (c ∷ w) → (text : List ℕ) → chars text ≡ c ∷ w ++ next → first_token_in edition text ≡ token kind (bytes (c ∷ w))
+pub token-read-in : {edition : Edition} {next : List ℕ} {kind : TokenKind} {c : ℕ} {w : List ℕ}
+    → IsTokenIn edition next kind (c ∷ w) → (text : List ℕ) → chars text ≡ c ∷ w ++ next
+    → first_token_in edition text ≡ token kind (bytes (c ∷ w))
 token-read-in {edition} {next} {kind} {c} {w} (kept le p) text e = ap (changed edition (chars text)) (first-is p text e) ∙ keeps edition (chars text) kind (bytes (c ∷ w)) le
 token-read-in {edition} {next} (pound lt) text e = by_next next e ∙ ap (token Pound) (sym hash-one)
   where
@@ -120,7 +121,8 @@ pub record Front (edition : Edition) (cs : List ℕ) (t : Token) : Type 0 where
 abbrev Fronts : Edition → List ℕ → TokenKind → ℕ → List ℕ → Type 0
 Fronts edition next kind c w = Front edition (c ∷ w ++ next) (changed edition (c ∷ w ++ next) (token kind (bytes (c ∷ w))))
 
-front-is : {edition : Edition} {cs : List ℕ} {t : Token} (kind : TokenKind) (c : ℕ) (w next : List ℕ) → c ∷ w ++ next ≡ cs → t ≡ token kind (bytes (c ∷ w)) → IsTokenIn edition next kind (c ∷ w) → Front edition cs t
+front-is : {edition : Edition} {cs : List ℕ} {t : Token} (kind : TokenKind) (c : ℕ) (w next : List ℕ)
+    → c ∷ w ++ next ≡ cs → t ≡ token kind (bytes (c ∷ w)) → IsTokenIn edition next kind (c ∷ w) → Front edition cs t
 front-is kind c w next whole same is = record { kind = kind; c = c; w = w; next = next; whole = whole; same = same; is = is }
 
 keep : (edition : Edition) (next : List ℕ) (kind : TokenKind) (c : ℕ) (w : List ℕ) → lexed_since kind ≤ year edition → IsTokenBefore next kind (c ∷ w) → Fronts edition next kind c w

@@ -2,14 +2,11 @@
 use Rattle.std.proofs.Common.{◌≡◌, ℕ, zero, suc, ◌+◌, ◌==◌, ◌&&◌, ◌||◌, not, Bool, true, false, true≢false, if◌then◌else◌, List, [], ◌∷◌, ◌++◌, length, take, drop, codes, refl, sym, ap, ◌∙◌, subst, arith, append_assoc, length-append, take-append-drop, take-add}
 use Rattle.std.proofs.Math.Seq.{take-append_seam, drop-append_seam}
 use Rattle.std.proofs.lemmas.Bool.{and_parts, eqb-true, or_parts, or_left, false_from_ne_true, not-false}
-use Rattle.std.specs.Char.{is_ascii_digit}
-use Rattle.std.specs.List.{list_all}
-use Rattle.std.specs.Str.{encode_utf8_all}
-use Rattle.std.proofs.Math.Bool.{or-true}
-use Rattle.std.proofs.lemmas.Grind.{common_steps}
+use Rattle.std.specs.{Char.{is_ascii_digit}, List.{list_all}, Str.{encode_utf8_all}}
+use Rattle.std.proofs.{Math.Bool.{or-true}, lemmas.Grind.{common_steps}}
 use Rattle.unicode_ident.proofs.Computing.{unicode_ident}
 use Rattle.rustc_lexer.specs.{TokenKind, Char, Literal, Lifetime, RawLifetime, UnknownPrefixLifetime}
-use Rattle.rustc_lexer.specs.Classes.{is_among, is_id_continue, is_ident, NextIn, is_word_continue, is_word_start, is_name_start, begins_ident_after, AreAll, NextIs, NextIsNot, bytes, ends_prefix, is_bad_name}
+use Rattle.rustc_lexer.specs.Classes.{is_among, is_id_continue, is_ident, is_word_continue, is_word_start, is_name_start, begins_ident_after, AreAll, NextIs, NextIsNot, bytes, ends_prefix, is_bad_name}
 use Rattle.rustc_lexer.specs.Tables.{is_emoji, emoji_ranges}
 use Rattle.rustc_lexer.specs.means.Ident.{begins_hash_ident}
 use Rattle.rustc_lexer.specs.laws.Choice.{by_either, by_test}
@@ -42,7 +39,10 @@ word-begins d (c ∷ w) next is_end all none = false_from_ne_true (begins (d ∷
 -- ---- lifetimes
 
 -- a name that is no character and not raw
-plain-read : (c : ℕ) (w next : List ℕ) (kind : TokenKind) (n : ℕ) → is_name_start c ≡ true → begins (codes "'") (w ++ next) ≡ false → is_raw c (w ++ next) ≡ false → AreAll is_word_continue w → NextIsNot is_word_continue next → past_name c w next ≡ (kind, n) → Read kind (suc (suc (length w + n))) (39 ∷ c ∷ w ++ next)
+plain-read : (c : ℕ) (w next : List ℕ) (kind : TokenKind) (n : ℕ) → is_name_start c ≡ true
+    → begins (codes "'") (w ++ next) ≡ false → is_raw c (w ++ next) ≡ false → AreAll is_word_continue w
+    → NextIsNot is_word_continue next → past_name c w next ≡ (kind, n)
+    → Read kind (suc (suc (length w + n))) (39 ∷ c ∷ w ++ next)
 plain-read c w next kind n start none no_raw all stop e =
     grind (arith, common_steps, read-first, chooses-quote, run_len-here, take-append_seam, drop-append_seam)
 
@@ -50,7 +50,9 @@ plain-read c w next kind n start none no_raw all stop e =
 no_raw-word : (c : ℕ) (w next : List ℕ) → AreAll is_word_continue w → (begins (codes "#") next ≡ true → (c == 114) ≡ false) → is_raw c (w ++ next) ≡ false
 no_raw-word c w next all other = grind (arith, common_steps, word-begins)
 
-pub lifetime-read : (c : ℕ) (w next : List ℕ) → is_name_start c ≡ true → AreAll is_word_continue w → NextIsNot is_word_continue next → NextIsNot (is_among (codes "'")) next → (NextIs (is_among (codes "#")) next → is_ascii_digit c ≡ true)
+pub lifetime-read : (c : ℕ) (w next : List ℕ) → is_name_start c ≡ true → AreAll is_word_continue w
+    → NextIsNot is_word_continue next → NextIsNot (is_among (codes "'")) next
+    → (NextIs (is_among (codes "#")) next → is_ascii_digit c ≡ true)
     → Read (Lifetime (is_ascii_digit c || is_emoji c || not (list_all is_id_continue w))) (suc (suc (length w))) (39 ∷ c ∷ w ++ next)
 lifetime-read c w next start all stop quote hash =
     plain-read c w next (Lifetime (is_bad_name (c ∷ w))) 0 start (word-begins 39 w next refl all (begins-next 39 next ∙ quote)) (no_raw-word c w next all (λ e. other_than is_ascii_digit 114 c refl (hash (sym (begins-next 35 next) ∙ e)))) all stop
@@ -69,7 +71,9 @@ hash-no_quote next w1 = grind (arith, common_steps, eqb-true, and_parts)
 raw-same : (c : ℕ) (s : List ℕ) → begins_ident_after (codes "r#") (c ∷ s) ≡ is_raw c s
 raw-same c s = grind (arith, common_steps)
 
-pub prefix-read : (c : ℕ) (w next : List ℕ) → is_word_start c ≡ true → AreAll is_word_continue w → NextIs (is_among (codes "#")) next → begins_ident_after (codes "r#") (c ∷ w ++ next) ≡ false → Read UnknownPrefixLifetime (suc (suc (length w))) (39 ∷ c ∷ w ++ next)
+pub prefix-read : (c : ℕ) (w next : List ℕ) → is_word_start c ≡ true → AreAll is_word_continue w
+    → NextIs (is_among (codes "#")) next → begins_ident_after (codes "r#") (c ∷ w ++ next) ≡ false
+    → Read UnknownPrefixLifetime (suc (suc (length w))) (39 ∷ c ∷ w ++ next)
 prefix-read c w next start all hash free =
     let at_hash : begins (codes "#") next ≡ true = begins-next 35 next ∙ hash in
     let quote : begins (codes "'") next ≡ false = hash-no_quote next at_hash in
@@ -120,7 +124,9 @@ name-sound c s start none no_raw = by_test (λ r. IsLifetime c s (r.0, n + r.1))
     stops : NextIsNot is_word_continue left
     stops = run-stops is_word_continue s
 
-    unquoted : begins (codes "'") left ≡ false → (hash digit : Bool) → begins (codes "#") left ≡ hash → is_ascii_digit c ≡ digit → IsTokenBefore left (if hash && not digit then UnknownPrefixLifetime else Lifetime (is_bad_name (c ∷ name))) (39 ∷ c ∷ name)
+    unquoted : begins (codes "'") left ≡ false → (hash digit : Bool) → begins (codes "#") left ≡ hash
+        → is_ascii_digit c ≡ digit
+        → IsTokenBefore left (if hash && not digit then UnknownPrefixLifetime else Lifetime (is_bad_name (c ∷ name))) (39 ∷ c ∷ name)
     unquoted e true false f g = the.unknown_prefix_lifetime (grind (arith, common_steps)) (run_all is_word_continue s) (sym (begins-next 35 left) ∙ f) (raw-same c (name ++ left) ∙ (ap (is_raw c) (take-append-drop n s) ∙ no_raw))
     unquoted e true true f g = the.lifetime start (run_all is_word_continue s) stops (sym (begins-next 39 left) ∙ e) (λ h. g)
     unquoted e false digit f g = the.lifetime start (run_all is_word_continue s) stops (sym (begins-next 39 left) ∙ e) (λ h. absurd (either-way (begins (codes "#") left) (begins-next 35 left ∙ h) f))

@@ -1,12 +1,8 @@
 -- Literals are in their languages, with their suffixes, and what is there is read so.
 use Rattle.std.proofs.Common.{◌≡◌, ℕ, suc, ◌+◌, nat_lt, Bool, true, false, List, [], ◌∷◌, ◌++◌, length, take, drop, codes, refl, sym, ap, ◌∙◌, subst, arith, append_assoc, length-append, take-append-drop, take-add, drop-drop, Option, Result}
-use Rattle.std.proofs.Math.Seq.{take-append_seam, drop-append_seam}
-use Rattle.std.proofs.lemmas.Bool.{and_parts, eqb-true, lt-ltb}
-use Rattle.std.proofs.lemmas.List.{append-nil}
-use Rattle.std.proofs.lemmas.Str.{encodes-append, length-encode}
-use Rattle.std.specs.Char.{encode_utf8, len_utf8, is_ascii_digit}
-use Rattle.std.specs.Option.{is_some}
-use Rattle.std.specs.Str.{encode_utf8_all}
+use Rattle.std.proofs.{Math.Seq.{take-append_seam, drop-append_seam}, lemmas.Bool.{and_parts, eqb-true, lt-ltb}}
+use Rattle.std.proofs.lemmas.{List.{append-nil}, Str.{encodes-append, length-encode}}
+use Rattle.std.specs.{Char.{encode_utf8, len_utf8, is_ascii_digit}, Option.{is_some}, Str.{encode_utf8_all}}
 use Rattle.std.proofs.lemmas.Grind.{common_steps}
 use Rattle.rustc_lexer.specs.declared.lexemes.raw.RawPrefix.{RawPrefix}
 use Rattle.rustc_lexer.specs.declared.lexemes.raw.RawPrefix.TheVariants.{R, Br, Cr}
@@ -93,7 +89,9 @@ ReadsLiteral next kind takes w = Read (Literal kind (bytes w)) (length w + suffi
 pub plain-read : (next : List ℕ) (kind : LiteralKind) (w : List ℕ) → ReadsLiteral next kind false w → Read (Literal kind (bytes w)) (length w) (w ++ next)
 plain-read next kind w e = e ∙ pair _ _ _ _ refl (omega arith)
 
-pub with_suffix-read : (next : List ℕ) (kind : LiteralKind) (w suffix : List ℕ) → ReadsLiteral (suffix ++ next) kind true w → IsSuffixBefore next suffix → Read (Literal kind (bytes w)) (length (w ++ suffix)) (w ++ suffix ++ next)
+pub with_suffix-read : (next : List ℕ) (kind : LiteralKind) (w suffix : List ℕ)
+    → ReadsLiteral (suffix ++ next) kind true w → IsSuffixBefore next suffix
+    → Read (Literal kind (bytes w)) (length (w ++ suffix)) (w ++ suffix ++ next)
 with_suffix-read next kind w suffix e is = subst (λ (s : List ℕ). Read (Literal kind (bytes w)) (length (w ++ suffix)) s) (sym (append_assoc w suffix next)) (e ∙ pair _ _ _ _ refl (omega (arith, suffix-read is, length-append w suffix)))
 
 -- ---- strings
@@ -101,7 +99,9 @@ with_suffix-read next kind w suffix e is = subst (λ (s : List ℕ). Read (Liter
 pub str-sound : (s : List ℕ) → Sound 34 s (literal str_body s)
 str-sound s = literal-sound (34 ∷ []) 1 _ (double_quoted_string s).0 (double_quoted_string s).1 s (bytes-letter 34 refl) (lit.str (double-sound s))
 
-lettered-sound : (c d : ℕ) (kind : Bool → LiteralKind) (scan : List ℕ → Bool × ℕ) (s : List ℕ) → len_utf8 c ≡ 1 → IsLiteralBefore (drop (scan s).1 s) (kind (scan s).0) (scan s).0 (c ∷ d ∷ take (scan s).1 s) → Sound c (d ∷ s) (literal (after 1 (quoted_body kind scan)) (d ∷ s))
+lettered-sound : (c d : ℕ) (kind : Bool → LiteralKind) (scan : List ℕ → Bool × ℕ) (s : List ℕ) → len_utf8 c ≡ 1
+    → IsLiteralBefore (drop (scan s).1 s) (kind (scan s).0) (scan s).0 (c ∷ d ∷ take (scan s).1 s)
+    → Sound c (d ∷ s) (literal (after 1 (quoted_body kind scan)) (d ∷ s))
 lettered-sound c d kind scan s one is =
     let m : ℕ = (scan s).1 in
     let more : suc m ≡ 1 + m = omega arith in
@@ -123,7 +123,10 @@ c_str-sound = at-letter 99 34 (literal (after 1 c_str_body)) (λ s. lettered-sou
 pub str-reads : (next : List ℕ) (t : Bool) (w : List ℕ) → IsDoubleQuoted next t w → ReadsLiteral next (Str t) t (34 ∷ w)
 str-reads next t w q = grind (arith, common_steps, read-first, chooses-str, past-read, double-read, bytes-letter)
 
-lettered-reads : (c d : ℕ) (kind : Bool → LiteralKind) (scan : List ℕ → Bool × ℕ) (next : List ℕ) (t : Bool) (w : List ℕ) → is_id_start c ≡ true → len_utf8 c ≡ 1 → word c (d ∷ w ++ next) ≡ literal (after 1 (quoted_body kind scan)) (d ∷ w ++ next) → scan (w ++ next) ≡ (t, length w)
+lettered-reads : (c d : ℕ) (kind : Bool → LiteralKind) (scan : List ℕ → Bool × ℕ) (next : List ℕ) (t : Bool) (w : List ℕ)
+    → is_id_start c ≡ true → len_utf8 c ≡ 1
+    → word c (d ∷ w ++ next) ≡ literal (after 1 (quoted_body kind scan)) (d ∷ w ++ next)
+    → scan (w ++ next) ≡ (t, length w)
     → ReadsLiteral next (kind t) t (c ∷ d ∷ w)
 lettered-reads c d kind scan next t w start one is e =
     read-first c (word c) (d ∷ w ++ next) _ _ _ (chooses-word c start)
@@ -184,7 +187,9 @@ raw_str-reads next o w q free =
     read-first 114 (word 114) (w ++ next) (Literal (RawStr o) (bytes (114 ∷ w))) (length w + suffixed (is_some o) next) _ (chooses-word 114 letters-start.0)
     (rw (no_ident, raw-opens q) (past-read (114 ∷ []) w next 1 (RawStr o) (is_some o) (raw_body RawStr (w ++ next)) (raw-body RawStr next o w q) (bytes-letter 114 refl))) (omega arith)
 
-raw_past-reads : (c : ℕ) (prefix : RawPrefix) (next : List ℕ) (o : Option ℕ) (w : List ℕ) → is_id_start c ≡ true → len_utf8 c ≡ 1 → prefix_len prefix ≡ 2 → word c (114 ∷ w ++ next) ≡ after 1 (raw_literal prefix) (114 ∷ w ++ next) → IsRaw next o w
+raw_past-reads : (c : ℕ) (prefix : RawPrefix) (next : List ℕ) (o : Option ℕ) (w : List ℕ) → is_id_start c ≡ true
+    → len_utf8 c ≡ 1 → prefix_len prefix ≡ 2 → word c (114 ∷ w ++ next) ≡ after 1 (raw_literal prefix) (114 ∷ w ++ next)
+    → IsRaw next o w
     → ReadsLiteral next (prefix_kind prefix o) (is_some o) (c ∷ 114 ∷ w)
 raw_past-reads c prefix next o w start one two is q =
     read-first c (word c) (114 ∷ w ++ next) _ _ _ (chooses-word c start)

@@ -1,10 +1,8 @@
 -- Lone dashes: the pass over a text finds the first that the language has.
 use Rattle.std.proofs.Common.{◌≡◌, ℕ, zero, suc, ◌≤◌, ◌==◌, ◌&&◌, ◌||◌, not, inl, inr, Bool, true, false, true≢false, List, [], ◌∷◌, ◌++◌, reverse, length, take, drop, codes, refl, sym, ap, ◌∙◌, subst, arith, append_assoc, length-drop}
-use Rattle.std.proofs.Math.Bool.{and-false}
-use Rattle.std.proofs.Math.Seq.{take-append_seam, drop-append_seam}
+use Rattle.std.proofs.Math.{Bool.{and-false}, Seq.{take-append_seam, drop-append_seam}}
 use Rattle.std.proofs.lemmas.Bool.{and_parts, eqb-true, or_cases, not-true, false_from_ne_true}
-use Rattle.std.proofs.lemmas.List.{append-nil, reverse-append, reverse-reverse}
-use Rattle.std.proofs.lemmas.List.Folds.{list_all-append}
+use Rattle.std.proofs.lemmas.List.{append-nil, reverse-append, reverse-reverse, Folds.{list_all-append}}
 use Rattle.std.specs.List.{list_all}
 use Rattle.std.proofs.lemmas.Grind.{common_steps}
 use Rattle.rustc_lexer.specs.Classes.{is_horizontal_whitespace, Chars, AreAll}
@@ -134,7 +132,8 @@ lone-least zero blank r (c ∷ s) le at = absurd (omega arith)
 lone-least (suc fuel) blank r (c ∷ s) le at = by_either (begins (fence 3) (c ∷ s)) (λ e. three blank e at (lone-least fuel true (45 ∷ 45 ∷ 45 ∷ r) (drop 2 s) (omega (arith, length-drop 2 s))))
     (λ e. rw (e, and-false (standing r)) (ap one_more (lone-least fuel (blank_past blank c) (c ∷ r) s (omega arith) (over blank c r s e at))))
   where
-    three : (blank : Bool) → begins (fence 3) (c ∷ s) ≡ true → IsAt blank r (c ∷ s) → (IsAt true (45 ∷ 45 ∷ 45 ∷ r) (drop 2 s) → first_lone true 0 (drop 2 s) ≡ least (λ i. lone_at (45 ∷ 45 ∷ 45 ∷ r) i (drop 2 s)) (length (drop 2 s)))
+    three : (blank : Bool) → begins (fence 3) (c ∷ s) ≡ true → IsAt blank r (c ∷ s)
+        → (IsAt true (45 ∷ 45 ∷ 45 ∷ r) (drop 2 s) → first_lone true 0 (drop 2 s) ≡ least (λ i. lone_at (45 ∷ 45 ∷ 45 ∷ r) i (drop 2 s)) (length (drop 2 s)))
         → first_lone blank 0 (c ∷ s) ≡ least (λ i. lone_at r i (c ∷ s)) (length (c ∷ s))
     three true e at ih = rw (e, at.decided) refl
     three false e at ih =

@@ -1,8 +1,7 @@
 -- Quoted text is in its language, and what is there is read so.
 use Rattle.std.proofs.Common.{◌≡◌, ℕ, ◌==◌, ◌||◌, not, Bool, true, false, true≢false, List, [], ◌∷◌, ◌++◌, length, take, drop, codes, refl, sym, ap, ◌∙◌, subst, arith, take-append-drop}
 use Rattle.std.proofs.lemmas.Bool.{and_parts, eqb-true, not-true, or_parts, or_cases, or_from}
-use Rattle.std.proofs.Math.Bool.{and-true, or-false}
-use Rattle.std.proofs.lemmas.Grind.{common_steps}
+use Rattle.std.proofs.{Math.Bool.{and-true, or-false}, lemmas.Grind.{common_steps}}
 use Rattle.rustc_lexer.specs.Classes.{is_among, NextIn}
 use Rattle.rustc_lexer.specs.laws.Choice.{by_either}
 use Rattle.rustc_lexer.specs.LiteralGrammar as lit
@@ -99,7 +98,9 @@ no-lone_stop : {end w : List ℕ} → SingleTo end w → (next : List ℕ) → (
 no-lone_stop w0 next w1 = grind (arith, common_steps, or_parts)
 
 -- up to an end
-single-to : {end w : List ℕ} → SingleTo end w → (next : List ℕ) (t : Bool) → (w ≡ end → is_lone_stop (w ++ next) ≡ false) → past_quote (end ++ next) ≡ (t, length end) → single_quoted_string (w ++ next) ≡ (t, length w)
+single-to : {end w : List ℕ} → SingleTo end w → (next : List ℕ) (t : Bool)
+    → (w ≡ end → is_lone_stop (w ++ next) ≡ false) → past_quote (end ++ next) ≡ (t, length end)
+    → single_quoted_string (w ++ next) ≡ (t, length w)
 single-to {w = w} q next t free e = single-free (w ++ next) (no-lone_stop q next free) ∙ quoted-read 39 at_single_stop is_single single-goes single-straight (λ s. refl) q next t e
 
 -- the character that is next, where it is this one

@@ -2,11 +2,10 @@
 use Rattle.std.proofs.Common.{◌≡◌, ℕ, zero, suc, ◌+◌, ◌≤◌, ◌==◌, nat_le, true, false, true≢false, List, [], ◌∷◌, ◌++◌, length, take, drop, codes, refl, sym, ap, ◌∙◌, subst, arith, append_assoc, length-append, Option, Some, None, Err}
 use Rattle.std.proofs.Math.Seq.{drop-append_seam}
 use Rattle.std.proofs.lemmas.Bool.{and_parts, eqb-true, or_parts, or_from, leb-true, leb-false, le-leb, lt-leb, false_from_ne_true}
-use Rattle.std.proofs.lemmas.List.{append-nil}
-use Rattle.std.proofs.lemmas.Grind.{common_steps}
+use Rattle.std.proofs.lemmas.{List.{append-nil}, Grind.{common_steps}}
 use Rattle.rustc_lexer.specs.Classes.{is_among, NextIs, NextIsNot}
 use Rattle.rustc_lexer.specs.laws.Choice.{by_either}
-use Rattle.rustc_lexer.specs.laws.LanguageRuns.{either-way, parted, run-stops}
+use Rattle.rustc_lexer.specs.laws.LanguageRuns.{parted, run-stops}
 use Rattle.rustc_lexer.specs.laws.Reach.{run_len-none}
 use Rattle.rustc_lexer.specs.{InvalidStarter, NoTerminator}
 use Rattle.rustc_lexer.specs.LiteralGrammar as lit

@@ -2,8 +2,7 @@
 use Rattle.std.proofs.Common.{◌≡◌, ℕ, ◌<◌, ◌==◌, ◌&&◌, if◌then◌else◌, Bool, true, false, true≢false, List, [], ◌∷◌, ◌++◌, take, codes, refl, sym, ap, ◌∙◌, subst, arith, Option, None, bytes_eq}
 use Rattle.std.proofs.lemmas.Bool.{and_parts, or_parts, eqb-true}
 use Rattle.std.specs.List.{list_all, list_any}
-use Rattle.std.proofs.Math.Bool.{and-false, and-true}
-use Rattle.std.proofs.lemmas.Grind.{common_steps}
+use Rattle.std.proofs.{Math.Bool.{and-false, and-true}, lemmas.Grind.{common_steps}}
 use Rattle.rustc_lexer.specs.Classes.{is_ident, AreAll, NextIs, NextIsNot, is_word_continue, is_name_start, begins_ident_after, ends_prefix}
 use Rattle.unicode_ident.proofs.Computing.{unicode_ident}
 use Rattle.rustc_lexer.specs.{Base, LiteralKind, Int, Float, Char, Literal, UnknownPrefix}
@@ -44,7 +43,9 @@ pub reach-literal : (kind : LiteralKind) (suffix_start : ℕ) (w : List ℕ) →
 reach-literal kind suffix_start w = grind (arith, common_steps)
 
 -- of each number, what is of an integer and of a float
-pub number-kind : (P : LiteralKind → Type 0) → ((base : Base) (empty : Bool) → P (Int base empty)) → ((base : Base) (empty : Bool) → P (Float base empty)) → {next : List ℕ} {kind : LiteralKind} {w : List ℕ} → HasNumberForm next kind w → P kind
+pub number-kind : (P : LiteralKind → Type 0) → ((base : Base) (empty : Bool) → P (Int base empty))
+    → ((base : Base) (empty : Bool) → P (Float base empty)) → {next : List ℕ} {kind : LiteralKind} {w : List ℕ}
+    → HasNumberForm next kind w → P kind
 number-kind P int float (number.of_prefix {base} whole) = int base true
 number-kind P int float (number.of_parts whole (number.nothing {base = base})) = int base false
 number-kind P int float (number.of_parts whole (number.dot {base = base} free)) = float base false
@@ -58,7 +59,8 @@ number-kind P int float (number.of_parts whole (number.of_both ds digit are (num
 number-reach : {next : List ℕ} {kind : LiteralKind} {w : List ℕ} → HasNumberForm next kind w → (v : List ℕ) → literal_reach kind v ≡ number_reach kind
 number-reach is v = number-kind (λ kind. literal_reach kind v ≡ number_reach kind) (λ base empty. refl) (λ base empty. refl) is
 
-number-stays : {next : List ℕ} {kind : LiteralKind} (w : List ℕ) → HasDigit w → IsNumberBefore next kind w → (other : List ℕ) → take (number_reach kind) other ≡ take (number_reach kind) next → IsNumberBefore other kind w
+number-stays : {next : List ℕ} {kind : LiteralKind} (w : List ℕ) → HasDigit w → IsNumberBefore next kind w
+    → (other : List ℕ) → take (number_reach kind) other ≡ take (number_reach kind) next → IsNumberBefore other kind w
 number-stays {next} {kind} w d is other e = subst (IsNumberBefore other kind) (sym d.whole) (number-alike d.first d.rest d.digit (subst (IsNumberBefore next kind) d.whole is) other e)
 
 double-alike : {next : List ℕ} {t : Bool} {w : List ℕ} → IsDoubleQuoted next t w → (other : List ℕ) → take 1 other ≡ take 1 next → IsDoubleQuoted other t w
@@ -100,7 +102,9 @@ closed-reach w q stop s = let first : next_is is_name_start (w ++ s) ≡ false =
 pub literal-looks : {next : List ℕ} {kind : LiteralKind} {takes : Bool} {w : List ℕ} → IsLiteralBefore next kind takes w → takes ≡ true → (s : List ℕ) → 0 < literal_reach kind (w ++ s)
 literal-looks w0 w1 s = grind (arith, common_steps, number-reach, number-looks, and-false, closed-reach)
 
-pub literal-alike : {next : List ℕ} {kind : LiteralKind} {takes : Bool} {w : List ℕ} → IsLiteralBefore next kind takes w → (s other : List ℕ) → take (literal_reach kind (w ++ s)) other ≡ take (literal_reach kind (w ++ s)) next → IsLiteralBefore other kind takes w
+pub literal-alike : {next : List ℕ} {kind : LiteralKind} {takes : Bool} {w : List ℕ} → IsLiteralBefore next kind takes w
+    → (s other : List ℕ) → take (literal_reach kind (w ++ s)) other ≡ take (literal_reach kind (w ++ s)) next
+    → IsLiteralBefore other kind takes w
 literal-alike {next} (lit.number {kind} {w} is) s other e = lit.number (number-stays w (number-digit is) is other (subst (λ (k : ℕ). take k other ≡ take k next) (number-reach is.form (w ++ s)) e))
 literal-alike {next} (lit.str q) s other e = lit.str (double-alike q other e)
 literal-alike {next} (lit.byte_str q) s other e = lit.byte_str (double-alike q other e)
@@ -125,13 +129,15 @@ no-hash d c (x ∷ w) s all e =
     rw (none, and-false (c == d)) refl
 
 -- a known prefix is decided by what ends it: letters, and then any character that ends a prefix
-prefix_end-decided : (letters w : List ℕ) (m c : ℕ) (u v : List ℕ) → list_all is_word_continue letters ≡ true → ends_prefix c ≡ true → begins (letters ++ (m ∷ [])) (w ++ c ∷ v) ≡ begins (letters ++ (m ∷ [])) (w ++ c ∷ u)
+prefix_end-decided : (letters w : List ℕ) (m c : ℕ) (u v : List ℕ) → list_all is_word_continue letters ≡ true
+    → ends_prefix c ≡ true → begins (letters ++ (m ∷ [])) (w ++ c ∷ v) ≡ begins (letters ++ (m ∷ [])) (w ++ c ∷ u)
 prefix_end-decided [] [] m c u v all is_end = refl
 prefix_end-decided [] (x ∷ w) m c u v all is_end = refl
 prefix_end-decided (l ∷ ls) [] m c u v all is_end = grind (arith, common_steps, eqb-true, word-no_prefix_end, and_parts)
 prefix_end-decided (l ∷ ls) (x ∷ w) m c u v all is_end = ap (λ (b : Bool). (x == l) && b) (prefix_end-decided ls w m c u v (and_parts (is_word_continue l) (list_all is_word_continue ls) all).1 is_end)
 
-pub known-decided : (w : List ℕ) (c : ℕ) (u v : List ℕ) → ends_prefix c ≡ true → list_any (λ prefix. begins prefix (w ++ c ∷ v)) known_prefixes ≡ list_any (λ prefix. begins prefix (w ++ c ∷ u)) known_prefixes
+pub known-decided : (w : List ℕ) (c : ℕ) (u v : List ℕ) → ends_prefix c ≡ true
+    → list_any (λ prefix. begins prefix (w ++ c ∷ v)) known_prefixes ≡ list_any (λ prefix. begins prefix (w ++ c ∷ u)) known_prefixes
 unfolding unicode_ident
 known-decided w c u v is_end = rw (
   prefix_end-decided (codes "r") w 34 c u v refl is_end,
@@ -146,7 +152,9 @@ known-decided w c u v is_end = rw (
 ) refl
 
 -- by whether a prefix is the one that looks further
-pub by_only : {A : Type 0} (b : Bool) (other next : List ℕ) → take (if b then 2 else 1) other ≡ take (if b then 2 else 1) next → (b ≡ true → take 2 other ≡ take 2 next → A) → (b ≡ false → take 1 other ≡ take 1 next → A) → A
+pub by_only : {A : Type 0} (b : Bool) (other next : List ℕ)
+    → take (if b then 2 else 1) other ≡ take (if b then 2 else 1) next → (b ≡ true → take 2 other ≡ take 2 next → A)
+    → (b ≡ false → take 1 other ≡ take 1 next → A) → A
 by_only true other next e two one = two refl e
 by_only false other next e two one = one refl e
 
@@ -156,10 +164,13 @@ one-letter [] d e = absurd (true≢false (sym e))
 one-letter (c ∷ []) d e = ap (λ (x : ℕ). x ∷ []) (eqb-true c d (and_parts (c == d) true e).0)
 one-letter (c ∷ x ∷ w) d e = absurd (true≢false (sym (and_parts (c == d) false e).1))
 
-pub unknown_k : (next other w : List ℕ) → bytes_eq w (codes "k") ≡ true → is_ident w ≡ true → NextIs ends_prefix other → take 2 other ≡ take 2 next → begins_prefixed (w ++ next) ≡ false → IsTokenBefore other UnknownPrefix w
+pub unknown_k : (next other w : List ℕ) → bytes_eq w (codes "k") ≡ true → is_ident w ≡ true → NextIs ends_prefix other
+    → take 2 other ≡ take 2 next → begins_prefixed (w ++ next) ≡ false → IsTokenBefore other UnknownPrefix w
 unknown_k next other w is_k is go two free =
     let k : w ≡ 107 ∷ [] = one-letter w 107 is_k in
     the.unknown_prefix is go (ap (λ (xs : List ℕ). begins_prefixed (xs ++ other)) k ∙ (decided_same 2 2 begins_hash_ident other next begins_hash_ident-decided (omega arith) two ∙ (ap (λ (xs : List ℕ). begins_prefixed (xs ++ next)) (sym k) ∙ free)))
 
-pub raw_ident-decided_by : (w : List ℕ) → bytes_eq w (114 ∷ []) ≡ true → (next other : List ℕ) → take 2 other ≡ take 2 next → begins_ident_after (codes "r#") (w ++ next) ≡ false → begins_ident_after (codes "r#") (w ++ other) ≡ false
+pub raw_ident-decided_by : (w : List ℕ) → bytes_eq w (114 ∷ []) ≡ true → (next other : List ℕ)
+    → take 2 other ≡ take 2 next → begins_ident_after (codes "r#") (w ++ next) ≡ false
+    → begins_ident_after (codes "r#") (w ++ other) ≡ false
 raw_ident-decided_by w is_r next other two free = grind (arith, common_steps, one-letter, decided_same, begins_hash_ident-decided)

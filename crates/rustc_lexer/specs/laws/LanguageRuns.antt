@@ -2,8 +2,7 @@
 use Rattle.std.proofs.Common.{◌≡◌, ℕ, suc, ◌≤◌, ◌<◌, ◌==◌, ◌&&◌, ◌||◌, inl, inr, nat_le, not, Bool, true, false, true≢false, List, [], ◌∷◌, ◌++◌, length, take, drop, codes, refl, sym, ap, ◌∙◌, arith, take_all}
 use Rattle.std.proofs.Math.Seq.{take-append_seam, drop-append_seam}
 use Rattle.std.proofs.lemmas.Bool.{agree_below_at, and_parts, eqb-true, leb-true, ne_eqb, or_cases, or_parts, or_left, or_right, not-true, false_from_ne_true}
-use Rattle.std.specs.Char.{is_ascii_digit}
-use Rattle.std.specs.List.{list_all}
+use Rattle.std.specs.{Char.{is_ascii_digit}, List.{list_all}}
 use Rattle.std.proofs.lemmas.Grind.{common_steps}
 use Rattle.unicode_ident.proofs.Computing.{unicode_ident}
 use Rattle.rustc_lexer.specs.declared.lexemes.family.Family.{Family}

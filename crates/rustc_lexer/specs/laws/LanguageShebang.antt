@@ -1,12 +1,9 @@
 -- What is taken for a shebang line is what the language says, and nothing else is.
-use Rattle.std.proofs.Common.{◌≡◌, ◌↔◌, ℕ, suc, ◌+◌, ◌-◌, ◌==◌, ◌&&◌, ◌||◌, not, Bool, true, false, true≢false, if◌then◌else◌, List, [], ◌∷◌, ◌++◌, length, get_or, take, drop, codes, refl, sym, ap, ◌∙◌, subst, arith, length-append, Option, Some, None}
+use Rattle.std.proofs.Common.{◌≡◌, ◌↔◌, ℕ, suc, ◌+◌, ◌==◌, ◌&&◌, ◌||◌, not, Bool, true, false, true≢false, if◌then◌else◌, List, [], ◌∷◌, ◌++◌, length, get_or, take, drop, codes, refl, sym, ap, ◌∙◌, subst, arith, length-append, Option, Some, None}
 use lib.Utf8.{encode}
-use Rattle.std.proofs.lemmas.Bool.{and_parts, eqb-true, not-true}
-use Rattle.std.proofs.lemmas.Str.{IsUtf8-drop, IsCharBoundary-from_take}
-use Rattle.std.specs.List.{list_all, Contains}
-use Rattle.std.specs.Str.{chars, encode_utf8_all, IsUtf8}
-use Rattle.std.proofs.Math.Bool.{and-false}
-use Rattle.std.proofs.lemmas.Grind.{common_steps}
+use Rattle.std.proofs.lemmas.{Bool.{and_parts, eqb-true, not-true}, Str.{IsUtf8-drop, IsCharBoundary-from_take}}
+use Rattle.std.specs.{List.{list_all, Contains}, Str.{chars, encode_utf8_all, IsUtf8}}
+use Rattle.std.proofs.{Math.Bool.{and-false}, lemmas.Grind.{common_steps}}
 use Rattle.unicode_ident.proofs.Computing.{unicode_ident}
 use Rattle.rustc_lexer.specs.{Token, TokenKind, LineComment, BlockComment, Whitespace, OpenBracket}
 use Rattle.rustc_lexer.specs.LanguageText.{AreTokens, newest, nothing, part, something}
@@ -74,7 +71,9 @@ bracket-view (grammar.symbol {c} is) e = ap (λ (x : ℕ). x ∷ []) (among-brac
 bracket-view other e = absurd (true≢false (sym e))
 
 -- by what the first token is
-attribute-first : (kind : TokenKind) (c : ℕ) (w next : List ℕ) (tokens : List Token) → IsTokenBefore next kind (c ∷ w) → has_bracket kind tokens ≡ true → (is_attribute tokens ≡ true → IsAttributeRest next) → IsAttributeRest (c ∷ w ++ next)
+attribute-first : (kind : TokenKind) (c : ℕ) (w next : List ℕ) (tokens : List Token) → IsTokenBefore next kind (c ∷ w)
+    → has_bracket kind tokens ≡ true → (is_attribute tokens ≡ true → IsAttributeRest next)
+    → IsAttributeRest (c ∷ w ++ next)
 attribute-first Whitespace c w next tokens p e rest = the.passed (0, omega arith, refl) p (rest e)
 attribute-first (LineComment None) c w next tokens p e rest = the.passed (1, omega arith, refl) p (rest e)
 attribute-first (LineComment (Some style)) c w next tokens p e rest = absurd (true≢false (sym e))

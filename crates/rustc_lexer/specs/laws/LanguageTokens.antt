@@ -1,7 +1,6 @@
 -- The tokens of a text are those that the language allows, and no other list of tokens is.
 use Rattle.std.proofs.Common.{◌≡◌, ◌↔◌, ℕ, ◌+◌, ◌<◌, ◌≤◌, not, codes, append_assoc, Bool, true, false, List, [], ◌∷◌, ◌++◌, length, take, drop, refl, sym, ap, ◌∙◌, subst, arith, length-append}
-use Rattle.std.proofs.Math.Seq.{take-append_seam, drop-append_seam}
-use Rattle.std.proofs.lemmas.Str.{chars-nil}
+use Rattle.std.proofs.{Math.Seq.{take-append_seam, drop-append_seam}, lemmas.Str.{chars-nil}}
 use Rattle.std.specs.Str.{chars, encode_utf8_all}
 use Rattle.std.proofs.lemmas.Grind.{common_steps}
 use Rattle.rustc_lexer.specs.{Edition, Token, TokenKind, Frontmatter}
@@ -81,7 +80,9 @@ abbrev Puts : Mode → List ℕ → Token → Type 0
 Puts mode text t = AreTokens (mode_after mode t.kind) (chars (drop t.len text)) (read_tokens (mode_after mode t.kind) (drop t.len text)) → AreTokens mode (chars text) (t ∷ read_tokens (mode_after mode t.kind) (drop t.len text))
 
 -- a token of the characters, and the tokens of what follows it
-put : (mode : Mode) (text : List ℕ) (kind : TokenKind) (c : ℕ) (w next : List ℕ) → IsText text → c ∷ w ++ next ≡ chars text → IsTokenIn (mode_edition mode) next kind (c ∷ w) → (is_source mode ≡ true → opens (chars text) ≡ false) → Puts mode text (token kind (bytes (c ∷ w)))
+put : (mode : Mode) (text : List ℕ) (kind : TokenKind) (c : ℕ) (w next : List ℕ) → IsText text
+    → c ∷ w ++ next ≡ chars text → IsTokenIn (mode_edition mode) next kind (c ∷ w)
+    → (is_source mode ≡ true → opens (chars text) ≡ false) → Puts mode text (token kind (bytes (c ∷ w)))
 put mode text kind c w next is whole p free rest =
     grind (arith, common_steps, split text (c ∷ w) next is (sym whole), (split text (c ∷ w) next is (sym whole)).left, (split text (c ∷ w) next is (sym whole)).again, rest, whole, something, opens-none)
 

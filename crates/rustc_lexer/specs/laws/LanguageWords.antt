@@ -9,7 +9,7 @@ use Rattle.rustc_lexer.specs.{TokenKind, Ident, InvalidIdent, RawIdent, ForcedKe
 use Rattle.rustc_lexer.specs.Classes.{is_id_start, is_id_continue, is_ident, is_word_continue, is_word_start, begins_ident_after, AreAll, NextIs, NextIsNot, ends_prefix}
 use Rattle.rustc_lexer.specs.Tables.{is_emoji, emoji_ranges}
 use Rattle.rustc_lexer.specs.means.Ident.{ident_kind, ident_or_unknown_prefix, invalid_ident, begins_hash_ident, hash_ident_or}
-use Rattle.rustc_lexer.specs.laws.LanguageRuns.{run_len-here, run-stops, either-way, Sound, Read, read-first, begins-next, chooses-word, chooses-emoji, word-no_prefix_end, prefix_end-stops, start-word_start, letters-start}
+use Rattle.rustc_lexer.specs.laws.LanguageRuns.{run_len-here, run-stops, Sound, Read, read-first, begins-next, chooses-word, chooses-emoji, word-no_prefix_end, prefix_end-stops, start-word_start, letters-start}
 use Rattle.rustc_lexer.specs.laws.Reach.{run_all}
 use Rattle.rustc_lexer.specs.Language as the
 use Rattle.rustc_lexer.specs.Language.{IsTokenBefore, begins_prefixed}
@@ -63,7 +63,9 @@ record IsWholeWord (f w next : List ℕ) : Type 0 where
   same : w ≡ f
   at_prefix_end : NextIs ends_prefix next
 
-whole-word : (f : List ℕ) (m : ℕ) (w next : List ℕ) → ends_prefix m ≡ true → AreAll is_word_continue f → AreAll is_word_continue w → NextIsNot is_word_continue next → begins (f ++ m ∷ []) (w ++ next) ≡ true → IsWholeWord f w next
+whole-word : (f : List ℕ) (m : ℕ) (w next : List ℕ) → ends_prefix m ≡ true → AreAll is_word_continue f
+    → AreAll is_word_continue w → NextIsNot is_word_continue next → begins (f ++ m ∷ []) (w ++ next) ≡ true
+    → IsWholeWord f w next
 whole-word [] m [] [] is_end fs ws stop e = absurd (true≢false (sym e))
 whole-word [] m [] (d ∷ next) is_end fs ws stop e = record { same = refl; at_prefix_end = ap ends_prefix (eqb-true d m (and_parts (d == m) true e).0) ∙ is_end }
 whole-word [] m (d ∷ w) next is_end fs ws stop e = grind (arith, common_steps, eqb-true, and_parts, word-no_prefix_end)
@@ -103,7 +105,9 @@ pub continue-word : (w : List ℕ) → AreAll is_id_continue w → AreAll is_wor
 continue-word [] all = refl
 continue-word (c ∷ w) all = let parts = and_parts (is_id_continue c) (list_all is_id_continue w) all in rw parts.0 (continue-word w parts.1)
 
-plain-read : (c : ℕ) (w next : List ℕ) (kind : TokenKind) → is_id_start c ≡ true → AreAll is_word_continue w → NextIsNot is_word_continue next → begins_prefixed (c ∷ w ++ next) ≡ false → ident_kind w next ≡ kind → Read kind (suc (length w)) (c ∷ w ++ next)
+plain-read : (c : ℕ) (w next : List ℕ) (kind : TokenKind) → is_id_start c ≡ true → AreAll is_word_continue w
+    → NextIsNot is_word_continue next → begins_prefixed (c ∷ w ++ next) ≡ false → ident_kind w next ≡ kind
+    → Read kind (suc (length w)) (c ∷ w ++ next)
 plain-read c w next kind start all stop free is = grind (arith, common_steps, read-first, chooses-word, word-plain, run_len-here, take-append_seam, drop-append_seam)
 
 pub ident-is_read : (w next : List ℕ) → is_ident w ≡ true → NextIsNot is_word_continue next → NextIsNot ends_prefix next → Read Ident (length w) (w ++ next)
@@ -112,11 +116,13 @@ ident-is_read w0 next is stop none = grind (arith, common_steps, and_parts, cont
 pub prefix-read : (w next : List ℕ) → is_ident w ≡ true → NextIs ends_prefix next → begins_prefixed (w ++ next) ≡ false → Read UnknownPrefix (length w) (w ++ next)
 prefix-read w0 next is goes free = grind (arith, common_steps, and_parts, plain-read, continue-word, prefix_end-stops)
 
-pub invalid-read : (c : ℕ) (w next : List ℕ) → is_word_start c ≡ true → AreAll is_word_continue w → is_ident (c ∷ w) ≡ false → NextIsNot is_word_continue next → Read InvalidIdent (suc (length w)) (c ∷ w ++ next)
+pub invalid-read : (c : ℕ) (w next : List ℕ) → is_word_start c ≡ true → AreAll is_word_continue w
+    → is_ident (c ∷ w) ≡ false → NextIsNot is_word_continue next → Read InvalidIdent (suc (length w)) (c ∷ w ++ next)
 invalid-read c w next start all wrong stop = grind (arith, plain-read, word-no_opening, read-first, chooses-emoji, run_len-here)
 
 -- past a hash
-hash_ident-read : (kind : TokenKind) (other : List ℕ → TokenKind × ℕ) (w next : List ℕ) → is_ident w ≡ true → NextIsNot is_id_continue next → hash_ident_or kind other (35 ∷ w ++ next) ≡ (kind, suc (length w))
+hash_ident-read : (kind : TokenKind) (other : List ℕ → TokenKind × ℕ) (w next : List ℕ) → is_ident w ≡ true
+    → NextIsNot is_id_continue next → hash_ident_or kind other (35 ∷ w ++ next) ≡ (kind, suc (length w))
 hash_ident-read kind other w2 next is stop = grind (arith, common_steps, and_parts, run_len-here)
 
 pub raw_ident-read : (w next : List ℕ) → is_ident w ≡ true → NextIsNot is_id_continue next → Read RawIdent (suc (suc (length w))) (114 ∷ 35 ∷ w ++ next)
@@ -136,7 +142,9 @@ ident-sound c start s free = by_kind (list_all is_id_continue (take n s)) (next_
     whole : c ∷ take n s ++ drop n s ≡ c ∷ s
     whole = ap (λ (xs : List ℕ). c ∷ xs) (take-append-drop n s)
 
-    by_kind : (plain at_prefix_end : Bool) → list_all is_id_continue (take n s) ≡ plain → next_is ends_prefix (drop n s) ≡ at_prefix_end → IsTokenBefore (drop n s) (if plain then (if at_prefix_end then UnknownPrefix else Ident) else InvalidIdent) (c ∷ take n s)
+    by_kind : (plain at_prefix_end : Bool) → list_all is_id_continue (take n s) ≡ plain
+        → next_is ends_prefix (drop n s) ≡ at_prefix_end
+        → IsTokenBefore (drop n s) (if plain then (if at_prefix_end then UnknownPrefix else Ident) else InvalidIdent) (c ∷ take n s)
     by_kind true true e f = the.unknown_prefix (rw (start, e) refl) f (ap begins_prefixed whole ∙ free)
     by_kind true false e f = the.ident (rw (start, e) refl) (run-stops is_word_continue s) f
     by_kind false at_prefix_end e f = the.invalid_ident (start-word_start c start) (run_all is_word_continue s) (rw (start, e) refl) (run-stops is_word_continue s)

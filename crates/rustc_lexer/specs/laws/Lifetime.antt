@@ -1,7 +1,6 @@
 -- How far a character or a lifetime looks past its end.
 use Rattle.std.proofs.Common.{ℕ, ◌+◌, ◌&&◌, not, true, if◌then◌else◌, List, ◌∷◌, length, codes}
-use Rattle.std.specs.Char.{is_ascii_digit}
-use Rattle.std.specs.Str.{encode_utf8_all}
+use Rattle.std.specs.{Char.{is_ascii_digit}, Str.{encode_utf8_all}}
 use Rattle.rustc_lexer.specs.{TokenKind, Char, Literal, Lifetime, RawLifetime, UnknownPrefixLifetime}
 use Rattle.rustc_lexer.specs.Classes.{is_id_continue, is_word_continue, is_bad_name}
 use Rattle.rustc_lexer.specs.means.Scan.{after, begins, gives, run, run_as}

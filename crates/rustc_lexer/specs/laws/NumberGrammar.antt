@@ -1,10 +1,7 @@
 -- The number that is read stands at the front of its text.
 use Rattle.std.proofs.Common.{◌≡◌, ℕ, suc, ◌+◌, ◌==◌, not, Bool, true, false, true≢false, if◌then◌else◌, List, [], ◌∷◌, ◌++◌, take, drop, refl, sym, ap, ◌∙◌, subst, take-add, drop-drop, arith, codes}
-use Rattle.std.proofs.lemmas.Bool.{and_parts, eqb-true, not-true, or_parts}
-use Rattle.std.proofs.lemmas.List.{append-nil}
-use Rattle.std.specs.Char.{is_ascii_digit}
-use Rattle.std.specs.List.{list_any}
-use Rattle.std.specs.Str.{byte}
+use Rattle.std.proofs.lemmas.{Bool.{and_parts, eqb-true, not-true, or_parts}, List.{append-nil}}
+use Rattle.std.specs.{Char.{is_ascii_digit}, List.{list_any}, Str.{byte}}
 use Rattle.std.proofs.lemmas.Grind.{common_steps}
 use Rattle.rustc_lexer.specs.{Base, LiteralKind, Binary, Octal, Hexadecimal, Int, Float}
 use Rattle.rustc_lexer.specs.laws.Choice.{by_test}
@@ -30,7 +27,9 @@ float_exponent-is base e s letter = by_test (λ (r : LiteralKind × ℕ). IsExpo
     at_sign (g ∷ s) t = subst (λ (xs : List ℕ). IsExponent base (past_sign base s).0 (e ∷ xs)) (take-one g (past_sign base s).1 s) (signed letter t (run_all (or_underscore is_ascii_digit) s))
 
 -- an exponent, or nothing, after a fraction
-optional_exponent-is : (next : List ℕ) (base : Base) (d : ℕ) (ds s : List ℕ) → is_ascii_digit d ≡ true → AreDigits is_ascii_digit ds → IsTailBefore next base (optional_exponent base s).0 (46 ∷ d ∷ ds ++ take (optional_exponent base s).1 s)
+optional_exponent-is : (next : List ℕ) (base : Base) (d : ℕ) (ds s : List ℕ) → is_ascii_digit d ≡ true
+    → AreDigits is_ascii_digit ds
+    → IsTailBefore next base (optional_exponent base s).0 (46 ∷ d ∷ ds ++ take (optional_exponent base s).1 s)
 optional_exponent-is next base d ds s digit are = by_test (λ (r : LiteralKind × ℕ). IsTailBefore next base r.0 (46 ∷ d ∷ ds ++ take r.1 s)) (next_is is_exponent_letter s) (after 1 (float_exponent base) s) (gives (Float base false) s) (at_letter s)
     (λ t. subst (λ (xs : List ℕ). IsTailBefore next base (Float base false) (46 ∷ d ∷ xs)) (sym (append-nil ds)) (of_fraction digit are))
   where
@@ -71,7 +70,8 @@ past_digits-is base s stops = by_test (λ (r : LiteralKind × ℕ). IsTailBefore
         subst (λ (next : List ℕ). IsTailBefore next base (fraction base s).0 (take (1 + (fraction base s).1) (c ∷ s))) (drop-one c (fraction base s).1 s)
         (subst (λ (xs : List ℕ). IsTailBefore (drop (fraction base s).1 s) base (fraction base s).0 xs) (ap (λ x. x ∷ take (fraction base s).1 s) (sym dot_is) ∙ take-one c (fraction base s).1 s) is)
 
-    at_letter : (next s : List ℕ) → next_is (is_digit_of base) s ≡ false → next_is is_exponent_letter s ≡ true → IsTailBefore next base (after 1 (float_exponent base) s).0 (take (after 1 (float_exponent base) s).1 s)
+    at_letter : (next s : List ℕ) → next_is (is_digit_of base) s ≡ false → next_is is_exponent_letter s ≡ true
+        → IsTailBefore next base (after 1 (float_exponent base) s).0 (take (after 1 (float_exponent base) s).1 s)
     at_letter next [] stops t = absurd (true≢false (sym t))
     at_letter next (e ∷ s) stops t = subst (λ (xs : List ℕ). IsTailBefore next base (float_exponent base s).0 xs) (take-one e (float_exponent base s).1 s) (of_exponent stops (float_exponent-is base e s t))
 
@@ -87,11 +87,14 @@ run-stops is_digit [] = refl
 run-stops is_digit (c ∷ s) = by_test (λ n. next_is is_digit (drop n (c ∷ s)) ≡ false) (or_underscore is_digit c) (suc (run_len (or_underscore is_digit) s)) 0 (λ t. run-stops is_digit s) (λ t. (or_parts (is_digit c) (is_underscore c) t).0)
 
 -- a prefix of a base and its digits
-past_prefix-is : (letter : ℕ) (base : Base) → ((ds : List ℕ) → AreDigits (is_digit_of base) ds → IsWholePart base (not (list_any (is_digit_of base) ds)) (48 ∷ letter ∷ ds)) → (s : List ℕ) → begins (letter ∷ []) s ≡ true
+past_prefix-is : (letter : ℕ) (base : Base)
+    → ((ds : List ℕ) → AreDigits (is_digit_of base) ds → IsWholePart base (not (list_any (is_digit_of base) ds)) (48 ∷ letter ∷ ds))
+    → (s : List ℕ) → begins (letter ∷ []) s ≡ true
     → Whole s (after 1 (read_as (prefixed base) (digits (is_digit_of base))) s)
 past_prefix-is letter base w0 s w1 = grind (arith, common_steps, eqb-true, and_parts, take-one, run_all, drop-one, run-stops)
 
-integer_part-is : (first : ℕ) (s : List ℕ) → is_ascii_digit first ≡ true → IsWholePart (integer_part first s).0.base (integer_part first s).0.empty_int (first ∷ take (integer_part first s).1 s) × (next_is (is_digit_of (integer_part first s).0.base) (drop (integer_part first s).1 s) ≡ false)
+integer_part-is : (first : ℕ) (s : List ℕ) → is_ascii_digit first ≡ true
+    → IsWholePart (integer_part first s).0.base (integer_part first s).0.empty_int (first ∷ take (integer_part first s).1 s) × (next_is (is_digit_of (integer_part first s).0.base) (drop (integer_part first s).1 s) ≡ false)
 integer_part-is first s digit =
     by_test (λ (r : IntegerPart × ℕ). IsWholePart r.0.base r.0.empty_int (first ∷ take r.1 s) × (next_is (is_digit_of r.0.base) (drop r.1 s) ≡ false)) (first == byte "0") (part_past_zero s) (decimal s)
     at_zero (λ t. (plain digit (run_all (or_underscore is_ascii_digit) s), run-stops is_ascii_digit s))
@@ -102,7 +105,8 @@ integer_part-is first s digit =
         (λ t. by_test (Whole s) (begins (codes "o") s) (after 1 octal s) _ (past_prefix-is 111 Octal (λ ds. with_o) s)
         (λ t. by_test (Whole s) (begins (codes "x") s) (after 1 hexadecimal s) (decimal s) (past_prefix-is 120 Hexadecimal (λ ds. with_x) s) (λ t. (plain refl (run_all (or_underscore is_ascii_digit) s), run-stops is_ascii_digit s))))
 
-    at_zero : (first == byte "0") ≡ true → IsWholePart (part_past_zero s).0.base (part_past_zero s).0.empty_int (first ∷ take (part_past_zero s).1 s) × (next_is (is_digit_of (part_past_zero s).0.base) (drop (part_past_zero s).1 s) ≡ false)
+    at_zero : (first == byte "0") ≡ true
+        → IsWholePart (part_past_zero s).0.base (part_past_zero s).0.empty_int (first ∷ take (part_past_zero s).1 s) × (next_is (is_digit_of (part_past_zero s).0.base) (drop (part_past_zero s).1 s) ≡ false)
     at_zero t = (subst (λ (x : ℕ). IsWholePart (part_past_zero s).0.base (part_past_zero s).0.empty_int (x ∷ take (part_past_zero s).1 s)) (sym (eqb-true first 48 t)) past_zero-is.0, past_zero-is.1)
 
 -- ---- a number

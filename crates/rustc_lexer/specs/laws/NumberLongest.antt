@@ -2,9 +2,7 @@
 use Rattle.std.proofs.Common.{◌≡◌, ℕ, suc, ◌+◌, ◌≤◌, ◌<◌, ◌==◌, ◌&&◌, ◌||◌, ◌⊎◌, inl, inr, not, Bool, true, false, true≢false, if◌then◌else◌, List, [], ◌∷◌, ◌++◌, length, take, drop, refl, sym, ap, ◌∙◌, subst, arith, codes, append_assoc, length-append, length-drop, take-append-drop, length-take}
 use Rattle.std.proofs.lemmas.Bool.{agree_below_at, and_parts, eqb-true, or_cases, or_parts}
 use Rattle.std.proofs.lemmas.List.{drop-append-le, take-append-le}
-use Rattle.std.specs.Char.{is_ascii_digit, is_ascii_hexdigit}
-use Rattle.std.specs.List.{list_any}
-use Rattle.std.specs.Str.{byte}
+use Rattle.std.specs.{Char.{is_ascii_digit, is_ascii_hexdigit}, List.{list_any}, Str.{byte}}
 use Rattle.std.proofs.lemmas.Grind.{common_steps}
 use Rattle.unicode_ident.proofs.Computing.{unicode_ident}
 use Rattle.rustc_lexer.specs.{Base, LiteralKind, Binary, Octal, Decimal, Hexadecimal, Int, Float}
@@ -379,7 +377,9 @@ begins_fraction-decided (c ∷ []) = refl
 begins_fraction-decided (c ∷ d ∷ s) = refl
 
 -- a number stays one before a text that begins alike
-pub number-alike : {next : List ℕ} {kind : LiteralKind} (first : ℕ) (v : List ℕ) → is_ascii_digit first ≡ true → IsNumberBefore next kind (first ∷ v) → (other : List ℕ) → take (number_reach kind) other ≡ take (number_reach kind) next → IsNumberBefore other kind (first ∷ v)
+pub number-alike : {next : List ℕ} {kind : LiteralKind} (first : ℕ) (v : List ℕ) → is_ascii_digit first ≡ true
+    → IsNumberBefore next kind (first ∷ v) → (other : List ℕ)
+    → take (number_reach kind) other ≡ take (number_reach kind) next → IsNumberBefore other kind (first ∷ v)
 number-alike {next} {kind} first v digit is other alike =
     number-before first v digit is other (λ p solid. decided_same 1 (number_reach kind) (next_is p) other next (next_is-decided p) (number-looks kind) alike)
     (λ base e. decided_same 2 (number_reach kind) begins_fraction other next begins_fraction-decided

@@ -1,9 +1,7 @@
 -- What `==` of two tokens, or of two heads, tells: that they are the same.
 use Rattle.std.proofs.Common.{rules, ◌≡◌, ◌↔◌, IsTrue, Bool, true, false, true≢false, refl, sym, ap, ◌∙◌, ◌==◌, List, [], ◌∷◌, Option, ◌&&◌, inl, inr, arith}
-use Rattle.std.specs.Cmp.Derive.{of_values}
-use Rattle.std.specs.Option.{option_eq}
-use Rattle.std.proofs.lemmas.Bool.{and_parts, eqb-true}
-use Rattle.std.proofs.lemmas.Grind.{common_steps}
+use Rattle.std.specs.{Cmp.Derive.{of_values}, Option.{option_eq}}
+use Rattle.std.proofs.lemmas.{Bool.{and_parts, eqb-true}, Grind.{common_steps}}
 use denote.Enum.Bare.{same_true}
 use denote.Enum.Compared.{Each, by}
 use denote.Enum.Declared.{Record, Choice, values_one}
@@ -12,7 +10,6 @@ use mathlib.Core.Bool.{beq}
 use Rattle.rustc_lexer.specs.contracts.head.HeadEq.TheImpl.Laws as equal
 use Rattle.rustc_lexer.specs.contracts.head.HeadPartialEq.TheImpl as head
 use Rattle.rustc_lexer.specs.contracts.token.DocStyle as doc_style
-use Rattle.rustc_lexer.specs.contracts.token.LiteralKindPartialEq.TheImpl as literal
 use Rattle.rustc_lexer.specs.contracts.token.TokenEq.TheImpl.Laws as token_equal
 use Rattle.rustc_lexer.specs.contracts.token.TokenKind as token_kind
 use Rattle.rustc_lexer.specs.contracts.token.TokenKindPartialEq.TheImpl as kind
@@ -85,7 +82,9 @@ decided_same answer a b decided = (λ t. same_token a b (sym decided ∙ t), λ 
 
 -- ---- heads
 
-heads_by : (E : Option Token → Option Token → Bool) → ((x y : Option Token) → E x y ≡ true → x ≡ y) → (a b : Head) → (a.shebang_len == b.shebang_len && (a.space_len == b.space_len && (E a.frontmatter b.frontmatter && a.body == b.body))) ≡ true → a ≡ b
+heads_by : (E : Option Token → Option Token → Bool) → ((x y : Option Token) → E x y ≡ true → x ≡ y) → (a b : Head)
+    → (a.shebang_len == b.shebang_len && (a.space_len == b.space_len && (E a.frontmatter b.frontmatter && a.body == b.body))) ≡ true
+    → a ≡ b
 heads_by E tells a b e = grind (arith, common_steps, and_parts, eqb-true)
 
 abbrev pub is_same_head : Head → Head → Bool

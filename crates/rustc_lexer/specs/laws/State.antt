@@ -1,7 +1,6 @@
 -- The state after a token.
 use Rattle.std.proofs.Common.{◌≡◌, ℕ, ◌==◌, true, false, List, length, drop, ap, ◌∙◌, arith, zero-add, IsCharBoundary}
-use Rattle.std.proofs.lemmas.Bool.{eqb-true}
-use Rattle.std.proofs.lemmas.Grind.{common_steps}
+use Rattle.std.proofs.lemmas.{Bool.{eqb-true}, Grind.{common_steps}}
 use Rattle.rustc_lexer.specs.{Token, TokenKind, Eof}
 use Rattle.rustc_lexer.specs.LanguageText.{Mode, mode_after, mode_edition}
 use Rattle.rustc_lexer.specs.State.{State, token_past}

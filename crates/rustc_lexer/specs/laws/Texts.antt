@@ -1,9 +1,7 @@
 -- What follows from the agreement of two texts, and from the parts of one.
 use Rattle.std.proofs.Common.{◌≡◌, ℕ, zero, suc, ◌≤◌, true, List, [], ◌∷◌, length, take, drop, refl, ap, arith, length-drop, length-take, IsUtf8}
 use lib.Utf8.{scalars, scalar}
-use Rattle.std.proofs.lemmas.Str.{IsCharBoundary-from_take, IsUtf8-drop}
-use Rattle.std.proofs.lemmas.Bool.{and_parts}
-use Rattle.std.proofs.lemmas.Grind.{common_steps}
+use Rattle.std.proofs.lemmas.{Str.{IsCharBoundary-from_take, IsUtf8-drop}, Bool.{and_parts}, Grind.{common_steps}}
 use Rattle.rustc_lexer.specs.Classes.{IsText}
 use Rattle.rustc_lexer.specs.Locality.{AgreePast}
 

@@ -2,8 +2,7 @@
 use Rattle.std.proofs.Common.{◌≡◌, ℕ, zero, suc, ◌<◌, ◌≤◌, List, [], ◌∷◌, length, drop, refl, ap, arith, length-drop}
 use Rattle.std.specs.Str.{IsCharBoundary}
 use Rattle.std.proofs.lemmas.Str.{IsCharBoundary-start, IsCharBoundary-from_rest, IsUtf8-take}
-use Rattle.std.proofs.lemmas.List.Elements.{All-nil, All-cons}
-use Rattle.std.proofs.lemmas.Grind.{common_steps}
+use Rattle.std.proofs.lemmas.{List.Elements.{All-nil, All-cons}, Grind.{common_steps}}
 use Rattle.rustc_lexer.specs.{Token}
 use Rattle.rustc_lexer.specs.Partition.{bound, Partitions}
 use Rattle.rustc_lexer.specs.means.Tokens.{cut, tokens_of_source, read_tokens}

@@ -1,6 +1,5 @@
 -- Means, by how it is read: runs of bytes in the ASCII part of a class.
-use Rattle.std.specs.Prelude.{ℕ, Bool, not, ◌||◌, ◌&&◌, ◌==◌, nat_lt, nat_le}
-use Rattle.std.specs.Char.{is_ascii_alphanumeric}
+use Rattle.std.specs.{Prelude.{ℕ, Bool, not, ◌||◌, ◌&&◌, ◌==◌, nat_lt, nat_le}, Char.{is_ascii_alphanumeric}}
 
 -- what an identifier goes on with
 abbrev pub is_continue_byte : ℕ → Bool

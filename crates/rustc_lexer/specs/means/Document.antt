@@ -1,6 +1,5 @@
 -- Means, by how it is read: the head of a document, and what an edit keeps of the document by it.
-use Rattle.std.specs.Prelude.{ℕ, ◌+◌, ◌-◌, ◌≤◌, ◌≡◌, if◌then◌else◌, List, ◌++◌, length, take, drop, max, Option, Some, None, Result, Ok, Err, Bool, true, false, IsCharBoundary}
-use Rattle.std.specs.Str.{IsUtf8}
+use Rattle.std.specs.Prelude.{ℕ, ◌+◌, ◌-◌, ◌≤◌, ◌≡◌, if◌then◌else◌, List, length, take, drop, max, Option, Some, None, Result, Ok, Err, Bool, true, false, IsCharBoundary}
 use Rattle.rustc_lexer.specs.declared.relex.checkpoints.Checkpoints.{Checkpoints}
 use Rattle.rustc_lexer.specs.declared.head.Head.{Head}
 use Rattle.rustc_lexer.specs.declared.relex.relexing.{Change.Change, Relexed.Relexed}

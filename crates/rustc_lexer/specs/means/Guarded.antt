@@ -1,6 +1,5 @@
 -- Means, by how it is read: guarded strings: a string with hashes on both sides.
-use Rattle.std.specs.Prelude.{ℕ, suc, ◌+◌, min, Bool, if◌then◌else◌, List, drop, Option, Some, None}
-use Rattle.std.specs.Str.{chars}
+use Rattle.std.specs.{Prelude.{ℕ, suc, ◌+◌, min, Bool, if◌then◌else◌, List, drop, Option, Some, None}, Str.{chars}}
 use Rattle.rustc_lexer.specs.{GuardedStr}
 use Rattle.rustc_lexer.specs.means.Literal.{suffix_len}
 use Rattle.rustc_lexer.specs.means.Quoted.{double_quoted_string}

@@ -1,6 +1,5 @@
 -- Means, by how it is read: identifiers, with what may stand before and after them.
-use Rattle.std.specs.Prelude.{ℕ, ◌&&◌, Bool, if◌then◌else◌, List, drop, codes}
-use Rattle.std.specs.List.{list_all}
+use Rattle.std.specs.{Prelude.{ℕ, ◌&&◌, Bool, if◌then◌else◌, List, drop, codes}, List.{list_all}}
 use Rattle.rustc_lexer.specs.{TokenKind, Ident, InvalidIdent, UnknownPrefix}
 use Rattle.rustc_lexer.specs.Classes.{ends_prefix, is_id_start, is_id_continue, is_word_continue}
 use Rattle.rustc_lexer.specs.means.Scan.{after, begins, next_is, run, run_as}

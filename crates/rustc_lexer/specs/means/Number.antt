@@ -1,8 +1,6 @@
 -- Means, by how it is read: numbers.
 use Rattle.std.specs.Prelude.{ℕ, ◌==◌, ◌&&◌, not, Bool, false, true, if◌then◌else◌, List, drop, codes}
-use Rattle.std.specs.Char.{is_ascii_digit, is_ascii_hexdigit}
-use Rattle.std.specs.List.{list_any}
-use Rattle.std.specs.Str.{byte}
+use Rattle.std.specs.{Char.{is_ascii_digit, is_ascii_hexdigit}, List.{list_any}, Str.{byte}}
 pub use Rattle.rustc_lexer.specs.declared.lexemes.number.IntegerPart.{IntegerPart}
 use Rattle.rustc_lexer.specs.{Base, LiteralKind, TokenKind, Binary, Octal, Decimal, Hexadecimal, Int, Float}
 use Rattle.rustc_lexer.specs.means.Literal.{Body, literal}

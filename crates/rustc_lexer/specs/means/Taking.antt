@@ -1,6 +1,5 @@
 -- Means, by how it is read: the token that a cursor takes, and the state after it.
-use Rattle.std.specs.Prelude.{◌≡◌, ◌+◌, ◌^◌, ◌<◌, ℕ, List, [], ◌∷◌, drop, length, if◌then◌else◌}
-use Rattle.std.specs.Str.{chars}
+use Rattle.std.specs.{Prelude.{◌≡◌, ◌+◌, ◌^◌, ◌<◌, ℕ, List, [], ◌∷◌, drop, length, if◌then◌else◌}, Str.{chars}}
 use Rattle.rustc_lexer.specs.{Token, Eof}
 use Rattle.rustc_lexer.specs.Classes.{IsText}
 use Rattle.rustc_lexer.specs.LanguageText.{Mode, source, newest, part, mode_after, mode_edition}

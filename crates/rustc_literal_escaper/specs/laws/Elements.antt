@@ -1,12 +1,8 @@
 -- The items that are read between double quotes are those that the grammar has there.
 use Rattle.std.proofs.Common.{◌≡◌, ℕ, zero, suc, ◌+◌, ◌≤◌, ◌==◌, Bool, true, false, true≢false, if◌then◌else◌, List, [], ◌∷◌, ◌++◌, length, length-append, append_assoc, map, refl, sym, ap, subst, ◌∙◌, arith}
-use Rattle.std.specs.List.{list_all}
-use Rattle.std.specs.Str.{encode_utf8_all}
-use Rattle.std.proofs.lemmas.Bool.{cond_both, eqb-true, or_parts}
-use Rattle.std.proofs.lemmas.List.{append_cancel_right, map-append}
-use Rattle.std.proofs.lemmas.Str.{encodes-append}
-use Rattle.std.proofs.lemmas.Bool.Decides.{nat_tests}
-use Rattle.std.proofs.lemmas.Grind.{common_steps}
+use Rattle.std.specs.{List.{list_all}, Str.{encode_utf8_all}}
+use Rattle.std.proofs.lemmas.{Bool.{cond_both, eqb-true, or_parts}, List.{append_cancel_right, map-append}}
+use Rattle.std.proofs.lemmas.{Str.{encodes-append}, Bool.Decides.{nat_tests}, Grind.{common_steps}}
 use Rattle.rustc_literal_escaper.specs.declared.element.Element.{Element}
 use Rattle.rustc_literal_escaper.specs.declared.element.Element.TheVariants.{Fault, Plain}
 use Rattle.rustc_literal_escaper.specs.declared.error.EscapeError.TheVariants.{BareCarriageReturn, BareCarriageReturnInRawString, EscapeOnlyChar, MultipleSkippedLinesWarning, UnskippedWhitespaceWarning}
@@ -120,15 +116,18 @@ unfolding raw_front
 raw-reads is next = grind (arith, common_steps, nat_tests)
 
 -- the warnings past a line end
-lines-found : (total from : ℕ) (space next : List ℕ) → from + bytes (92 ∷ 10 ∷ space ++ next) ≡ total → map (item_at total (place total (92 ∷ 10 ∷ space ++ next))) (more_lines space next) ≡ lines_warning from space
+lines-found : (total from : ℕ) (space next : List ℕ) → from + bytes (92 ∷ 10 ∷ space ++ next) ≡ total
+    → map (item_at total (place total (92 ∷ 10 ∷ space ++ next))) (more_lines space next) ≡ lines_warning from space
 lines-found total from space next ends = grind (arith, common_steps, item-at total from (92 ∷ 10 ∷ space) next (Fault MultipleSkippedLinesWarning) ends)
 
-space-found : (total from : ℕ) (space next : List ℕ) → from + bytes (92 ∷ 10 ∷ space ++ next) ≡ total → map (item_at total (place total (92 ∷ 10 ∷ space ++ next))) (more_space next) ≡ space_warning from space next
+space-found : (total from : ℕ) (space next : List ℕ) → from + bytes (92 ∷ 10 ∷ space ++ next) ≡ total
+    → map (item_at total (place total (92 ∷ 10 ∷ space ++ next))) (more_space next) ≡ space_warning from space next
 space-found total from space [] ends = refl
 space-found total from space (c ∷ next) ends =
     grind (arith, common_steps, append_assoc space (c ∷ []) next, item-at total from (92 ∷ 10 ∷ (space ++ c ∷ [])) next (Fault UnskippedWhitespaceWarning) (rw (append_assoc space (c ∷ []) next) ends))
 
-line-read : (space next : List ℕ) → list_all is_passed_over space ≡ true → next_is is_passed_over next ≡ false → front 92 (10 ∷ space ++ next) ≡ record { found = more_lines space next ++ more_space next; left = next }
+line-read : (space next : List ℕ) → list_all is_passed_over space ≡ true → next_is is_passed_over next ≡ false
+    → front 92 (10 ∷ space ++ next) ≡ record { found = more_lines space next ++ more_space next; left = next }
 unfolding front
 line-read space next all stops = let run = run-is is_passed_over space next all stops in grind (arith, common_steps)
 

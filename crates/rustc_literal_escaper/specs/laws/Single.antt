@@ -1,8 +1,6 @@
 -- What is read between single quotes is what the grammar has there.
 use Rattle.std.proofs.Common.{◌≡◌, ℕ, ◌==◌, true, false, List, [], ◌∷◌, ◌++◌, Result, Ok, Err, refl, sym, ap, subst, ◌∙◌, arith, append_assoc}
-use Rattle.std.proofs.lemmas.Bool.{cond_both, or_parts}
-use Rattle.std.proofs.lemmas.List.{append-nil}
-use Rattle.std.proofs.lemmas.Bool.Decides.{nat_tests}
+use Rattle.std.proofs.lemmas.{Bool.{cond_both, or_parts}, List.{append-nil}, Bool.Decides.{nat_tests}}
 use Rattle.std.proofs.lemmas.Grind.{common_steps}
 use Rattle.rustc_literal_escaper.specs.declared.element.Element.{Element}
 use Rattle.rustc_literal_escaper.specs.declared.element.Element.TheVariants.{Plain, Fault}
@@ -68,7 +66,8 @@ module _ {U : Type 0} (meaning : Element → Result U EscapeError) where
       subst (λ (xs : List ℕ). (r : Result U Error) × IsSingle meaning xs r) (ap (λ xs. c ∷ xs) (sym has.whole))
       (by_meaning (single c s).1 (single c s).0 (c ∷ has.others) (meaning (single c s).0) refl has.is)
     where
-      by_meaning : (left : List ℕ) (e : Element) (w : List ℕ) (meant : Result U EscapeError) → meaning e ≡ meant → IsElementBefore special left e w → (r : Result U Error) × IsSingle meaning (w ++ left) r
+      by_meaning : (left : List ℕ) (e : Element) (w : List ℕ) (meant : Result U EscapeError) → meaning e ≡ meant
+          → IsElementBefore special left e w → (r : Result U Error) × IsSingle meaning (w ++ left) r
       by_meaning [] e w (Ok u) means is = (_, subst (λ (xs : List ℕ). IsSingle meaning xs (Ok u)) (sym (append-nil w)) (g.unit is means))
       by_meaning (d ∷ left) e w (Ok u) means is = (_, g.more is means)
       by_meaning left e w (Err error) means is = (_, g.wrong is means)

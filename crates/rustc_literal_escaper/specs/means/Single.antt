@@ -1,7 +1,6 @@
 -- Reading the text between single quotes, and the errors of a literal.
 use Rattle.std.specs.Prelude.{◌≡◌, ℕ, ◌==◌, if◌then◌else◌, List, [], ◌∷◌, length, Option, Some, None, Result, Ok, Err}
-use Rattle.std.specs.Option.{option_to_list}
-use Rattle.std.specs.Str.{byte, chars}
+use Rattle.std.specs.{Option.{option_to_list}, Str.{byte, chars}}
 use Rattle.rustc_literal_escaper.specs.declared.element.Element.{Element}
 use Rattle.rustc_literal_escaper.specs.declared.element.Element.TheVariants.{Plain, Fault}
 use Rattle.rustc_literal_escaper.specs.declared.error.EscapeError.{EscapeError}

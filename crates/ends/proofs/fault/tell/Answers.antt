@@ -1,5 +1,4 @@
-use Rattle.std.proofs.Common.{◌++◌, List, ℕ, ap}
-use Rattle.std.proofs.lemmas.Result.{on_err_weaker}
+use Rattle.std.proofs.{Common.{◌++◌, List, ℕ, ap}, lemmas.Result.{on_err_weaker}}
 use Rattle.ends.proofs.KnownLemmas.{front_more}
 use Rattle.ends.proofs.fault.tell.Goals as goal
 

@@ -1,5 +1,4 @@
-use Rattle.std.proofs.Common.{◌++◌, List, ℕ, refl, ap, Result, OnErr, arith}
-use Rattle.std.proofs.lemmas.Grind.{common_steps}
+use Rattle.std.proofs.{Common.{◌++◌, List, ℕ, refl, ap, Result, OnErr, arith}, lemmas.Grind.{common_steps}}
 use Rattle.std.proofs.lemmas.Result.{on_err_weaker}
 use Rattle.ends.proofs.KnownLemmas.{front_first, front_more, front_last}
 use Rattle.ends.proofs.writing.write_texts.Goals as goal

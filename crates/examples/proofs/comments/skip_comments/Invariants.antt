@@ -1,6 +1,5 @@
 use Rattle.std.proofs.Common.{◌≡◌, length}
-use Rattle.rustc_lexer.specs.LanguageText.{part, newest}
-use Rattle.rustc_lexer.specs.Tokens.{tokens_of, tokens_left}
+use Rattle.rustc_lexer.specs.{LanguageText.{part, newest}, Tokens.{tokens_of, tokens_left}}
 use Rattle.examples.specs.Comments.{past_comments}
 use Rattle.examples.proofs.comments.skip_comments.Given as goal
 

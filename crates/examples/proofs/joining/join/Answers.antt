@@ -1,18 +1,19 @@
 use Rattle.std.proofs.Common.{◌≡◌, ◌+◌, ◌<◌, ◌≤◌, ◌∙◌, Bor, List, [], ◌∷◌, ◌++◌, ℕ, arith, get_or, length, map, subst, sym, take, take_all, string_bytes}
-use Rattle.std.proofs.lemmas.Grind.{common_steps}
-use Rattle.std.proofs.lemmas.List.{take_more}
-use Rattle.rustc_lexer.specs.declared.edition.Edition.{Edition}
-use Rattle.rustc_lexer.specs.Joined.{IsJoined}
+use Rattle.std.proofs.lemmas.{Grind.{common_steps}, List.{take_more}}
+use Rattle.rustc_lexer.specs.{declared.edition.Edition.{Edition}, Joined.{IsJoined}}
 use Rattle.examples.specs.Joining as the
 use Rattle.examples.specs.Joining.{AreJoined}
 use Rattle.examples.proofs.JoiningLemmas.{tokens_of_joined}
 use Rattle.examples.proofs.joining.join.Goals as goal
 
-one_more : (pieces : List (Bor (List ℕ))) (i : ℕ) (d : Bor (List ℕ)) → i < length pieces → map (λ (p : Bor (List ℕ)). p.now) (take (i + 1) pieces) ≡ map (λ (p : Bor (List ℕ)). p.now) (take i pieces) ++ (get_or pieces i d).now ∷ []
+one_more : (pieces : List (Bor (List ℕ))) (i : ℕ) (d : Bor (List ℕ)) → i < length pieces
+    → map (λ (p : Bor (List ℕ)). p.now) (take (i + 1) pieces) ≡ map (λ (p : Bor (List ℕ)). p.now) (take i pieces) ++ (get_or pieces i d).now ∷ []
 one_more pieces i d less = grind (arith, common_steps, take_more)
 
 more : (edition now_in : Edition) (pieces : List (Bor (List ℕ))) (i : ℕ) (d : Bor (List ℕ)) (text new : List ℕ) → i < length pieces → now_in ≡ edition
-    → AreJoined edition (map (λ (p : Bor (List ℕ)). p.now) (take i pieces)) text → IsJoined now_in text (get_or pieces i d).now new → AreJoined edition (map (λ (p : Bor (List ℕ)). p.now) (take (i + 1) pieces)) new
+    → AreJoined edition (map (λ (p : Bor (List ℕ)). p.now) (take i pieces)) text
+    → IsJoined now_in text (get_or pieces i d).now new
+    → AreJoined edition (map (λ (p : Bor (List ℕ)). p.now) (take (i + 1) pieces)) new
 more edition now_in pieces i d text new less same are is =
     subst (λ (ps : List (List ℕ)). AreJoined edition ps new) (sym (one_more pieces i d less)) (the.more are (subst (λ (e : Edition). IsJoined e text (get_or pieces i d).now new) same is))
 

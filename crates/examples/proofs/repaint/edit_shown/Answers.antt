@@ -1,5 +1,4 @@
-use Rattle.std.proofs.Common.{sym, ◌∙◌, arith, subst, rules}
-use Rattle.std.proofs.lemmas.Grind.{common_steps}
+use Rattle.std.proofs.{Common.{sym, ◌∙◌, arith, subst, rules}, lemmas.Grind.{common_steps}}
 use Rattle.rustc_lexer.specs.Classes.{IsText}
 use Rattle.rustc_lexer.proofs.lemmas.edits.Bounds.{tokens_le_bytes}
 use Rattle.examples.proofs.RepaintLemmas.{enough_for}

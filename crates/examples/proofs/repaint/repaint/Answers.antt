@@ -1,5 +1,4 @@
-use Rattle.std.proofs.Common.{refl, arith, rules}
-use Rattle.std.proofs.lemmas.Grind.{common_steps}
+use Rattle.std.proofs.{Common.{refl, arith, rules}, lemmas.Grind.{common_steps}}
 use Rattle.rustc_lexer.specs.Kept.{placed}
 use Rattle.examples.proofs.PieceLemmas.{writes_piece}
 use Rattle.examples.proofs.repaint.repaint.Goals as goal

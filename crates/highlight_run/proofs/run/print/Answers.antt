@@ -1,5 +1,4 @@
-use Rattle.std.proofs.Common.{List, ℕ, ap, ◌∙◌, ◌++◌, string_bytes}
-use Rattle.std.proofs.lemmas.Fmt.{contents_after_writes}
+use Rattle.std.proofs.{Common.{List, ℕ, ap, ◌∙◌, ◌++◌, string_bytes}, lemmas.Fmt.{contents_after_writes}}
 use Rattle.highlight_run.specs.Page.{printed}
 use Rattle.highlight_run.proofs.run.print.Goals as goal
 

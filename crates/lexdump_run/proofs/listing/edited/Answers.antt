@@ -1,13 +1,8 @@
-use Rattle.std.proofs.Common.{List, ℕ, arith, ap, ◌∙◌, subst}
-use Rattle.std.proofs.lemmas.Grind.{common_steps}
-use Rattle.rustc_lexer.specs.declared.relex.edit.Edit.{Edit as TextEdit}
-use Rattle.rustc_lexer.specs.declared.relex.edit_list.EditStop.{EditStop}
-use Rattle.lexdump_run.specs.Fault.{stop_fault}
-use Rattle.lexdump_run.specs.Outcome.{IsRefused, StopsAt}
+use Rattle.std.proofs.{Common.{List, ℕ, arith, ap, ◌∙◌, subst}, lemmas.Grind.{common_steps}}
+use Rattle.rustc_lexer.specs.declared.relex.{edit.Edit.{Edit as TextEdit}, edit_list.EditStop.{EditStop}}
+use Rattle.lexdump_run.specs.{Fault.{stop_fault}, Outcome.{IsRefused, StopsAt}}
 use Rattle.lexdump_run.proofs.listing.edited.Goals as goal
-use Rattle.rustc_lexer.specs.declared.token.Token.{Token}
-use Rattle.rustc_lexer.specs.Edits.{IsStop}
-use Rattle.rustc_lexer.specs.LanguageText.{part}
+use Rattle.rustc_lexer.specs.{declared.token.Token.{Token}, Edits.{IsStop}, LanguageText.{part}}
 use Rattle.rustc_lexer.specs.Tokens.{tokens_by, tokens_of}
 
 refused : (text : List ℕ) (edits : List TextEdit) (stop : EditStop) → StopsAt stop text edits → IsRefused text edits (stop_fault stop)

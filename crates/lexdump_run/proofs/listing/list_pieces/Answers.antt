@@ -1,6 +1,5 @@
 use Rattle.std.proofs.Common.{ap}
-use Rattle.lexdump_run.proofs.ListingLemmas.{lines}
-use Rattle.lexdump_run.proofs.PushLemmas.{pushing_first, pushing_stopped}
+use Rattle.lexdump_run.proofs.{ListingLemmas.{lines}, PushLemmas.{pushing_first, pushing_stopped}}
 use Rattle.lexdump_run.proofs.listing.list_pieces.Goals as goal
 
 pub loop-piece-preserved : goal.loop-piece-preserved

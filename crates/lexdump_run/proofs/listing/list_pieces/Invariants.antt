@@ -1,7 +1,6 @@
 use Rattle.std.proofs.Common.{length}
 use Rattle.lexdump_run.specs.Listing.{listing}
-use Rattle.lexdump_run.proofs.ListingLemmas.{lines}
-use Rattle.lexdump_run.proofs.PushLemmas.{Pushing}
+use Rattle.lexdump_run.proofs.{ListingLemmas.{lines}, PushLemmas.{Pushing}}
 use Rattle.lexdump_run.proofs.listing.list_pieces.Given as goal
 
 abbrev pub invariant-loop-piece : goal.invariant-loop-piece

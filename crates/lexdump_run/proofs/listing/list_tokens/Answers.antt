@@ -1,9 +1,7 @@
 use Rattle.std.proofs.Common.{◌<◌, length, refl, ap, subst, rules, arith, length-drop}
-use Rattle.rustc_lexer.specs.Classes.{IsText}
-use Rattle.rustc_lexer.specs.Tokens.{bound, tokens_left}
+use Rattle.rustc_lexer.specs.{Classes.{IsText}, Tokens.{bound, tokens_left}}
 use Rattle.rustc_lexer.proofs.lemmas.tokens.Fill.{past_fill}
-use Rattle.lexdump_run.proofs.ListingLemmas.{buffer-split}
-use Rattle.lexdump_run.proofs.PushLemmas.{pushing_first, pushing_stopped}
+use Rattle.lexdump_run.proofs.{ListingLemmas.{buffer-split}, PushLemmas.{pushing_first, pushing_stopped}}
 use Rattle.lexdump_run.proofs.listing.list_tokens.Goals as goal
 use Rattle.std.proofs.lemmas.Grind.{common_steps}
 

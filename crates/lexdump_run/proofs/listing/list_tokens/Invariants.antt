@@ -1,6 +1,5 @@
 use Rattle.std.proofs.Common.{◌-◌, ◌≤◌, length}
-use Rattle.rustc_lexer.specs.LanguageText.{mode_in}
-use Rattle.rustc_lexer.specs.Tokens.{tokens_of, tokens_left}
+use Rattle.rustc_lexer.specs.{LanguageText.{mode_in}, Tokens.{tokens_of, tokens_left}}
 use Rattle.lexdump_run.specs.Listing.{listing, listing_from}
 use Rattle.lexdump_run.proofs.PushLemmas.{Pushing}
 use Rattle.lexdump_run.proofs.listing.list_tokens.Given as goal

@@ -1,6 +1,5 @@
 use Rattle.std.proofs.Common.{List, ℕ, ◌++◌, sym, ap, ap₂, ◌∙◌, codes, subst}
-use Rattle.lexdump_run.specs.Listing.{bool_text, field, fields_text, literal_text}
-use Rattle.lexdump_run.specs.Pushed.{Pushes}
+use Rattle.lexdump_run.specs.{Listing.{bool_text, field, fields_text, literal_text}, Pushed.{Pushes}}
 use Rattle.lexdump_run.proofs.PushLemmas.{pushes_both, pushes_first}
 use Rattle.lexdump_run.proofs.listing.push_fields.Goals as goal
 

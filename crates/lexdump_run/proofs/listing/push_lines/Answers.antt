@@ -1,5 +1,4 @@
-use Rattle.std.proofs.Common.{ap}
-use Rattle.std.proofs.lemmas.List.{drop_more}
+use Rattle.std.proofs.{Common.{ap}, lemmas.List.{drop_more}}
 use Rattle.lexdump_run.specs.Listing.{listing_from}
 use Rattle.rustc_lexer.proofs.lemmas.edits.Pieces.{end_fits, end_more}
 use Rattle.lexdump_run.proofs.PushLemmas.{pushing_first, pushing_stopped}

@@ -1,5 +1,4 @@
-use Rattle.std.proofs.Common.{ap, arith}
-use Rattle.std.proofs.lemmas.Grind.{common_steps}
+use Rattle.std.proofs.{Common.{ap, arith}, lemmas.Grind.{common_steps}}
 use Rattle.lexdump_run.proofs.OutcomeLemmas.{finished}
 use Rattle.lexdump_run.proofs.listing.write_listing.Goals as goal
 

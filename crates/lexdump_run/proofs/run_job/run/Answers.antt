@@ -1,5 +1,4 @@
-use Rattle.std.proofs.Common.{ap, arith}
-use Rattle.std.proofs.lemmas.Grind.{common_steps}
+use Rattle.std.proofs.{Common.{ap, arith}, lemmas.Grind.{common_steps}}
 use Rattle.lexdump_run.proofs.OutcomeLemmas.{ends_listed}
 use Rattle.lexdump_run.proofs.run_job.run.Goals as goal
 

@@ -1,5 +1,4 @@
-use Rattle.std.proofs.Common.{◌≡◌, arith, rules}
-use Rattle.std.proofs.lemmas.Grind.{common_steps}
+use Rattle.std.proofs.{Common.{◌≡◌, arith, rules}, lemmas.Grind.{common_steps}}
 use Rattle.marks.proofs.MovedLemmas.{alone_mode, error_found}
 use Rattle.marks.proofs.literal.single_error.Goals as goal
 

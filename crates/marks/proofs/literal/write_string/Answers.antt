@@ -1,6 +1,4 @@
-use Rattle.std.proofs.Common.{arith, rules}
-use Rattle.std.proofs.lemmas.Grind.{common_steps}
-use Rattle.std.proofs.lemmas.Str.{IsCharBoundary-start}
+use Rattle.std.proofs.{Common.{arith, rules}, lemmas.{Grind.{common_steps}, Str.{IsCharBoundary-start}}}
 use Rattle.std.proofs.lemmas.Result.{on_ok_weaker}
 use Rattle.marks.proofs.LiteralLemmas.{placed_all, placed_first, writes_all, writes_end, writes_item, writes_told}
 use Rattle.marks.proofs.literal.write_string.Goals as goal

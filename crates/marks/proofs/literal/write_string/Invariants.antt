@@ -1,10 +1,7 @@
 use Rattle.std.proofs.Common.{◌≤◌, drop, IsCharBoundary}
-use Rattle.std.specs.Fmt.{WritesInCalls}
-use Rattle.std.specs.List.{between}
+use Rattle.std.specs.{Fmt.{WritesInCalls}, List.{between}}
 use Rattle.rustc_literal_escaper.specs.Items.{ArePlaced}
-use Rattle.marks.specs.Literal.{parts_from}
-use Rattle.marks.specs.means.Literal.{string_stretches, stretches_from}
-use Rattle.marks.specs.Part.{with_marks}
+use Rattle.marks.specs.{Literal.{parts_from}, means.Literal.{string_stretches, stretches_from}, Part.{with_marks}}
 use Rattle.marks.proofs.literal.write_string.Given as goal
 
 abbrev pub invariant-loop-range : goal.invariant-loop-range

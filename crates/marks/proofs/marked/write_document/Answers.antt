@@ -1,12 +1,8 @@
 use Rattle.std.proofs.Common.{◌≡◌, ℕ, ◌-◌, List, [], ◌∷◌, length, take, arith, ap, sym, subst, ◌∙◌}
 use Rattle.std.specs.Fmt.{WritesInCalls}
-use Rattle.rustc_lexer.specs.Document.{shebang_len}
-use Rattle.rustc_lexer.specs.State.{State}
-use Rattle.rustc_lexer.specs.Tokens.{tokens_left}
+use Rattle.rustc_lexer.specs.{Document.{shebang_len}, State.{State}, Tokens.{tokens_left}}
 use Rattle.rustc_lexer.proofs.lemmas.tokens.Places.{document_offset, document_start, piece_is, stands_past}
-use Rattle.marks.specs.declared.class.Class.TheVariants.{Comment}
-use Rattle.marks.specs.Marked.{marked_tokens}
-use Rattle.marks.specs.Part.{Own, with_marks}
+use Rattle.marks.specs.{declared.class.Class.TheVariants.{Comment}, Marked.{marked_tokens}, Part.{Own, with_marks}}
 use Rattle.marks.proofs.MarkedLemmas.{writes_past, writes_token}
 use Rattle.marks.proofs.marked.write_document.Goals as goal
 

@@ -1,9 +1,7 @@
 use Rattle.std.proofs.Common.{◌∷◌}
 use Rattle.std.specs.Fmt.{WritesInCalls}
-use Rattle.rustc_lexer.specs.laws.State.{StandsAt}
-use Rattle.rustc_lexer.specs.Tokens.{tokens_left}
-use Rattle.marks.specs.Marked.{document_parts, marked_tokens}
-use Rattle.marks.specs.Part.{Own, with_marks}
+use Rattle.rustc_lexer.specs.{laws.State.{StandsAt}, Tokens.{tokens_left}}
+use Rattle.marks.specs.{Marked.{document_parts, marked_tokens}, Part.{Own, with_marks}}
 use Rattle.marks.specs.declared.class.Class.TheVariants.{Plain}
 use Rattle.marks.proofs.marked.write_document.Given as goal
 

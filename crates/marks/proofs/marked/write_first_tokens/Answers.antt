@@ -1,6 +1,5 @@
 use Rattle.std.proofs.Common.{◌≡◌, ℕ, ◌-◌, ◌<◌, arith, take, List, ◌∷◌, zero, suc, ap, ◌∙◌}
-use Rattle.rustc_lexer.specs.declared.token.Token.{Token}
-use Rattle.rustc_lexer.specs.Tokens.{tokens_left}
+use Rattle.rustc_lexer.specs.{declared.token.Token.{Token}, Tokens.{tokens_left}}
 use Rattle.rustc_lexer.proofs.lemmas.tokens.Places.{piece_is, stands_past}
 use Rattle.marks.proofs.MarkedLemmas.{writes_token}
 use Rattle.marks.proofs.marked.write_first_tokens.Goals as goal

@@ -1,8 +1,6 @@
 use Rattle.std.proofs.Common.{take}
 use Rattle.std.specs.Fmt.{WritesInCalls}
-use Rattle.rustc_lexer.specs.LanguageText.{part}
-use Rattle.rustc_lexer.specs.laws.State.{StandsAt}
-use Rattle.rustc_lexer.specs.Tokens.{tokens_of, tokens_left}
+use Rattle.rustc_lexer.specs.{LanguageText.{part}, laws.State.{StandsAt}, Tokens.{tokens_of, tokens_left}}
 use Rattle.marks.specs.Marked.{marked_tokens}
 use Rattle.marks.proofs.marked.write_first_tokens.Given as goal
 

@@ -1,8 +1,7 @@
 use denote.Shadow.{shadow}
 use denote.Text.{Utf8}
 use Rattle.std.proofs.Common.{length}
-use Rattle.std.specs.Fmt.{WritesInCalls}
-use Rattle.std.specs.Str.{chars, encode_utf8_all}
+use Rattle.std.specs.{Fmt.{WritesInCalls}, Str.{chars, encode_utf8_all}}
 use Rattle.marks.specs.Screen.{seen}
 use Rattle.marks.proofs.screen.write_seen.Given as goal
 

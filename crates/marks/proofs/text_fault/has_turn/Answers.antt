@@ -1,6 +1,4 @@
-use Rattle.std.proofs.Common.{rules}
-use Rattle.std.proofs.lemmas.Iterator.{YieldsList-from_chars}
-use Rattle.std.proofs.lemmas.Iterator.Search.{any_from_yields_List}
+use Rattle.std.proofs.{Common.{rules}, lemmas.{Iterator.{YieldsList-from_chars, Search.{any_from_yields_List}}}}
 use Rattle.marks.specs.TextFault.{turns_direction}
 use Rattle.marks.proofs.text_fault.has_turn.Goals as goal
 

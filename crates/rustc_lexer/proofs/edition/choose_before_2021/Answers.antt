@@ -1,5 +1,4 @@
-use Rattle.std.proofs.lemmas.Grind.{common_steps}
-use Rattle.std.proofs.Common.{arith, inr, refl, rules}
+use Rattle.std.proofs.{lemmas.Grind.{common_steps}, Common.{arith, inr, refl, rules}}
 use Rattle.rustc_lexer.specs.{E2021}
 use Rattle.rustc_lexer.proofs.lemmas.tokens.Editions.{first_newer}
 use Rattle.rustc_lexer.proofs.edition.choose_before_2021.Goals as goal

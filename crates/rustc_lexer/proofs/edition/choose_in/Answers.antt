@@ -1,5 +1,4 @@
-use Rattle.std.proofs.Common.{◌∙◌}
-use Rattle.std.proofs.Common.{rules}
+use Rattle.std.proofs.Common.{◌∙◌, rules}
 use Rattle.rustc_lexer.proofs.lemmas.tokens.Editions.{boundary-of, first_newer, first_oldest}
 use Rattle.rustc_lexer.proofs.edition.choose_in.Goals as goal
 

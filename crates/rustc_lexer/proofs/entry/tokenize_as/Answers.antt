@@ -1,12 +1,8 @@
-use Rattle.std.proofs.lemmas.Grind.{common_steps}
-use Rattle.std.proofs.Common.{rules}
-use Rattle.std.proofs.Common.{arith}
-use Rattle.std.proofs.lemmas.Option.{none-some}
+use Rattle.std.proofs.{lemmas.Grind.{common_steps}, Common.{rules, arith}, lemmas.Option.{none-some}}
 use Rattle.std.proofs.lemmas.Str.{IsCharBoundary-start}
 use Rattle.rustc_lexer.proofs.lemmas.tokens.KindsOfTexts.{suffixes, texts}
 use Rattle.rustc_lexer.specs.laws.Tokens.{partitions}
-use Rattle.rustc_lexer.proofs.lemmas.tokens.Tokens.{restarts}
-use Rattle.rustc_lexer.proofs.lemmas.tokens.Bits.{bit-zero}
+use Rattle.rustc_lexer.proofs.lemmas.tokens.{Tokens.{restarts}, Bits.{bit-zero}}
 use Rattle.rustc_lexer.proofs.entry.tokenize_as.Goals as goal
 
 pub returns : goal.returns

@@ -1,5 +1,4 @@
-use Rattle.std.proofs.Common.{◌+◌, ◌∷◌, arith}
-use Rattle.std.proofs.lemmas.List.{take_rest}
+use Rattle.std.proofs.{Common.{◌+◌, ◌∷◌, arith}, lemmas.List.{take_rest}}
 use Rattle.rustc_lexer.proofs.lemmas.tokens.Search.{at_start, past_end, past_found, past_on}
 use Rattle.rustc_lexer.proofs.frontmatter.find_pattern.Goals as goal
 

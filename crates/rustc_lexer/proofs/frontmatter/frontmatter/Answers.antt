@@ -1,5 +1,4 @@
-use Rattle.std.proofs.Common.{arith, rules}
-use Rattle.std.proofs.lemmas.Grind.{common_steps}
+use Rattle.std.proofs.{Common.{arith, rules}, lemmas.Grind.{common_steps}}
 use Rattle.rustc_lexer.specs.laws.Frontmatter.{dashes_fence, opens-few, opens-line, opens-yes, frontmatter-is}
 use Rattle.rustc_lexer.proofs.frontmatter.frontmatter.Goals as goal
 use Rattle.rustc_lexer.proofs.frontmatter.frontmatter.Goals.{then-n_dashes-lt-MIN_DASHES-via-then-n_dashes-lt-MIN_DASHES, then-n_dashes-lt-MIN_DASHES-via-else-n_dashes-lt-MIN_DASHES+then-follows_newline}

@@ -1,6 +1,4 @@
-use Rattle.std.proofs.Common.{arith, rules}
-use Rattle.std.proofs.lemmas.Grind.{common_steps}
-use Rattle.std.proofs.lemmas.List.{take_rest}
+use Rattle.std.proofs.{Common.{arith, rules}, lemmas.{Grind.{common_steps}, List.{take_rest}}}
 use Rattle.rustc_lexer.proofs.lemmas.tokens.Frontmatter.{opens_not}
 use Rattle.rustc_lexer.proofs.frontmatter.may_open.Goals as goal
 

@@ -1,5 +1,4 @@
-use Rattle.std.proofs.Common.{arith, rules}
-use Rattle.std.proofs.lemmas.Grind.{common_steps}
+use Rattle.std.proofs.{Common.{arith, rules}, lemmas.Grind.{common_steps}}
 use Rattle.rustc_lexer.proofs.lemmas.tokens.Pairs.{apart_pattern}
 use Rattle.rustc_lexer.proofs.frontmatter.skip_front.Goals as goal
 

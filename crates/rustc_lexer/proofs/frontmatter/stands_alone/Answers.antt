@@ -1,6 +1,4 @@
-use Rattle.std.proofs.lemmas.Grind.{common_steps}
-use Rattle.std.proofs.Common.{rules}
-use Rattle.std.proofs.Common.{arith}
+use Rattle.std.proofs.{lemmas.Grind.{common_steps}, Common.{rules, arith}}
 use Rattle.rustc_lexer.specs.laws.Fences.{blank_end, blank_on}
 use Rattle.rustc_lexer.proofs.frontmatter.stands_alone.Goals as goal
 use Rattle.rustc_lexer.proofs.frontmatter.stands_alone.Goals.{then-blanks-test+else-is_horizontal_whitespace, else-blanks-test}

@@ -1,5 +1,4 @@
-use Rattle.std.proofs.Common.{◌==◌, arith, w8}
-use Rattle.std.proofs.lemmas.Simd.{bitmask_splat, length-chunk}
+use Rattle.std.proofs.{Common.{◌==◌, arith, w8}, lemmas.Simd.{bitmask_splat, length-chunk}}
 use Rattle.memchr.specs.Find.{is_byte}
 use Rattle.rustc_lexer.proofs.lemmas.tokens.ByteSearch.{in_first}
 use Rattle.rustc_lexer.proofs.kernels.find_byte.Goals as goal

@@ -1,8 +1,7 @@
 use Rattle.std.proofs.Common.{ℕ, ◌==◌, bit_or, arith, rules, w8}
 use Rattle.std.proofs.lemmas.Simd.{chunk-fits, length-chunk, zip2_splat, zip2_of_maps}
 use Rattle.memchr.specs.Find.{is_byte2}
-use Rattle.rustc_lexer.proofs.lemmas.tokens.ByteSearch.{in_first, either_set}
-use Rattle.rustc_lexer.proofs.lemmas.tokens.Lanes.{masked_at}
+use Rattle.rustc_lexer.proofs.lemmas.tokens.{ByteSearch.{in_first, either_set}, Lanes.{masked_at}}
 use Rattle.rustc_lexer.proofs.kernels.find_either.Goals as goal
 
 pub returns-then-found-ne0 : goal.returns-then-found-ne0

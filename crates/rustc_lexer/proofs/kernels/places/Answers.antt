@@ -1,8 +1,6 @@
-use Rattle.std.proofs.Common.{◌==◌, arith, w8}
-use Rattle.std.proofs.lemmas.Simd.{bitmask_splat, length-chunk}
+use Rattle.std.proofs.{Common.{◌==◌, arith, w8}, lemmas.Simd.{bitmask_splat, length-chunk}}
 use Rattle.memchr.specs.Find.{is_byte}
-use Rattle.rustc_lexer.proofs.lemmas.tokens.Pairs.{few}
-use Rattle.rustc_lexer.proofs.lemmas.tokens.Bits.{mask_in}
+use Rattle.rustc_lexer.proofs.lemmas.tokens.{Pairs.{few}, Bits.{mask_in}}
 use Rattle.rustc_lexer.proofs.kernels.places.Goals as goal
 
 pub returns-clause-few : goal.returns-clause-few

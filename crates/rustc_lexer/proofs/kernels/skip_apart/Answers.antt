@@ -1,7 +1,4 @@
-use Rattle.std.proofs.Common.{arith, ◌+◌, bit_and}
-use Rattle.std.proofs.lemmas.Grind.{common_steps}
-use Rattle.std.proofs.lemmas.List.{take_rest}
-use Rattle.std.proofs.lemmas.Nat.{and_le_l}
+use Rattle.std.proofs.{Common.{arith, ◌+◌, bit_and}, lemmas.{Grind.{common_steps}, List.{take_rest}, Nat.{and_le_l}}}
 use Rattle.rustc_lexer.proofs.lemmas.tokens.Pairs.{apart_on, apart_to, near}
 use Rattle.rustc_lexer.proofs.kernels.skip_apart.Goals as goal
 

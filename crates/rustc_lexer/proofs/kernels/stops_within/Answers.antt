@@ -1,6 +1,4 @@
-use Rattle.std.proofs.Common.{arith}
-use Rattle.std.proofs.lemmas.Grind.{common_steps}
-use Rattle.std.proofs.lemmas.List.{take_rest}
+use Rattle.std.proofs.{Common.{arith}, lemmas.{Grind.{common_steps}, List.{take_rest}}}
 use Rattle.rustc_lexer.proofs.lemmas.tokens.Stops.{looked_last, looked_on}
 use Rattle.rustc_lexer.proofs.kernels.stops_within.Goals as goal
 

@@ -3,19 +3,13 @@ use Rattle.std.proofs.Common.{◌≡◌, ◌↔◌, ℕ, zero, suc, ◌+◌, ◌
 use Rattle.std.proofs.lemmas.List.{append-nil, reverse-append, take-append-drop, take-append-le}
 use Rattle.std.proofs.Math.Seq.{drop-append_seam, take-add}
 use Rattle.std.proofs.lemmas.Str.{IsCharBoundary-start, IsUtf8-append, IsUtf8-between, IsUtf8-past_char, IsUtf8-take}
-use Rattle.std.proofs.Math.Utf8.{encode, encodes}
-use Rattle.std.proofs.lemmas.Grind.{common_steps}
+use Rattle.std.proofs.{Math.Utf8.{encode, encodes}, lemmas.Grind.{common_steps}}
 use Rattle.rustc_lexer.specs.declared.relex.edit.Edit.{Edit}
-use Rattle.rustc_lexer.specs.Edits.{AreAtOnce, AreInOrder, IsInside, applied, apply, apply_list, start_of_first, stop_of_last, with_all}
-use Rattle.rustc_lexer.specs.declared.relex.checkpoints.Checkpoints.{Checkpoints}
-use Rattle.rustc_lexer.specs.declared.head.Head.{Head}
-use Rattle.rustc_lexer.specs.declared.relex.relexing.Change.{Change}
-use Rattle.rustc_lexer.specs.{Token}
-use Rattle.rustc_lexer.specs.Classes.{IsText}
-use Rattle.rustc_lexer.specs.Partition.{Layout}
+use Rattle.rustc_lexer.specs.Edits.{AreAtOnce, AreInOrder, IsInside, apply, apply_list, start_of_first, stop_of_last, with_all}
+use Rattle.rustc_lexer.specs.declared.{relex.checkpoints.Checkpoints.{Checkpoints}, head.Head.{Head}}
+use Rattle.rustc_lexer.specs.{declared.relex.relexing.Change.{Change}, Token, Classes.{IsText}, Partition.{Layout}}
 use Rattle.rustc_lexer.specs.means.Document.{AreKeptOf, IsPut, edit_change}
-use Rattle.rustc_lexer.proofs.lemmas.edits.Lists.{apply-last, none}
-use Rattle.rustc_lexer.proofs.lemmas.edits.DocumentEdits.{put_by}
+use Rattle.rustc_lexer.proofs.lemmas.edits.{Lists.{apply-last, none}, DocumentEdits.{put_by}}
 
 pub order-last : (text : List ℕ) (from : ℕ) (es : List Edit) (e : Edit)
     → AreInOrder text from (es ++ e ∷ []) ↔ (AreInOrder text from es × (stop_of_last from es ≤ e.start) × IsInside text e.start e.stop)
@@ -59,7 +53,9 @@ order-take text from [] (suc n) are = tt
 order-take text from (e ∷ es) (suc n) are = (are.0, are.1, order-take text e.stop es n are.2)
 
 -- where the last one ends
-order_end : (text : List ℕ) (from : ℕ) (es : List Edit) → AreInOrder text from es → from ≤ length text → IsCharBoundary text from → (from ≤ stop_of_last from es) × (stop_of_last from es ≤ length text) × IsCharBoundary text (stop_of_last from es)
+order_end : (text : List ℕ) (from : ℕ) (es : List Edit) → AreInOrder text from es → from ≤ length text
+    → IsCharBoundary text from
+    → (from ≤ stop_of_last from es) × (stop_of_last from es ≤ length text) × IsCharBoundary text (stop_of_last from es)
 order_end text from [] are few boundary = (omega arith, few, boundary)
 order_end text from (e ∷ es) are few boundary =
     grind (arith, common_steps, order_end text e.stop es are.2 are.1.stop_inside are.1.stop_boundary)
@@ -73,12 +69,14 @@ order_inside text (e ∷ es) some are =
 from_first : (text : List ℕ) (es : List Edit) → (es ≡ [] → ⊥) → with_all text 0 es ≡ take (start_of_first es) text ++ with_all text (start_of_first es) es
 from_first text es w2 = grind (arith, common_steps)
 
-pub applied_is : (text : List ℕ) (es : List Edit) → (es ≡ [] → ⊥) → with_all text 0 es ++ drop (stop_of_last 0 es) text ≡ apply text (start_of_first es) (stop_of_last 0 es) (with_all text (start_of_first es) es)
+pub applied_is : (text : List ℕ) (es : List Edit) → (es ≡ [] → ⊥)
+    → with_all text 0 es ++ drop (stop_of_last 0 es) text ≡ apply text (start_of_first es) (stop_of_last 0 es) (with_all text (start_of_first es) es)
 unfolding apply
 applied_is text es some = grind (arith, common_steps, from_first text es some, append_assoc)
 
 -- what is behind an edit, and what it inserts, put behind the text in front of it
-put_before : (text rest : List ℕ) (from : ℕ) (e : Edit) → from ≤ e.start → IsInside text e.start e.stop → apply (take e.stop text ++ rest) e.start e.stop e.insert.now ≡ take from text ++ (take (e.start - from) (drop from text) ++ (e.insert.now ++ rest))
+put_before : (text rest : List ℕ) (from : ℕ) (e : Edit) → from ≤ e.start → IsInside text e.start e.stop
+    → apply (take e.stop text ++ rest) e.start e.stop e.insert.now ≡ take from text ++ (take (e.start - from) (drop from text) ++ (e.insert.now ++ rest))
 unfolding apply
 put_before text rest from e after inside =
     let size : length (take e.stop text) ≡ e.stop = length-take-le e.stop text inside.stop_inside in
@@ -88,7 +86,8 @@ put_before text rest from e after inside =
     rw (front, back, all) (append_assoc (take from text) (take (e.start - from) (drop from text)) (e.insert.now ++ rest))
 
 -- one after another, from the last to the first, they make the same text
-backwards : (text : List ℕ) (from : ℕ) (es : List Edit) → AreInOrder text from es → from ≤ length text → apply_list text (reverse es) ≡ take from text ++ (with_all text from es ++ drop (stop_of_last from es) text)
+backwards : (text : List ℕ) (from : ℕ) (es : List Edit) → AreInOrder text from es → from ≤ length text
+    → apply_list text (reverse es) ≡ take from text ++ (with_all text from es ++ drop (stop_of_last from es) text)
 backwards text from [] are few = sym (take-append-drop from text)
 backwards text from (e ∷ es) are few =
     grind (arith, common_steps, reverse-append, apply-last, put_before, append_assoc, backwards text e.stop es are.2 are.1.stop_inside)
@@ -96,7 +95,8 @@ backwards text from (e ∷ es) are few =
 pub none_by_one : (text : List ℕ) (es : List Edit) → length es ≡ 0 → text ≡ apply_list text (reverse es)
 none_by_one text es w2 = grind (arith, common_steps)
 
-pub one_by_one : (text : List ℕ) (es : List Edit) → (es ≡ [] → ⊥) → AreInOrder text 0 es → apply text (start_of_first es) (stop_of_last 0 es) (with_all text (start_of_first es) es) ≡ apply_list text (reverse es)
+pub one_by_one : (text : List ℕ) (es : List Edit) → (es ≡ [] → ⊥) → AreInOrder text 0 es
+    → apply text (start_of_first es) (stop_of_last 0 es) (with_all text (start_of_first es) es) ≡ apply_list text (reverse es)
 one_by_one text es some are = sym (applied_is text es some) ∙ sym (backwards text 0 es are (omega arith))
 
 -- what follows a text in a text is one
@@ -124,6 +124,10 @@ at_once_none text [] none is = grind (arith, common_steps, IsCharBoundary-start)
 at_once_none text (e ∷ es) none is = absurd (omega arith)
 
 -- all that they make is the text that the one edit makes
-pub put_at_once : {layout : (List ℕ → Token) → List ℕ → Layout} {first : List ℕ → Token} {before made : List ℕ} (es : List Edit) {edit : Change} {tokens : List Token} {head : Head} {checkpoints : Checkpoints} → (es ≡ [] → ⊥) → AreKeptOf layout first before tokens head checkpoints → IsUtf8 (with_all before (start_of_first es) es) → AreAtOnce before es
-    → edit ≡ edit_change (start_of_first es) (stop_of_last 0 es) (with_all before (start_of_first es) es) → made ≡ with_all before 0 es ++ drop (stop_of_last 0 es) before → IsPut layout first before (with_all before (start_of_first es) es) edit made tokens head checkpoints
+pub put_at_once : {layout : (List ℕ → Token) → List ℕ → Layout} {first : List ℕ → Token} {before made : List ℕ} (es : List Edit) {edit : Change} {tokens : List Token} {head : Head} {checkpoints : Checkpoints}
+    → (es ≡ [] → ⊥) → AreKeptOf layout first before tokens head checkpoints
+    → IsUtf8 (with_all before (start_of_first es) es) → AreAtOnce before es
+    → edit ≡ edit_change (start_of_first es) (stop_of_last 0 es) (with_all before (start_of_first es) es)
+    → made ≡ with_all before 0 es ++ drop (stop_of_last 0 es) before
+    → IsPut layout first before (with_all before (start_of_first es) es) edit made tokens head checkpoints
 put_at_once {before = before} es some kept utf8 valid edit_is made_is = rw edit_is (put_by kept utf8 valid.1 (made_is ∙ applied_is before es some) refl)

@@ -2,15 +2,9 @@
 use Rattle.std.proofs.Common.{◌≡◌, ℕ, zero, suc, ◌+◌, ◌<◌, ◌≤◌, ◌^◌, Bool, cond, List, [], ◌∷◌, ◌++◌, length, drop, ap, ◌∙◌, arith, length-drop, IsCharBoundary}
 use Rattle.std.proofs.lemmas.List.Sums.{sum_by_from}
 use Rattle.std.specs.List.{count_by}
-use Rattle.std.proofs.lemmas.List.{drop_all}
-use Rattle.std.proofs.lemmas.Str.{IsCharBoundary-from_drop, IsUtf8-drop}
-use Rattle.std.proofs.lemmas.Grind.{common_steps}
-use Rattle.rustc_lexer.specs.{Token}
-use Rattle.rustc_lexer.specs.Classes.{IsText}
-use Rattle.rustc_lexer.specs.Locality.{IsGrammar}
-use Rattle.rustc_lexer.specs.Tokens.{bound, tokens_by}
-use Rattle.rustc_lexer.specs.means.Relexing.{AreBoundaries}
-use Rattle.rustc_lexer.specs.laws.Cuts.{IsCutAt, at_bound, tokens-cons, tokens-nil}
+use Rattle.std.proofs.lemmas.{List.{drop_all}, Str.{IsCharBoundary-from_drop, IsUtf8-drop}, Grind.{common_steps}}
+use Rattle.rustc_lexer.specs.{Token, Classes.{IsText}, Locality.{IsGrammar}, Tokens.{bound, tokens_by}}
+use Rattle.rustc_lexer.specs.{means.Relexing.{AreBoundaries}, laws.Cuts.{IsCutAt, at_bound, tokens-cons, tokens-nil}}
 use Rattle.rustc_lexer.proofs.lemmas.tokens.Progress.{IsNext, next-from_drop}
 
 -- what is left of a text from a boundary on
@@ -29,7 +23,8 @@ pub bound-end : (ts : List Token) (t : Token) → bound (ts ++ t ∷ []) (length
 bound-end [] t = omega arith
 bound-end (u ∷ ts) t = omega (arith, bound-end ts t)
 
-pub rises : {first : List ℕ → Token} (law : IsGrammar first) (text : List ℕ) → IsText text → (k : ℕ) → k < length (tokens_by first text) → bound (tokens_by first text) k < bound (tokens_by first text) (suc k)
+pub rises : {first : List ℕ → Token} (law : IsGrammar first) (text : List ℕ) → IsText text → (k : ℕ)
+    → k < length (tokens_by first text) → bound (tokens_by first text) k < bound (tokens_by first text) (suc k)
 rises {first} law text is k few =
     let cut : IsCutAt first text (tokens_by first text) k = at_bound law k text is in
     let left : List ℕ = drop (bound (tokens_by first text) k) text in

@@ -2,20 +2,14 @@
 use Rattle.std.proofs.Common.{◌≡◌, ℕ, ◌+◌, ◌-◌, ◌<◌, ◌≤◌, Bool, false, ◌||◌, eqb, eq-eqb, List, ◌++◌, length, map, take, drop, sym, ap, ◌∙◌, subst, arith, length-drop, length-append, IsUtf8, drop-drop, length-take-le, append_assoc, eq-or-lt_of_le, IsCharBoundary, max, true, get_or}
 use Rattle.std.proofs.lemmas.Str.{IsUtf8-append, IsUtf8-drop, IsCharBoundary-at_seam, IsCharBoundary-from_drop, IsUtf8-take, IsCharBoundary-from_take}
 use Rattle.std.proofs.lemmas.Grind.{common_steps}
-use Rattle.rustc_lexer.specs.declared.relex.front.{Damage.Damage, TokenStart.TokenStart}
-use Rattle.rustc_lexer.specs.declared.relex.relexing.Change.{Change}
-use Rattle.rustc_lexer.specs.{Token, Eof}
-use Rattle.rustc_lexer.specs.Tokens.{bound, tokens_by}
-use Rattle.rustc_lexer.specs.Edits.{apply}
-use Rattle.rustc_lexer.specs.Offsets.{IsBound}
+use Rattle.rustc_lexer.specs.declared.relex.{front.{Damage.Damage, TokenStart.TokenStart}, relexing.Change.{Change}}
+use Rattle.rustc_lexer.specs.{Token, Eof, Tokens.{bound, tokens_by}, Edits.{apply}, Offsets.{IsBound}}
 use Rattle.rustc_lexer.specs.Relexing.{IsChange, IsEditOf, IsMadeOf}
 use Rattle.rustc_lexer.specs.means.Relexing.{IsFollowed, IsFront, IsLast, damage_of, HasLengths}
-use Rattle.rustc_lexer.specs.Locality.{IsGrammar, has_two}
-use Rattle.rustc_lexer.specs.Classes.{IsText}
+use Rattle.rustc_lexer.specs.{Locality.{IsGrammar, has_two}, Classes.{IsText}}
 use Rattle.rustc_lexer.proofs.lemmas.edits.Bounds.{bound-last, bound_mono, cuts, rises}
 use Rattle.rustc_lexer.proofs.lemmas.edits.FrontAndBack.{edited, has_two-late, has_two-same}
-use Rattle.std.proofs.lemmas.List.{get_or-map, length-map, take-take}
-use Rattle.std.proofs.lemmas.Bool.Decides.{leb_tells}
+use Rattle.std.proofs.lemmas.{List.{get_or-map, length-map, take-take}, Bool.Decides.{leb_tells}}
 use Rattle.rustc_lexer.proofs.lemmas.edits.KeptFront.{bound-next}
 
 -- what stands past the end of a list
@@ -30,7 +24,10 @@ module _ {X : Type 0} (f : X → ℕ) (xs : List X) (ts : List Token) (are : Has
   as_long i x len its at few = grind (arith, common_steps, as_many, its, at, get_or-map f xs i x 0 few, are, get_or-map, no_token)
 
 -- whether two characters stand before an offset is decided by the text up to there
-pub stand_alike : (old text : List ℕ) (offset start : ℕ) (two : Bool) → IsUtf8 old → IsUtf8 text → take start text ≡ take start old → start ≤ length text → IsCharBoundary old offset → (start ≤ offset → two ≡ false) → (IsCharBoundary text offset → two ≡ has_two text offset start) → two ≡ has_two old offset start
+pub stand_alike : (old text : List ℕ) (offset start : ℕ) (two : Bool) → IsUtf8 old → IsUtf8 text
+    → take start text ≡ take start old → start ≤ length text → IsCharBoundary old offset
+    → (start ≤ offset → two ≡ false) → (IsCharBoundary text offset → two ≡ has_two text offset start)
+    → two ≡ has_two old offset start
 stand_alike old text offset start two is its same inside cut late here =
     grind (arith, common_steps, leb_tells, has_two-late, take-take, IsCharBoundary-from_take, IsUtf8-take, has_two-same)
 
@@ -63,14 +60,18 @@ module _ {first : List ℕ → Token} (law : IsGrammar first) {before lengths in
   end_last offset at = grind (arith, (edited is.edit_of).len, bound-last law before is.edit_of.is_text, rises, bound_mono)
 
   -- how far the old tokens are followed for an offset, from a bound before that
-  pub follows : {damage : Damage} {from back : TokenStart} {met : Bool} (offset : ℕ) → damage ≡ damage_of text change → IsBound old from → ((k : ℕ) → k < from.index → bound old k + change.new_stop < max change.new_stop offset + change.old_stop)
+  pub follows : {damage : Damage} {from back : TokenStart} {met : Bool} (offset : ℕ) → damage ≡ damage_of text change
+      → IsBound old from
+      → ((k : ℕ) → k < from.index → bound old k + change.new_stop < max change.new_stop offset + change.old_stop)
       → (lengths ≡ map (λ (t : Token). t.len) old → IsBound old from → ((k : ℕ) → k < from.index → bound old k + damage.past < max damage.past offset + damage.old_stop) → (offset ≡ damage.end → IsLast old (offset - damage.past + damage.old_stop)) → IsFollowed old damage.old_stop damage.past offset back met)
       → IsFollowed old change.old_stop change.new_stop offset back met
   follows {damage} {from} {back} {met} offset e at passed follow =
       subst (λ (d : Damage). (IsBound old from → ((k : ℕ) → k < from.index → bound old k + d.past < max d.past offset + d.old_stop) → (offset ≡ d.end → IsLast old (offset - d.past + d.old_stop)) → IsFollowed old d.old_stop d.past offset back met)) e (follow is.lengths_are) at passed (end_last offset)
 
 -- the offset past a token
-pub step_offset : {first : List ℕ → Token} (law : IsGrammar first) (text : List ℕ) (at : ℕ) (token : Token) → IsText text → IsCharBoundary text at → at < length text → token ≡ first (drop at text) → (0 < token.len) × IsCharBoundary text (at + token.len)
+pub step_offset : {first : List ℕ → Token} (law : IsGrammar first) (text : List ℕ) (at : ℕ) (token : Token)
+    → IsText text → IsCharBoundary text at → at < length text → token ≡ first (drop at text)
+    → (0 < token.len) × IsCharBoundary text (at + token.len)
 step_offset {first} law text at token is cut more token_is =
     grind (arith, length-drop at text, token_is, (ap (λ (t : Token). t.len) token_is), drop-drop token.len at text, IsUtf8-drop, IsCharBoundary-from_drop)
 

@@ -2,16 +2,10 @@
 use Rattle.std.proofs.Common.{◌≡◌, ℕ, ◌+◌, ◌-◌, ◌≤◌, List, length, take, drop, sym, ap, ◌∙◌, arith, length-drop, take-take}
 use Rattle.std.specs.List.{All}
 use Rattle.std.proofs.lemmas.Grind.{common_steps}
-use Rattle.rustc_lexer.specs.declared.relex.front.TokenStart.{TokenStart}
-use Rattle.rustc_lexer.specs.declared.relex.checkpoints.Checkpoints.{Checkpoints}
-use Rattle.rustc_lexer.specs.{Token}
-use Rattle.rustc_lexer.specs.Classes.{IsText}
-use Rattle.rustc_lexer.specs.Locality.{IsGrammar}
-use Rattle.rustc_lexer.specs.Tokens.{bound, tokens_by}
-use Rattle.rustc_lexer.specs.Offsets.{IsBound}
-use Rattle.rustc_lexer.specs.means.Checkpoints.{AreBounds, IsMovable, IsReplaced}
-use Rattle.rustc_lexer.proofs.lemmas.edits.Bounds.{bound_mono, bounds_fit, tokens_le_bytes}
-use Rattle.rustc_lexer.proofs.lemmas.edits.FrontAndBack.{bound-same}
+use Rattle.rustc_lexer.specs.declared.relex.{front.TokenStart.{TokenStart}, checkpoints.Checkpoints.{Checkpoints}}
+use Rattle.rustc_lexer.specs.{Token, Classes.{IsText}, Locality.{IsGrammar}, Tokens.{bound, tokens_by}}
+use Rattle.rustc_lexer.specs.{Offsets.{IsBound}, means.Checkpoints.{AreBounds, IsMovable, IsReplaced}}
+use Rattle.rustc_lexer.proofs.lemmas.edits.{Bounds.{bound_mono, bounds_fit, tokens_le_bytes}, FrontAndBack.{bound-same}}
 use Rattle.rustc_lexer.proofs.lemmas.edits.KeptFront.{bound-shift}
 
 module _ (old new : List Token) (kept met now : TokenStart) (is : IsReplaced old new kept met now) where
@@ -38,5 +32,7 @@ module _ (old new : List Token) (kept met now : TokenStart) (is : IsReplaced old
       )
 
 -- numbers and places of both lists are small
-pub movable_for : {first : List ℕ → Token} (law : IsGrammar first) {text made : List ℕ} {old new : List Token} {kept met now : TokenStart} → IsText text → IsText made → (checkpoints : Checkpoints) → old ≡ tokens_by first text → new ≡ tokens_by first made → IsReplaced old new kept met now → AreBounds old checkpoints → All (IsMovable met now) checkpoints.bounds
+pub movable_for : {first : List ℕ → Token} (law : IsGrammar first) {text made : List ℕ} {old new : List Token} {kept met now : TokenStart}
+    → IsText text → IsText made → (checkpoints : Checkpoints) → old ≡ tokens_by first text → new ≡ tokens_by first made
+    → IsReplaced old new kept met now → AreBounds old checkpoints → All (IsMovable met now) checkpoints.bounds
 movable_for law is its checkpoints e f replaced are k d few past = grind (arith, common_steps, bound_mono, tokens_le_bytes, bounds_fit)

@@ -1,35 +1,22 @@
 -- An edit of what is kept with a text: what is put in place of its old tokens.
 use Rattle.std.proofs.Common.{◌≡◌, ◌↔◌, ℕ, ◌+◌, ◌-◌, ◌<◌, ◌≤◌, ◌^◌, Bool, true, false, IsTrue, List, ◌++◌, length, map, take, drop, refl, sym, ap, ap₂, ◌∙◌, subst, arith, length-append, length-drop, rules, Result, Ok, Err, ◌&&◌, nat_le, true≢false, IsUtf8}
 use Rattle.std.specs.List.{All, Contains}
-use Rattle.std.proofs.lemmas.List.{take_rest}
-use Rattle.std.proofs.lemmas.List.Elements.{All-contains}
+use Rattle.std.proofs.lemmas.List.{take_rest, Elements.{All-contains}}
 use Rattle.std.proofs.Math.Seq.{drop-append_seam, drop-append-add, take-append_seam, take-append-add}
 use Rattle.std.proofs.lemmas.Grind.{common_steps}
-use Rattle.rustc_lexer.specs.declared.relex.checkpoints.Checkpoints.{Checkpoints}
-use Rattle.rustc_lexer.specs.declared.relex.front.TokenStart.{TokenStart}
+use Rattle.rustc_lexer.specs.declared.relex.{checkpoints.Checkpoints.{Checkpoints}, front.TokenStart.{TokenStart}}
 use Rattle.rustc_lexer.specs.declared.head.Head.{Head}
-use Rattle.rustc_lexer.specs.declared.relex.relexing.{Change.Change, Relexed.Relexed, Relexing.Relexing}
-use Rattle.rustc_lexer.specs.{Token}
+use Rattle.rustc_lexer.specs.{declared.relex.relexing.{Change.Change, Relexed.Relexed, Relexing.Relexing}, Token}
 use Rattle.rustc_lexer.specs.means.Document.{body_change, body_insert, counted, head_put, head_unless, IsHeadIn, IsPut, tokens_of_head, AreKeptOf, TakesFew, edit_change, text_left}
-use Rattle.rustc_lexer.specs.Partition.{Layout, tokens_in}
-use Rattle.rustc_lexer.specs.Kept.{AreKept, Held, IsEdited, layout_in}
-use Rattle.rustc_lexer.specs.Offsets.{IsBound}
-use Rattle.rustc_lexer.specs.Relexing.{IsMadeOf, known, IsEditOf}
-use Rattle.rustc_lexer.specs.Locality.{IsGrammar}
-use Rattle.rustc_lexer.specs.Tokens.{tokens_by}
-use Rattle.rustc_lexer.specs.means.Checkpoints.{AreBounds, IsMovable, IsReplaced, end_of}
+use Rattle.rustc_lexer.specs.{Partition.{Layout, tokens_in}, Kept.{AreKept, Held, IsEdited, layout_in}}
+use Rattle.rustc_lexer.specs.{Offsets.{IsBound}, Relexing.{IsMadeOf, known, IsEditOf}, Locality.{IsGrammar}}
+use Rattle.rustc_lexer.specs.{Tokens.{tokens_by}, means.Checkpoints.{AreBounds, IsMovable, IsReplaced, end_of}}
 use Rattle.rustc_lexer.specs.means.Relexing.{IsLexed, kept_front}
-use Rattle.rustc_lexer.proofs.lemmas.edits.Bounds.{tokens_le_bytes}
-use Rattle.rustc_lexer.proofs.lemmas.edits.Checkpoints.{movable_for}
-use Rattle.rustc_lexer.proofs.lemmas.edits.FrontAndBack.{edited}
-use Rattle.rustc_lexer.proofs.lemmas.edits.Heads.{all_are, head_in}
-use Rattle.rustc_lexer.proofs.lemmas.edits.KeptFront.{kept_none}
-use Rattle.rustc_lexer.proofs.lemmas.edits.UnderWay.{kept_old, lexed_whole, rest_met}
-use Rattle.rustc_lexer.proofs.lemmas.edits.WholeEdits.{body_made, few_by}
+use Rattle.rustc_lexer.proofs.lemmas.edits.{Bounds.{tokens_le_bytes}, Checkpoints.{movable_for}, FrontAndBack.{edited}}
+use Rattle.rustc_lexer.proofs.lemmas.edits.{Heads.{all_are, head_in}, KeptFront.{kept_none}}
+use Rattle.rustc_lexer.proofs.lemmas.edits.{UnderWay.{kept_old, lexed_whole, rest_met}, WholeEdits.{body_made, few_by}}
 use Rattle.std.specs.Result.{IsErr}
-use Rattle.rustc_lexer.specs.Classes.{IsText}
-use Rattle.rustc_lexer.specs.Edits.{apply, IsEdit}
-use Rattle.rustc_lexer.specs.laws.Same.{decided_head, is_same_head}
+use Rattle.rustc_lexer.specs.{Classes.{IsText}, Edits.{apply, IsEdit}, laws.Same.{decided_head, is_same_head}}
 
 module _ {layout : (List ℕ → Token) → List ℕ → Layout} {first : List ℕ → Token} (law : IsGrammar first) {before insert made : List ℕ} {tokens : List Token}
     {old : Head} {checkpoints : Checkpoints} {edit : Change} (p : IsPut layout first before insert edit made tokens old checkpoints) where
@@ -164,7 +151,9 @@ stays_by : (old now : Head) (start : ℕ) (same : Bool) → IsTrue same ↔ (old
 stays_by old now start same tells = grind (arith, common_steps, tells)
 
 -- so it does that takes none
-pub few_none : {first : List ℕ → Token} (law : IsGrammar first) (whole : Bool) (text insert : List ℕ) (start stop before : ℕ) → IsText text → IsUtf8 insert → IsEdit text start stop insert → TakesFew (layout_in whole first) text start stop insert before before
+pub few_none : {first : List ℕ → Token} (law : IsGrammar first) (whole : Bool) (text insert : List ℕ) (start stop before : ℕ)
+    → IsText text → IsUtf8 insert → IsEdit text start stop insert
+    → TakesFew (layout_in whole first) text start stop insert before before
 few_none law whole text insert start stop before is its edit =
     let e : IsEditOf text (edit_change start stop insert) insert (apply text start stop insert) =
     record { is_text = is; inserted = its; is_edit = edit; made = refl; new_stop = refl } in
@@ -173,7 +162,9 @@ few_none law whole text insert start stop before is its edit =
     few_by law e old.1 now.1 (stays_by old.0 now.0 start (is_same_head old.0 now.0) (decided_head _ old.0 now.0 refl)) before before (λ x counts. omega arith)
 
 -- the text is made by an edit of what is kept
-pub put_by : {layout : (List ℕ → Token) → List ℕ → Layout} {first : List ℕ → Token} {before insert made reserved : List ℕ} {start stop : ℕ} {tokens : List Token} {head : Head} {checkpoints : Checkpoints} → AreKeptOf layout first before tokens head checkpoints → IsUtf8 insert → IsEdit before start stop insert → made ≡ apply reserved start stop insert → reserved ≡ before
+pub put_by : {layout : (List ℕ → Token) → List ℕ → Layout} {first : List ℕ → Token} {before insert made reserved : List ℕ} {start stop : ℕ} {tokens : List Token} {head : Head} {checkpoints : Checkpoints}
+    → AreKeptOf layout first before tokens head checkpoints → IsUtf8 insert → IsEdit before start stop insert
+    → made ≡ apply reserved start stop insert → reserved ≡ before
     → IsPut layout first before insert (edit_change start stop insert) made tokens head checkpoints
 put_by {insert = insert} {start = start} {stop = stop} kept utf8 valid made_is reserved_is = record {
   kept = kept;
@@ -192,7 +183,8 @@ left_back (Ok x) made before err = absurd (true≢false (sym err))
 left_back (Err e) made before err = refl
 
 -- an edit that is refused: the text is put back, and all else is as it was
-pub refused : {S E : Type 0} {first : S → List ℕ → Token} {year steps : S → ℕ} {layout : List ℕ → Layout} {text left insert : List ℕ} {start stop : ℕ} {tokens now : List Token} {stepper then : S} (r : Result Relexed E) → IsErr r → tokens ≡ tokens_in (layout text)
+pub refused : {S E : Type 0} {first : S → List ℕ → Token} {year steps : S → ℕ} {layout : List ℕ → Layout} {text left insert : List ℕ} {start stop : ℕ} {tokens now : List Token} {stepper then : S} (r : Result Relexed E)
+    → IsErr r → tokens ≡ tokens_in (layout text)
     → left ≡ text → now ≡ tokens → first then ≡ first stepper → year then ≡ year stepper → steps stepper ≤ steps then → TakesFew layout text start stop insert (steps stepper) (steps then)
     → IsEdited first year steps layout (record { text = text; tokens = tokens; stepper = stepper }) start stop insert r (record { text = left; tokens = now; stepper = then })
 refused (Ok x) err scratch left_is now_is grammar number rose few = absurd (true≢false (sym err))
@@ -211,7 +203,9 @@ refused {layout = layout} (Err e) err scratch left_is now_is grammar number rose
 }
 
 -- one that is made is so whatever its errors are
-pub made_as : {S A B : Type 0} {first : S → List ℕ → Token} {year steps : S → ℕ} {layout : List ℕ → Layout} {old new : Held S} {start stop : ℕ} {insert : List ℕ} {r : Relexed} → IsEdited {E = A} first year steps layout old start stop insert (Ok r) new → IsEdited {E = B} first year steps layout old start stop insert (Ok r) new
+pub made_as : {S A B : Type 0} {first : S → List ℕ → Token} {year steps : S → ℕ} {layout : List ℕ → Layout} {old new : Held S} {start stop : ℕ} {insert : List ℕ} {r : Relexed}
+    → IsEdited {E = A} first year steps layout old start stop insert (Ok r) new
+    → IsEdited {E = B} first year steps layout old start stop insert (Ok r) new
 made_as is = record {
   text = is.text;
   from_scratch = is.from_scratch;

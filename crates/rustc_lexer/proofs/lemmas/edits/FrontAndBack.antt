@@ -1,16 +1,11 @@
 -- What an edit keeps: the front by locality, the back by a bound that both texts have.
 use Rattle.std.proofs.Common.{◌≡◌, ℕ, zero, suc, ◌+◌, ◌-◌, ◌*◌, ◌<◌, ◌≤◌, true, false, List, [], ◌∷◌, ◌++◌, length, take, drop, refl, sym, ap, ◌∙◌, arith, length-drop, length-append, drop-drop, take-take, take-append-drop, take-add, take_at, drop_at, length-take-le, IsUtf8, IsCharBoundary, chars, leb-true, le-leb, leb, is_some, slice_get, encode_utf8, slice_range, append_assoc, Result, IfErr, OnOk, OnErr}
 use Rattle.std.specs.List.{replace_range}
-use Rattle.std.proofs.lemmas.List.{drop-take, take-append-le}
-use Rattle.std.proofs.lemmas.Grind.{common_steps}
+use Rattle.std.proofs.lemmas.{List.{drop-take, take-append-le}, Grind.{common_steps}}
 use Rattle.std.proofs.lemmas.Str.{chars_past_char, chars-nil, IsUtf8-append, IsUtf8-take, IsUtf8-drop, IsUtf8-between, IsCharBoundary-from_drop, chars-append, length-encode, len_utf8_bounds, encodes-chars}
 use Rattle.std.proofs.Math.Utf8.{encodes}
-use Rattle.rustc_lexer.specs.{Token}
-use Rattle.rustc_lexer.specs.Locality.{AgreePast, IsGrammar, has_two}
-use Rattle.rustc_lexer.specs.Classes.{IsText}
-use Rattle.rustc_lexer.specs.Tokens.{bound, tokens_by}
-use Rattle.rustc_lexer.specs.Edits.{apply}
-use Rattle.rustc_lexer.specs.Relexing.{IsEditOf}
+use Rattle.rustc_lexer.specs.{Token, Locality.{AgreePast, IsGrammar, has_two}, Classes.{IsText}}
+use Rattle.rustc_lexer.specs.{Tokens.{bound, tokens_by}, Edits.{apply}, Relexing.{IsEditOf}}
 use Rattle.rustc_lexer.specs.declared.relex.relexing.Change.{Change}
 use Rattle.rustc_lexer.specs.laws.Cuts.{IsCutAt, at_bound, tokens_local, look}
 
@@ -73,7 +68,8 @@ unfolding has_two
 has_two-intro text offset to two = le-leb 2 (length (chars (take (to - offset) (drop offset text)))) two
 
 -- where two characters stand before the edit, both texts agree
-pub has_two-agree : (text new : List ℕ) (offset start : ℕ) → IsUtf8 (take (start - offset) (drop offset text)) → take start new ≡ take start text → has_two text offset start ≡ true → AgreePast offset text new
+pub has_two-agree : (text new : List ℕ) (offset start : ℕ) → IsUtf8 (take (start - offset) (drop offset text))
+    → take start new ≡ take start text → has_two text offset start ≡ true → AgreePast offset text new
 unfolding has_two
 has_two-agree text new offset start is same two =
     let middle : List ℕ = take (start - offset) (drop offset text) in
@@ -145,7 +141,8 @@ pub has_two-late : (text : List ℕ) (offset to : ℕ) → to ≤ offset → has
 has_two-late text offset to late = grind (arith, common_steps, has_two-before)
 
 -- an offset before another has no fewer characters past it
-pub has_two-mono : (text : List ℕ) (offset later to : ℕ) → IsUtf8 text → offset ≤ later → IsCharBoundary text offset → IsCharBoundary text later → has_two text later to ≡ true → has_two text offset to ≡ true
+pub has_two-mono : (text : List ℕ) (offset later to : ℕ) → IsUtf8 text → offset ≤ later → IsCharBoundary text offset
+    → IsCharBoundary text later → has_two text later to ≡ true → has_two text offset to ≡ true
 has_two-mono text offset later to is le b c two =
     let before : later < to = has_two-before text later to two in
     let whole : to - offset ≡ (later - offset) + (to - later) = omega arith in
@@ -159,7 +156,8 @@ has_two-mono text offset later to is le b c two =
     has_two-intro text offset to (rw (split, chars-append xs ys (IsUtf8-between text offset later is le b c)) (omega (arith, length-append (chars xs) (chars ys), enough)))
 
 -- whether a second character stands past the first
-pub two_chars : (text : List ℕ) (from to : ℕ) (bs rest : List ℕ) (c : ℕ) → bs ≡ take (to - from) (drop from text) → IsUtf8 bs → bs ≡ encode_utf8 c ++ rest → is_some (slice_get (chars rest) 0) ≡ has_two text from to
+pub two_chars : (text : List ℕ) (from to : ℕ) (bs rest : List ℕ) (c : ℕ) → bs ≡ take (to - from) (drop from text)
+    → IsUtf8 bs → bs ≡ encode_utf8 c ++ rest → is_some (slice_get (chars rest) 0) ≡ has_two text from to
 unfolding has_two
 two_chars text from to bs rest c e is split =
     count (chars rest) ∙ sym (ap (λ xs. leb 2 (length (chars xs))) (sym e) ∙ ap (λ xs. leb 2 (length xs)) (chars_past_char bs rest c is split))

@@ -1,17 +1,10 @@
 -- The head of a text, by where the tokens of the text are.
 use Rattle.std.proofs.Common.{◌≡◌, ◌↔◌, ℕ, zero, suc, ◌+◌, ◌≤◌, Bool, true, false, List, [], length, refl, sym, ap, ap₂, ◌∙◌, subst, arith, drop, length-take-le, Option, None, IsCharBoundary}
-use Rattle.std.proofs.lemmas.Grind.{common_steps}
-use Rattle.std.proofs.lemmas.Str.{IsCharBoundary-start}
-use Rattle.rustc_lexer.specs.{Edition, Token}
-use Rattle.rustc_lexer.specs.declared.head.Head.{Head}
-use Rattle.rustc_lexer.specs.Answers.{first_in}
-use Rattle.rustc_lexer.specs.Classes.{IsText}
+use Rattle.std.proofs.lemmas.{Grind.{common_steps}, Str.{IsCharBoundary-start}}
+use Rattle.rustc_lexer.specs.{Edition, Token, declared.head.Head.{Head}, Answers.{first_in}, Classes.{IsText}}
 use Rattle.rustc_lexer.specs.Document.{body_start, head_tokens, shebang_len, whole_by}
-use Rattle.rustc_lexer.specs.Edits.{body_in, KeepsHead, part_by}
-use Rattle.rustc_lexer.specs.Kept.{edition_tokens_in, layout_in, start_in}
-use Rattle.rustc_lexer.specs.LanguageText.{newest}
-use Rattle.rustc_lexer.specs.Partition.{Layout, tokens_in}
-use Rattle.rustc_lexer.specs.Relexing.{IsHeadOf}
+use Rattle.rustc_lexer.specs.{Edits.{body_in, KeepsHead, part_by}, Kept.{edition_tokens_in, layout_in, start_in}}
+use Rattle.rustc_lexer.specs.{LanguageText.{newest}, Partition.{Layout, tokens_in}, Relexing.{IsHeadOf}}
 use Rattle.rustc_lexer.specs.Tokens.{bound, tokens_by}
 use Rattle.rustc_lexer.specs.means.Document.{by_head, front_tokens, IsHeadIn, tokens_of_head}
 use Rattle.rustc_lexer.proofs.lemmas.edits.FrontAndBack.{bound-take}

@@ -1,13 +1,9 @@
 -- What two texts have in common at their ends, and the edit of what is between.
 use Rattle.std.proofs.lemmas.Grind.{common_steps}
 use Rattle.std.proofs.Common.{◌≡◌, ◌↔◌, Bool, false, IsTrue, ℕ, ◌+◌, ◌-◌, ◌^◌, ◌<◌, ◌≤◌, ◌++◌, List, length, take, drop, slice_range, refl, sym, ap, ap₂, ◌∙◌, subst, arith, drop-drop, take-take, take_at, drop_at, length-append, length-drop, length-take, length-take-le, IsUtf8, IsCharBoundary}
-use Rattle.std.proofs.lemmas.List.{drop-take}
-use Rattle.std.proofs.lemmas.List.Folds.{drop_split}
-use Rattle.std.proofs.lemmas.Slice.Eq.{bytes_eq-Decides}
-use Rattle.std.proofs.lemmas.Str.{IsCharBoundary-from_take, IsCharBoundary-start, IsUtf8-take}
-use Rattle.std.proofs.Math.Seq.{take-add}
-use Rattle.rustc_lexer.specs.Edits.{IsNarrowest, Makes, apply}
-use Rattle.rustc_lexer.specs.means.Relexing.{IsSameBack, IsSameFront}
+use Rattle.std.proofs.lemmas.{List.{drop-take, Folds.{drop_split}}, Slice.Eq.{bytes_eq-Decides}}
+use Rattle.std.proofs.{lemmas.Str.{IsCharBoundary-from_take, IsCharBoundary-start, IsUtf8-take}, Math.Seq.{take-add}}
+use Rattle.rustc_lexer.specs.{Edits.{IsNarrowest, Makes, apply}, means.Relexing.{IsSameBack, IsSameFront}}
 use Rattle.rustc_lexer.proofs.lemmas.edits.FrontAndBack.{three_parts}
 
 -- ---- the front

@@ -1,27 +1,14 @@
 -- Where the bounds are of the tokens that are kept with a text, also in the words of its definitions.
 use Rattle.std.proofs.Common.{◌≡◌, ℕ, ◌+◌, ◌-◌, ◌^◌, ◌<◌, ◌≤◌, List, ◌++◌, length, take, drop, sym, ap, ◌∙◌, subst, arith, length-append, length-drop, inl, inr, IsCharBoundary, ◌↔◌, Bool, Option, IsSome, None}
-use Rattle.std.proofs.Math.Seq.{drop-append_seam}
-use Rattle.std.proofs.lemmas.Bool.{cases_lt}
-use Rattle.std.proofs.lemmas.List.{take-append-le}
-use Rattle.std.proofs.lemmas.Str.{IsCharBoundary-from_rest}
-use Rattle.std.proofs.lemmas.Grind.{common_steps}
-use Rattle.rustc_lexer.specs.declared.relex.checkpoints.Checkpoints.{Checkpoints}
-use Rattle.rustc_lexer.specs.declared.relex.front.TokenStart.{TokenStart}
-use Rattle.rustc_lexer.specs.declared.head.Head.{Head}
-use Rattle.rustc_lexer.specs.{Token}
-use Rattle.rustc_lexer.specs.Classes.{IsText}
-use Rattle.rustc_lexer.specs.Offsets.{IsBound}
-use Rattle.rustc_lexer.specs.means.Checkpoints.{IsBoundFrom}
-use Rattle.rustc_lexer.specs.Locality.{IsGrammar}
-use Rattle.rustc_lexer.specs.Tokens.{bound, tokens_by}
-use Rattle.rustc_lexer.specs.means.Document.{AreKeptOf, tokens_of_head}
-use Rattle.rustc_lexer.specs.Partition.{Layout}
-use Rattle.rustc_lexer.specs.means.Pieces.{AreCut}
+use Rattle.std.proofs.{Math.Seq.{drop-append_seam}, lemmas.{Bool.{cases_lt}, List.{take-append-le}}}
+use Rattle.std.proofs.lemmas.{Str.{IsCharBoundary-from_rest}, Grind.{common_steps}}
+use Rattle.rustc_lexer.specs.declared.relex.{checkpoints.Checkpoints.{Checkpoints}, front.TokenStart.{TokenStart}}
+use Rattle.rustc_lexer.specs.{declared.head.Head.{Head}, Token, Classes.{IsText}, Offsets.{IsBound}}
+use Rattle.rustc_lexer.specs.{means.Checkpoints.{IsBoundFrom}, Locality.{IsGrammar}, Tokens.{bound, tokens_by}}
+use Rattle.rustc_lexer.specs.{means.Document.{AreKeptOf, tokens_of_head}, Partition.{Layout}, means.Pieces.{AreCut}}
 use Rattle.rustc_lexer.proofs.lemmas.edits.Bounds.{bound-last, bound_mono, cuts, rest_is}
-use Rattle.rustc_lexer.proofs.lemmas.heads.ByTokens.{bound-append}
-use Rattle.rustc_lexer.proofs.lemmas.edits.FrontAndBack.{bound-same}
-use Rattle.rustc_lexer.proofs.lemmas.edits.Heads.{all_are as tokens_are, start_is}
-use Rattle.rustc_lexer.proofs.lemmas.edits.KeptFront.{bound-shift}
+use Rattle.rustc_lexer.proofs.lemmas.{heads.ByTokens.{bound-append}, edits.FrontAndBack.{bound-same}}
+use Rattle.rustc_lexer.proofs.lemmas.edits.{Heads.{all_are as tokens_are, start_is}, KeptFront.{bound-shift}}
 use Rattle.rustc_lexer.specs.Kept.{Held, layout_in, start_in}
 
 module _ {first : List ℕ → Token} (law : IsGrammar first) {layout : (List ℕ → Token) → List ℕ → Layout} (text : List ℕ) (tokens : List Token) (head : Head) (checkpoints : Checkpoints) (are : AreKeptOf layout first text tokens head checkpoints) where
@@ -45,7 +32,8 @@ module _ {first : List ℕ → Token} (law : IsGrammar first) {layout : (List �
   near_at near n e at = omega (arith, at.1, body_at near.index, ap (λ m. bound tokens (m + near.index)) e)
 
   -- the same, with its offset in the text
-  pub near_from : (near : TokenStart) (n : ℕ) → n ≡ length fronts → IsBound (drop (length fronts) tokens) near → IsBoundFrom head.shebang_len tokens (record { index = n + near.index; offset = head.body + near.offset })
+  pub near_from : (near : TokenStart) (n : ℕ) → n ≡ length fronts → IsBound (drop (length fronts) tokens) near
+      → IsBoundFrom head.shebang_len tokens (record { index = n + near.index; offset = head.body + near.offset })
   near_from near n e at = grind (arith, common_steps, all_are, length-append, length-drop, near_at)
 
   -- the last bound is the text's end

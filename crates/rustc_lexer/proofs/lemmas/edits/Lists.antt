@@ -1,19 +1,13 @@
 -- A list of edits, one edit at a time, and how far it was made.
 use Rattle.std.proofs.Common.{◌≡◌, ℕ, ◌+◌, ◌-◌, ◌<◌, ◌≤◌, min, List, [], ◌∷◌, ◌++◌, length, take, drop, get_or, refl, sym, ap, ◌∙◌, subst, arith, length-drop, length-take-le, drop-drop, Option, IfSome, Ok, Err}
 use Rattle.std.specs.List.{All}
-use Rattle.std.proofs.lemmas.List.{length-take, take_more}
-use Rattle.std.proofs.lemmas.List.Elements.{All-cons, All-head, All-nil, All-tail}
-use Rattle.std.proofs.lemmas.Option.{slice_get-get_or}
-use Rattle.std.proofs.lemmas.Grind.{common_steps}
-use Rattle.rustc_lexer.specs.{Token}
-use Rattle.rustc_lexer.specs.laws.Reach.{cut}
-use Rattle.rustc_lexer.specs.declared.relex.edit.Edit.{Edit}
-use Rattle.rustc_lexer.specs.declared.relex.edit_list.EditStop.{EditStop}
-use Rattle.rustc_lexer.specs.declared.relex.edit_list.EditStop.TheVariants.{Memory}
+use Rattle.std.proofs.lemmas.List.{length-take, take_more, Elements.{All-cons, All-head, All-tail}}
+use Rattle.std.proofs.lemmas.{Option.{slice_get-get_or}, Grind.{common_steps}}
+use Rattle.rustc_lexer.specs.{Token, laws.Reach.{cut}, declared.relex.edit.Edit.{Edit}}
+use Rattle.rustc_lexer.specs.declared.relex.edit_list.EditStop.{EditStop, TheVariants.{Memory}}
 use Rattle.rustc_lexer.specs.declared.relex.relexing.Relexed.{Relexed}
 use Rattle.rustc_lexer.specs.Edits.{IsEdit, IsRelexed, applied, apply, apply_list, count_after, AreEdits, AreRelexed, AreStepped, IsGreatest, IsRefusedOn, IsStop, IsStopStepped, stop_at}
-use Rattle.rustc_lexer.specs.Kept.{AreKept, AreKeptThrough, AreMade, Held, IsEdited}
-use Rattle.rustc_lexer.specs.Partition.{Layout, tokens_in}
+use Rattle.rustc_lexer.specs.{Kept.{AreKept, AreKeptThrough, AreMade, Held, IsEdited}, Partition.{Layout, tokens_in}}
 use Rattle.rustc_lexer.specs.means.EditList.{AreLeast, StayAtEnds, AreKeptTo, AreMadeTo}
 use Rattle.rustc_lexer.specs.declared.relex.lexed.edits.Made.{Made}
 
@@ -25,7 +19,8 @@ abbrev pub none : Edit
 none = record { start = 0; stop = 0; insert = record { ref_ptr = (0, 0); now = [] } }
 
 -- one more edit: what the text is then, and what was lexed by then
-pub text-more : (text now after : List ℕ) (es : List Edit) (n : ℕ) → n < length es → now ≡ apply_list text (take n es) → after ≡ applied now (get_or es n none) → after ≡ apply_list text (take (n + 1) es)
+pub text-more : (text now after : List ℕ) (es : List Edit) (n : ℕ) → n < length es → now ≡ apply_list text (take n es)
+    → after ≡ applied now (get_or es n none) → after ≡ apply_list text (take (n + 1) es)
 text-more text now after es n few is made = rw (take_more es n none few, apply-last text (take n es) (get_or es n none), sym is) made
 
 -- the steps that one edit takes
@@ -59,8 +54,10 @@ module _ (layout : List ℕ → Layout) where
       rw (take_more es n none few) (stepped-last text (take n es) (get_or es n none) before between after are (rw (sym is) one))
 
   -- where memory is refused, the steps are at most those of one edit more
-  pub stop-stepped : (text now : List ℕ) (es : List Edit) (n before between after : ℕ) → n < length es → now ≡ apply_list text (take n es) → AreStepped layout text (take n es) before between → between ≤ after
-      → (r : Relexed) × IsRelexed layout now (get_or es n none).start (get_or es n none).stop (get_or es n none).insert.now r × (after + (length (layout (applied now (get_or es n none))).head - r.kept_front) ≤ between + r.lexed) → IsStopStepped (Memory n) layout text es before after
+  pub stop-stepped : (text now : List ℕ) (es : List Edit) (n before between after : ℕ) → n < length es
+      → now ≡ apply_list text (take n es) → AreStepped layout text (take n es) before between → between ≤ after
+      → (r : Relexed) × IsRelexed layout now (get_or es n none).start (get_or es n none).stop (get_or es n none).insert.now r × (after + (length (layout (applied now (get_or es n none))).head - r.kept_front) ≤ between + r.lexed)
+      → IsStopStepped (Memory n) layout text es before after
   stop-stepped text now es n before between after few is are rose at_most =
       let most = most_of layout now (get_or es n none).start (get_or es n none).stop (get_or es n none).insert.now between after at_most in
       (between, most.0, are, rose, stepped-more text now es n before between most.0 few is are most.1, most.2)
@@ -75,13 +72,17 @@ module _ (layout : List ℕ → Layout) (r : Relexed) where
   least-last text (d ∷ es) e f b front back next_front next_back front_is back_is are is =
       (are.0, are.1, least-last (applied text d) es e (min f are.0.kept_front) (min b are.0.kept_back) front back _ _ front_is back_is are.2 is)
 
-  pub least-more : (text now : List ℕ) (es : List Edit) (n f b front back next_front next_back : ℕ) → n < length es → now ≡ apply_list text (take n es) → next_front ≡ min front r.kept_front → next_back ≡ min back r.kept_back → AreLeast layout text (take n es) f b front back
+  pub least-more : (text now : List ℕ) (es : List Edit) (n f b front back next_front next_back : ℕ) → n < length es
+      → now ≡ apply_list text (take n es) → next_front ≡ min front r.kept_front → next_back ≡ min back r.kept_back
+      → AreLeast layout text (take n es) f b front back
       → IsRelexed layout now (get_or es n none).start (get_or es n none).stop (get_or es n none).insert.now r → AreLeast layout text (take (n + 1) es) f b next_front next_back
   least-more text now es n f b front back next_front next_back few is front_is back_is are one =
       rw (take_more es n none few) (least-last text (take n es) (get_or es n none) f b front back next_front next_back front_is back_is are (rw (sym is) one))
 
 -- the least of some numbers is the greatest that is at most each of them
-greatest-next : (read : Relexed → ℕ) (r : Relexed) (rs : List Relexed) (most n : ℕ) → IsGreatest (λ n. (n ≤ min most (read r)) × All (λ (c : Relexed). n ≤ read c) rs) n → IsGreatest (λ n. (n ≤ most) × All (λ (c : Relexed). n ≤ read c) (r ∷ rs)) n
+greatest-next : (read : Relexed → ℕ) (r : Relexed) (rs : List Relexed) (most n : ℕ)
+    → IsGreatest (λ n. (n ≤ min most (read r)) × All (λ (c : Relexed). n ≤ read c) rs) n
+    → IsGreatest (λ n. (n ≤ most) × All (λ (c : Relexed). n ≤ read c) (r ∷ rs)) n
 greatest-next read r rs most n is = (
   (omega (arith, is.0.0), All-cons (λ (c : Relexed). n ≤ read c) r rs (omega (arith, is.0.0)) is.0.1),
   λ m holds. is.1 m (omega (arith, holds.0, All-head (λ (c : Relexed). m ≤ read c) r rs holds.1), All-tail (λ (c : Relexed). m ≤ read c) r rs holds.1),
@@ -99,7 +100,10 @@ edits-last : (text : List ℕ) (es : List Edit) (e : Edit) → AreEdits text es 
 edits-last text [] e are is = (is, tt)
 edits-last text (d ∷ es) e are is = (are.0, edits-last (applied text d) es e are.1 is)
 
-pub edits-more : (text now : List ℕ) (es : List Edit) (n : ℕ) → n < length es → now ≡ apply_list text (take n es) → AreEdits text (take n es) → IsEdit now (get_or es n none).start (get_or es n none).stop (get_or es n none).insert.now → AreEdits text (take (n + 1) es)
+pub edits-more : (text now : List ℕ) (es : List Edit) (n : ℕ) → n < length es → now ≡ apply_list text (take n es)
+    → AreEdits text (take n es)
+    → IsEdit now (get_or es n none).start (get_or es n none).stop (get_or es n none).insert.now
+    → AreEdits text (take (n + 1) es)
 edits-more text now es n few same are is = rw (take_more es n none few) (edits-last text (take n es) (get_or es n none) are (rw (sym same) is))
 
 -- which edit stopped the list, and why
@@ -107,7 +111,9 @@ pub stop_of : (text : List ℕ) (es : List Edit) (s : EditStop) → stop_at s < 
 stop_of text es s few refused = (few, subst (λ (o : Option Edit). IfSome o (IsRefusedOn s text)) (sym (slice_get-get_or es (stop_at s) none few)) refused)
 
 -- fewer of them stay too
-fewer_back : (n back : ℕ) (old new : List Token) → n ≤ back → back ≤ length old → back ≤ length new → drop (length new - back) new ≡ drop (length old - back) old → drop (length new - n) new ≡ drop (length old - n) old
+fewer_back : (n back : ℕ) (old new : List Token) → n ≤ back → back ≤ length old → back ≤ length new
+    → drop (length new - back) new ≡ drop (length old - back) old
+    → drop (length new - n) new ≡ drop (length old - n) old
 fewer_back n back old new few old_has new_has same =
     let before : length new - back + (back - n) ≡ length new - n = omega arith in
     let after : length old - back + (back - n) ≡ length old - n = omega arith in
@@ -117,19 +123,27 @@ fewer_stay : {old new : List Token} {front back : ℕ} (n m : ℕ) → n ≤ fro
 fewer_stay {old} {new} {front} {back} n m few_front few_back stay = grind (arith, common_steps, cut, fewer_back)
 
 -- what the counts of one edit say
-pub counts_stay : (old new : List Token) (front lexed back : ℕ) → front + lexed + back ≡ length new → take front new ≡ take front old → drop (front + lexed) new ≡ drop (length old - back) old → StayAtEnds old new front back
+pub counts_stay : (old new : List Token) (front lexed back : ℕ) → front + lexed + back ≡ length new
+    → take front new ≡ take front old → drop (front + lexed) new ≡ drop (length old - back) old
+    → StayAtEnds old new front back
 counts_stay old new front lexed back all same_front same_back = grind (arith, common_steps, length-drop, length-take-le, length-take)
 
 -- one more edit
-pub stay-more : {old between new : List Token} {front back n m : ℕ} (next_front next_back : ℕ) → next_front ≡ min front n → next_back ≡ min back m → StayAtEnds old between front back → StayAtEnds between new n m → StayAtEnds old new next_front next_back
+pub stay-more : {old between new : List Token} {front back n m : ℕ} (next_front next_back : ℕ)
+    → next_front ≡ min front n → next_back ≡ min back m → StayAtEnds old between front back → StayAtEnds between new n m
+    → StayAtEnds old new next_front next_back
 stay-more next_front next_back front_is back_is before then = grind (arith, common_steps, fewer_stay)
 
 -- the counts of all edits together
-pub counts_back : {old new : List Token} {front back : ℕ} (len kept_back : ℕ) → len ≡ length new → kept_back ≡ min back (min (length new) (length old) - front) → StayAtEnds old new front back → drop (front + (len - front - kept_back)) new ≡ drop (length old - kept_back) old
+pub counts_back : {old new : List Token} {front back : ℕ} (len kept_back : ℕ) → len ≡ length new
+    → kept_back ≡ min back (min (length new) (length old) - front) → StayAtEnds old new front back
+    → drop (front + (len - front - kept_back)) new ≡ drop (length old - kept_back) old
 counts_back {old} {new} {front} {back} len kept_back len_is fewer stay = grind (arith, common_steps, fewer_stay)
 
 -- what two edits after one another keep
-pub kept_then : {old between new : List Token} {a b r : Relexed} → r.kept_front ≡ min a.kept_front b.kept_front → r.kept_back ≡ min a.kept_back b.kept_back → count_after r ≡ count_after b → AreKept old between a → AreKept between new b → AreKept old new r
+pub kept_then : {old between new : List Token} {a b r : Relexed} → r.kept_front ≡ min a.kept_front b.kept_front
+    → r.kept_back ≡ min a.kept_back b.kept_back → count_after r ≡ count_after b → AreKept old between a
+    → AreKept between new b → AreKept old new r
 kept_then {old} {between} {new} {a} {b} {r} front back count before then =
     let stay = stay-more r.kept_front r.kept_back front back
     (counts_stay old between a.kept_front a.lexed a.kept_back before.all before.front before.back)
@@ -142,7 +156,9 @@ kept_then {old} {between} {new} {a} {b} {r} front back count before then =
 
 module _ {S : Type 0} {first : S → List ℕ → Token} {year steps : S → ℕ} {layout : List ℕ → Layout} {old mid : Held S} {edits : List Edit} {made : Made} (m : AreMadeTo first year steps layout old edits made mid) where
   -- the list stops here
-  pub made_stop : (s : EditStop) {T : Type 0} {new : Held S} → stop_at s ≡ made.count → made.count < length edits → IsRefusedOn s new.text (get_or edits made.count none) → new.text ≡ mid.text → new.tokens ≡ tokens_in (layout new.text)
+  pub made_stop : (s : EditStop) {T : Type 0} {new : Held S} → stop_at s ≡ made.count → made.count < length edits
+      → IsRefusedOn s new.text (get_or edits made.count none) → new.text ≡ mid.text
+      → new.tokens ≡ tokens_in (layout new.text)
       → first new.stepper ≡ first old.stepper → year new.stepper ≡ year old.stepper → IsStopStepped s layout old.text edits (steps old.stepper) (steps new.stepper)
       → AreMade {T = T} first year steps layout old edits (Err s) new
   made_stop s {T} {new} at few refused same scratch grammar number counted = grind (arith, common_steps, stop_of)
@@ -154,7 +170,9 @@ module _ {S : Type 0} {first : S → List ℕ → Token} {year steps : S → ℕ
     abbrev edit : Edit
     edit = get_or edits at none
 
-    pub made_more : {X : Type 0} {r : Relexed} {new : Held S} (next : Made) → IsEdited {E = X} first year steps layout mid edit.start edit.stop edit.insert.now (Ok r) new → next.count ≡ at + 1 → next.front ≡ min made.front r.kept_front → next.back ≡ min made.back r.kept_back
+    pub made_more : {X : Type 0} {r : Relexed} {new : Held S} (next : Made)
+        → IsEdited {E = X} first year steps layout mid edit.start edit.stop edit.insert.now (Ok r) new
+        → next.count ≡ at + 1 → next.front ≡ min made.front r.kept_front → next.back ≡ min made.back r.kept_back
         → AreMadeTo first year steps layout old edits next new
     made_more {X} {r} {new} next i count_is front_is back_is = grind (arith, common_steps, edits-more, text-more, stepped-more)
 
@@ -190,7 +208,10 @@ kept_none edits n all = grind (arith, common_steps)
 
 -- ---- what all edits of a list kept
 
-pub kept_through : {S : Type 0} {layout : List ℕ → Layout} {old new : Held S} {edits : List Edit} {made : Made} (r : Relexed) → AreKeptTo layout old edits made new → r.kept_front ≡ made.front → r.kept_back ≡ min made.back (min (length new.tokens) (length old.tokens) - made.front) → r.kept_front + r.lexed + r.kept_back ≡ length new.tokens
+pub kept_through : {S : Type 0} {layout : List ℕ → Layout} {old new : Held S} {edits : List Edit} {made : Made} (r : Relexed)
+    → AreKeptTo layout old edits made new → r.kept_front ≡ made.front
+    → r.kept_back ≡ min made.back (min (length new.tokens) (length old.tokens) - made.front)
+    → r.kept_front + r.lexed + r.kept_back ≡ length new.tokens
     → AreKeptThrough layout old (take made.count edits) new r
 kept_through {S} {layout} {old} {new} {edits} {made} r kept front back all =
     let stay = kept.stay in

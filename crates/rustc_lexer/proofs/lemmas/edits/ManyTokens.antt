@@ -1,20 +1,11 @@
 -- Lexing and relexing by many tokens at once, each block a buffer that is filled with the next ones, and one by one.
-use Rattle.std.proofs.Common.{◌≡◌, ℕ, ◌+◌, ◌-◌, ◌<◌, ◌≤◌, List, ◌++◌, length, map, take, drop, sym, ap, ap₂, ◌∙◌, subst, arith, length-append, length-drop, length-take-le, take_at, drop-drop, take-add, IsCharBoundary, IsUtf8, false, ◌∷◌}
-use Rattle.std.proofs.lemmas.Bool.{cases_lt}
-use Rattle.std.proofs.lemmas.List.{map-id}
-use Rattle.std.proofs.lemmas.Str.{IsCharBoundary-from_drop}
-use Rattle.std.proofs.lemmas.Grind.{common_steps}
-use Rattle.rustc_lexer.specs.declared.relex.front.TokenStart.{TokenStart}
-use Rattle.rustc_lexer.specs.declared.relex.relexing.Relexing.{Relexing}
-use Rattle.rustc_lexer.specs.{Token}
-use Rattle.rustc_lexer.specs.Classes.{IsText}
-use Rattle.rustc_lexer.specs.Relexing.{known, TakesSteps}
-use Rattle.rustc_lexer.specs.Locality.{IsGrammar}
-use Rattle.rustc_lexer.specs.Tokens.{IsFilledTo, bound, tokens_by}
-use Rattle.rustc_lexer.specs.laws.Cuts.{at_bound, tokens-cons}
+use Rattle.std.proofs.Common.{◌≡◌, ℕ, ◌+◌, ◌<◌, ◌≤◌, List, ◌++◌, length, map, take, drop, sym, ap, ◌∙◌, subst, arith, length-append, length-drop, length-take-le, take_at, drop-drop, take-add, IsCharBoundary, IsUtf8, false, ◌∷◌}
+use Rattle.std.proofs.lemmas.{Bool.{cases_lt}, List.{map-id}, Str.{IsCharBoundary-from_drop}, Grind.{common_steps}}
+use Rattle.rustc_lexer.specs.{declared.{relex.{relexing.Relexing.{Relexing}}}, Token}
+use Rattle.rustc_lexer.specs.{Classes.{IsText}, Relexing.{known, TakesSteps}, Locality.{IsGrammar}}
+use Rattle.rustc_lexer.specs.{Tokens.{IsFilledTo, bound, tokens_by}, laws.Cuts.{at_bound, tokens-cons}}
 use Rattle.rustc_lexer.proofs.lemmas.edits.Bounds.{number_le_bound, rest_is, rises, tokens_le_bytes}
-use Rattle.rustc_lexer.proofs.lemmas.edits.KeptFront.{bound-shift}
-use Rattle.rustc_lexer.proofs.lemmas.tokens.Progress.{IsLexedTo, lexed_offset}
+use Rattle.rustc_lexer.proofs.lemmas.{edits.KeptFront.{bound-shift}, tokens.Progress.{IsLexedTo, lexed_offset}}
 
 -- so many tokens of what is left of a text
 module _ {first : List ℕ → Token} (law : IsGrammar first) (text left : List ℕ) (is : IsText text) (at : ℕ) (boundary : IsCharBoundary text at) (left_is : left ≡ drop at text) (count bytes : ℕ) (few : count ≤ length (tokens_by first left)) (bytes_is : bytes ≡ bound (tokens_by first left) count) where
@@ -37,12 +28,15 @@ module _ {first : List ℕ → Token} (law : IsGrammar first) (text left : List 
   block_count = omega (arith, bytes_is, number_le_bound (tokens_by first left) count few (rises law left left_text))
 
 -- behind the tokens that were lexed, so many more
-pub more_lexed : (new left items block : List Token) (at past : Relexing) (count : ℕ) → past.front ≡ at.front → past.lexed ≡ at.lexed + count → items ≡ take at.lexed (drop at.front.index new) → left ≡ drop (known at) new → block ≡ take count left → items ++ block ≡ take past.lexed (drop past.front.index new)
+pub more_lexed : (new left items block : List Token) (at past : Relexing) (count : ℕ) → past.front ≡ at.front
+    → past.lexed ≡ at.lexed + count → items ≡ take at.lexed (drop at.front.index new) → left ≡ drop (known at) new
+    → block ≡ take count left → items ++ block ≡ take past.lexed (drop past.front.index new)
 more_lexed new left items block at past count front lexed so left_is block_is =
     grind (arith, common_steps, drop-drop, take-add)
 
 -- a buffer with room has some token of a text before an offset
-pub some_filled : {X : Type 0} (form : Token → X) (end : ℕ) (tokens : List Token) (buffer filled : List X) (count : ℕ) → IsFilledTo form end tokens buffer filled count → 0 < length buffer → 0 < end → 0 < count
+pub some_filled : {X : Type 0} (form : Token → X) (end : ℕ) (tokens : List Token) (buffer filled : List X) (count : ℕ)
+    → IsFilledTo form end tokens buffer filled count → 0 < length buffer → 0 < end → 0 < count
 some_filled form end tokens buffer filled count is room some = grind (arith, common_steps, cases_lt)
 
 -- what stands at the front of a buffer that was filled with tokens as they are
@@ -98,7 +92,9 @@ module _ {first : List ℕ → Token} (law : IsGrammar first) {text : List ℕ} 
   rest = drop begin.at text
 
   -- past the token where relexing stands
-  pub one_step : {token : Token} {at : Relexing} → token ≡ first rest → begin.at < length text → at.front ≡ begin.front → at.lexed ≡ begin.lexed + 1 → at.at ≡ begin.at + token.len → (at.at < past → at.back ≡ begin.back) → (at.at < past → at.met ≡ false) → TakesSteps first text past begin 1 at
+  pub one_step : {token : Token} {at : Relexing} → token ≡ first rest → begin.at < length text → at.front ≡ begin.front
+      → at.lexed ≡ begin.lexed + 1 → at.at ≡ begin.at + token.len → (at.at < past → at.back ≡ begin.back)
+      → (at.at < past → at.met ≡ false) → TakesSteps first text past begin 1 at
   one_step {token} token_is more front lexed offset same_back not_met =
       let cons = tokens-cons law rest (rest_is text begin.at is boundary) (omega (arith, more, length-drop begin.at text)) in
       record {
@@ -119,7 +115,8 @@ module _ {first : List ℕ → Token} (law : IsGrammar first) {text : List ℕ} 
     left_is : drop count (tokens_by first rest) ≡ tokens_by first (drop at.at text)
     left_is = (at_bound law count rest (rest_is text begin.at is boundary)).rest ∙ ap (tokens_by first) there
 
-    pub next_left : {token : Token} → token ≡ first (drop at.at text) → 1 ≤ length (tokens_by first (drop at.at text)) → drop count (tokens_by first rest) ≡ token ∷ tokens_by first (drop token.len (drop at.at text))
+    pub next_left : {token : Token} → token ≡ first (drop at.at text) → 1 ≤ length (tokens_by first (drop at.at text))
+        → drop count (tokens_by first rest) ≡ token ∷ tokens_by first (drop token.len (drop at.at text))
     next_left token_is some =
         let its : IsText (drop at.at text) = subst IsText there (at_bound law count rest (rest_is text begin.at is boundary)).past in
         left_is ∙ rw token_is (tokens-cons law (drop at.at text) its (omega (arith, some, tokens_le_bytes law (drop at.at text) its)))

@@ -1,13 +1,9 @@
 -- From an offset to a token: steps from a bound, and which tokens contain a byte of a range.
-use Rattle.std.proofs.Common.{◌≡◌, ℕ, zero, suc, ◌+◌, ◌-◌, ◌^◌, ◌<◌, ◌≤◌, ◌↔◌, List, length, get_or, arith, Option, IfSome, IsSome, IsNone}
-use Rattle.std.proofs.lemmas.Bool.{cases_lt}
-use Rattle.std.proofs.lemmas.Grind.{common_steps}
-use Rattle.rustc_lexer.specs.declared.relex.front.TokenStart.{TokenStart}
-use Rattle.rustc_lexer.specs.{Token}
-use Rattle.rustc_lexer.specs.Offsets.{AreTouched, ContainsByte}
+use Rattle.std.proofs.Common.{◌≡◌, ℕ, ◌+◌, ◌-◌, ◌^◌, ◌<◌, ◌≤◌, ◌↔◌, List, length, get_or, arith, Option, IfSome, IsSome, IsNone}
+use Rattle.std.proofs.lemmas.{Bool.{cases_lt}, Grind.{common_steps}}
+use Rattle.rustc_lexer.specs.{declared.relex.front.TokenStart.{TokenStart}, Token, Offsets.{AreTouched, ContainsByte}}
 use Rattle.rustc_lexer.specs.Tokens.{bound}
-use Rattle.rustc_lexer.proofs.lemmas.edits.Bounds.{bound_mono}
-use Rattle.rustc_lexer.proofs.lemmas.edits.KeptFront.{bound-next}
+use Rattle.rustc_lexer.proofs.lemmas.edits.{Bounds.{bound_mono}, KeptFront.{bound-next}}
 
 -- a bound that is past the first one has a token before it
 pub some_before : (tokens : List Token) (first n here offset : ℕ) → here ≡ first + bound tokens n → first ≤ offset → offset < here → 0 < n
@@ -48,9 +44,16 @@ module _ (first : ℕ) (tokens : List Token) (offset : ℕ) (at : TokenStart) (h
   not_begun k le = omega (arith, has.ends, bound_mono tokens (at.index + 1) k le)
 
 -- the tokens that have not ended at the start, and have begun before the end
-pub touched_from : (first : ℕ) (tokens : List Token) (start stop from to : ℕ) → start < stop → from ≤ length tokens → to ≤ length tokens → ((k : ℕ) → k < from → first + bound tokens (k + 1) ≤ start) → ((k : ℕ) → from ≤ k → k < length tokens → start < first + bound tokens (k + 1)) → ((k : ℕ) → k < to → first + bound tokens k < stop) → ((k : ℕ) → to ≤ k → k < length tokens → stop ≤ first + bound tokens k) → AreTouched first tokens start stop from to
+pub touched_from : (first : ℕ) (tokens : List Token) (start stop from to : ℕ) → start < stop → from ≤ length tokens
+    → to ≤ length tokens → ((k : ℕ) → k < from → first + bound tokens (k + 1) ≤ start)
+    → ((k : ℕ) → from ≤ k → k < length tokens → start < first + bound tokens (k + 1))
+    → ((k : ℕ) → k < to → first + bound tokens k < stop)
+    → ((k : ℕ) → to ≤ k → k < length tokens → stop ≤ first + bound tokens k)
+    → AreTouched first tokens start stop from to
 touched_from first tokens start stop from to some few inside ended later begun after = grind (arith, common_steps, ended, begun, cases_lt, bound_mono)
 
 -- there is an answer exactly where the tokens are
-pub answered : (result : Option TokenStart) (first : ℕ) (tokens : List Token) (offset len : ℕ) → first + bound tokens (length tokens) ≡ len → IfSome result (ContainsByte first tokens offset) → (IsNone result → first ≤ offset → len ≤ offset) → IsSome result ↔ ((first ≤ offset) × (offset < len))
+pub answered : (result : Option TokenStart) (first : ℕ) (tokens : List Token) (offset len : ℕ)
+    → first + bound tokens (length tokens) ≡ len → IfSome result (ContainsByte first tokens offset)
+    → (IsNone result → first ≤ offset → len ≤ offset) → IsSome result ↔ ((first ≤ offset) × (offset < len))
 answered result first tokens offset len w5 w6 w7 = grind (arith, common_steps, bound_mono)

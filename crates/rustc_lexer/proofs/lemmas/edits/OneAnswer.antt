@@ -1,16 +1,11 @@
 -- What an edit keeps, by all tokens of a text and by those of its body; there are counts of it.
 use Rattle.std.proofs.Common.{◌≡◌, ◌⊎◌, ℕ, zero, suc, ◌+◌, ◌-◌, ◌<◌, ◌≤◌, List, length, take, refl, sym, ap, subst, arith, length-take, inl, inr, eq-or-lt_of_le, ◌↔◌, [], ◌∙◌, length-append}
-use Rattle.std.proofs.lemmas.Bool.{cases_lt, eqb-false, eqb-true}
-use Rattle.std.proofs.lemmas.Grind.{common_steps}
-use Rattle.rustc_lexer.specs.declared.relex.relexing.{Change.Change, Relexed.Relexed}
-use Rattle.rustc_lexer.specs.{Token}
+use Rattle.std.proofs.lemmas.{Bool.{cases_lt, eqb-false, eqb-true}, Grind.{common_steps}}
+use Rattle.rustc_lexer.specs.{declared.relex.relexing.{Change.Change, Relexed.Relexed}, Token}
 use Rattle.rustc_lexer.specs.Edits.{IsMeeting, IsRelexedTo, part_by, body_in, IsRelexed, offset_in}
-use Rattle.rustc_lexer.specs.Relexing.{IsEditOf}
-use Rattle.rustc_lexer.specs.Locality.{IsGrammar}
-use Rattle.rustc_lexer.specs.Tokens.{bound, tokens_by}
+use Rattle.rustc_lexer.specs.{Relexing.{IsEditOf}, Locality.{IsGrammar}, Tokens.{bound, tokens_by}}
 use Rattle.rustc_lexer.specs.means.Relexing.{kept_front}
-use Rattle.rustc_lexer.proofs.lemmas.edits.Bounds.{bound-last, cuts}
-use Rattle.rustc_lexer.proofs.lemmas.edits.FrontAndBack.{edited, kept_same}
+use Rattle.rustc_lexer.proofs.lemmas.edits.{Bounds.{bound-last, cuts}, FrontAndBack.{edited, kept_same}}
 use Rattle.rustc_lexer.proofs.lemmas.edits.KeptFront.{kept_few, kept_tells, bound-shift}
 use Rattle.std.proofs.Math.Seq.{drop-append_seam}
 use Rattle.rustc_lexer.specs.Partition.{Layout}
@@ -88,7 +83,9 @@ first_or_none P decided (suc n) k = by_first (decided k) (first_or_none P decide
     past : {i : ℕ} → (P k → ⊥) → k ≤ i → P i → suc k ≤ i
     past none le p = elim (eq-or-lt_of_le le) [ inl same ↦ absurd (none (subst P (sym same) p)) | inr more ↦ more ]
 
-    by_first : Decided (P k) → ((j : ℕ) × (j < suc k + n) × IsFirst P (suc k) j) ⊎ ((i : ℕ) → suc k ≤ i → i < suc k + n → P i → ⊥) → ((j : ℕ) × (j < k + suc n) × IsFirst P k j) ⊎ ((i : ℕ) → k ≤ i → i < k + suc n → P i → ⊥)
+    by_first : Decided (P k)
+        → ((j : ℕ) × (j < suc k + n) × IsFirst P (suc k) j) ⊎ ((i : ℕ) → suc k ≤ i → i < suc k + n → P i → ⊥)
+        → ((j : ℕ) × (j < k + suc n) × IsFirst P k j) ⊎ ((i : ℕ) → k ≤ i → i < k + suc n → P i → ⊥)
     by_first (inl now) later = inl (k, omega arith, record { from = omega arith; holds = now; none_before = λ i le less p. absurd (omega arith) })
     by_first (inr none) (inl at) = let is = at.2 in inl (at.0, omega (arith, at.1), record { from = omega (arith, is.from); holds = is.holds; none_before = λ i le less p. is.none_before i (past none le p) less p })
     by_first (inr none) (inr all) = inr (λ i le less p. all i (past none le p) (omega (arith, less)) p)

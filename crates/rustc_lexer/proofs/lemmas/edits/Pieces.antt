@@ -1,15 +1,10 @@
 -- The pieces of a text, one by one.
 use Rattle.std.proofs.Common.{◌≡◌, ℕ, zero, suc, ◌+◌, ◌-◌, ◌≤◌, List, [], ◌∷◌, ◌++◌, length, take, drop, slice_range, refl, sym, ap, ◌∙◌, subst, arith, length-append, length-take, length-take-le, length-drop, take-take, IsCharBoundary, Option, Some, None, IfSome, IsSome}
-use Rattle.std.proofs.lemmas.Grind.{common_steps}
-use Rattle.std.proofs.lemmas.List.{take-append-le}
-use Rattle.rustc_lexer.specs.declared.relex.{front.TokenStart.TokenStart, pieces.Piece.Piece}
-use Rattle.rustc_lexer.specs.{Token}
-use Rattle.rustc_lexer.specs.Tokens.{bound}
-use Rattle.rustc_lexer.specs.means.Pieces.{AreBoundariesFrom, AreCut}
-use Rattle.rustc_lexer.specs.Kept.{Placed, YieldsPiece, pieces_from, placed}
+use Rattle.std.proofs.lemmas.{Grind.{common_steps}, List.{take-append-le}}
+use Rattle.rustc_lexer.specs.{declared.relex.{front.TokenStart.TokenStart, pieces.Piece.Piece}, Token, Tokens.{bound}}
+use Rattle.rustc_lexer.specs.{means.Pieces.{AreBoundariesFrom, AreCut}, Kept.{Placed, YieldsPiece, pieces_from, placed}}
 use Rattle.rustc_lexer.specs.Offsets.{ContainsByte}
-use Rattle.rustc_lexer.proofs.lemmas.edits.Bounds.{bound-end}
-use Rattle.rustc_lexer.proofs.lemmas.edits.FrontAndBack.{bound-same, bound-take}
+use Rattle.rustc_lexer.proofs.lemmas.edits.{Bounds.{bound-end}, FrontAndBack.{bound-same, bound-take}}
 use Rattle.rustc_lexer.proofs.lemmas.edits.KeptFront.{bound-shift}
 
 -- the tokens that are left begin and end between characters
@@ -26,7 +21,8 @@ cut_tail text start end all token tokens e are =
     (all.0, λ k few. subst (IsCharBoundary text) (same k) (all.1 (suc k) (omega arith)), all.2 ∙ same (length tokens))
 
 -- before the last token
-pub cut_front : (text : List ℕ) (start end : ℕ) (all tokens : List Token) (token : Token) → all ≡ tokens ++ token ∷ [] → AreCut text start end all → (token.len ≤ end) × AreCut text start (end - token.len) tokens
+pub cut_front : (text : List ℕ) (start end : ℕ) (all tokens : List Token) (token : Token) → all ≡ tokens ++ token ∷ []
+    → AreCut text start end all → (token.len ≤ end) × AreCut text start (end - token.len) tokens
 cut_front text start end all tokens token e are =
     let all : AreCut text start end (tokens ++ token ∷ []) = subst (AreCut text start end) e are in
     let ends : end ≡ start + bound tokens (length tokens) + token.len = omega (arith, all.2, bound-end tokens token) in
@@ -44,7 +40,9 @@ pub as_many_left : (text : List ℕ) (start : ℕ) (tokens : List Token) {left :
 as_many_left text start tokens is = sym (length-pieces text start tokens) ∙ ap (λ (ps : List Placed). length ps) is
 
 -- the place of a bound, and the tokens from there up to another
-pub bound-part : (tokens items : List Token) (from to offset : ℕ) → from ≤ to → to ≤ length tokens → items ≡ slice_range tokens from to → offset ≡ bound tokens from → offset + bound items (length items) ≡ bound tokens to
+pub bound-part : (tokens items : List Token) (from to offset : ℕ) → from ≤ to → to ≤ length tokens
+    → items ≡ slice_range tokens from to → offset ≡ bound tokens from
+    → offset + bound items (length items) ≡ bound tokens to
 bound-part tokens items from to offset le inside is at =
     let all : from + (to - from) ≡ to = omega arith in
     let enough : to - from ≤ length (drop from tokens) = omega (arith, length-drop from tokens) in
@@ -53,7 +51,9 @@ bound-part tokens items from to offset le inside is at =
     omega (arith, at, same, bound-shift tokens from (to - from), ap (bound tokens) all)
 
 -- some of the tokens
-pub cut_part : (text : List ℕ) (start end offset stop : ℕ) (tokens : List Token) (from to : ℕ) → from ≤ to → to ≤ length tokens → offset ≡ start + bound tokens from → stop ≡ start + bound tokens to → AreCut text start end tokens → AreCut text offset stop (take (to - from) (drop from tokens))
+pub cut_part : (text : List ℕ) (start end offset stop : ℕ) (tokens : List Token) (from to : ℕ) → from ≤ to
+    → to ≤ length tokens → offset ≡ start + bound tokens from → stop ≡ start + bound tokens to
+    → AreCut text start end tokens → AreCut text offset stop (take (to - from) (drop from tokens))
 cut_part text start end offset stop tokens from to le few at until are =
     let n : ℕ = to - from in
     let part = bound-part tokens (take n (drop from tokens)) from to (bound tokens from) le few refl refl in
@@ -77,7 +77,9 @@ take-pieces text start zero ts = refl
 take-pieces text start (suc k) [] = refl
 take-pieces text start (suc k) (t ∷ ts) = ap (λ ps. record { start = start; token = t; text = take t.len (drop start text) } ∷ ps) (take-pieces text (start + t.len) k ts)
 
-pub pieces-part : (text : List ℕ) (start offset : ℕ) (tokens : List Token) (from n : ℕ) → offset ≡ start + bound tokens from → pieces_from text offset (take n (drop from tokens)) ≡ take n (drop from (pieces_from text start tokens))
+pub pieces-part : (text : List ℕ) (start offset : ℕ) (tokens : List Token) (from n : ℕ)
+    → offset ≡ start + bound tokens from
+    → pieces_from text offset (take n (drop from tokens)) ≡ take n (drop from (pieces_from text start tokens))
 pieces-part text start offset tokens from n at = grind (arith, common_steps, drop-pieces, take-pieces)
 
 -- the last piece
@@ -88,7 +90,9 @@ pieces-last : (text : List ℕ) (start : ℕ) (ts : List Token) (t : Token) → 
 pieces-last text start [] t = let e : start ≡ start + 0 = omega arith in ap (λ p. piece_at text t p t.len ∷ []) e
 pieces-last text start (u ∷ ts) t = grind (arith, common_steps, pieces-last text (start + u.len) ts t)
 
-pub last_piece : (text : List ℕ) (start end : ℕ) (all tokens : List Token) (t : Token) → all ≡ tokens ++ t ∷ [] → AreCut text start end all → pieces_from text start all ≡ pieces_from text start tokens ++ piece_at text t (end - t.len) (end - (end - t.len)) ∷ []
+pub last_piece : (text : List ℕ) (start end : ℕ) (all tokens : List Token) (t : Token) → all ≡ tokens ++ t ∷ []
+    → AreCut text start end all
+    → pieces_from text start all ≡ pieces_from text start tokens ++ piece_at text t (end - t.len) (end - (end - t.len)) ∷ []
 last_piece text start end all tokens t e are =
     let front = cut_front text start end all tokens t e are in
     let long : t.len ≡ end - (end - t.len) = omega (arith, front.0) in
@@ -96,7 +100,10 @@ last_piece text start end all tokens t e are =
     ap (pieces_from text start) e ∙ (pieces-last text start tokens t ∙ ap (λ p. pieces_from text start tokens ++ p ∷ []) same)
 
 -- the first piece from the token on that contains a byte
-pub piece_is : (piece : Option Piece) (text : List ℕ) (first offset : ℕ) (tokens : List Token) (at : TokenStart) (rest : List Placed) → ContainsByte first tokens offset at → YieldsPiece (pieces_from text at.offset (take (length tokens - at.index) (drop at.index tokens))) piece rest → IfSome piece (λ piece. (at : TokenStart) × ContainsByte first tokens offset at × (take 1 (drop at.index (pieces_from text first tokens)) ≡ placed piece ∷ []))
+pub piece_is : (piece : Option Piece) (text : List ℕ) (first offset : ℕ) (tokens : List Token) (at : TokenStart) (rest : List Placed)
+    → ContainsByte first tokens offset at
+    → YieldsPiece (pieces_from text at.offset (take (length tokens - at.index) (drop at.index tokens))) piece rest
+    → IfSome piece (λ piece. (at : TokenStart) × ContainsByte first tokens offset at × (take 1 (drop at.index (pieces_from text first tokens)) ≡ placed piece ∷ []))
 piece_is None text first offset tokens at rest is yields = tt
 piece_is (Some piece) text first offset tokens at rest is yields =
     let n : ℕ = length tokens - at.index in
@@ -104,5 +111,8 @@ piece_is (Some piece) text first offset tokens at rest is yields =
     let begin : take n left ≡ placed piece ∷ rest = sym (pieces-part text first at.offset tokens at.index n is.start) ∙ yields.0 in
     (at, is, sym (take-take 1 n left (omega (arith, is.number))) ∙ ap (take 1) begin)
 
-pub piece_some : (piece : Option Piece) (text : List ℕ) (first offset : ℕ) (tokens : List Token) (at : TokenStart) (rest : List Placed) → ContainsByte first tokens offset at → YieldsPiece (pieces_from text at.offset (take (length tokens - at.index) (drop at.index tokens))) piece rest → IsSome piece
+pub piece_some : (piece : Option Piece) (text : List ℕ) (first offset : ℕ) (tokens : List Token) (at : TokenStart) (rest : List Placed)
+    → ContainsByte first tokens offset at
+    → YieldsPiece (pieces_from text at.offset (take (length tokens - at.index) (drop at.index tokens))) piece rest
+    → IsSome piece
 piece_some piece text first offset tokens at rest w7 w8 = grind (arith, common_steps, length-take-le, length-drop, length-pieces)

@@ -1,17 +1,11 @@
 -- How far the tokens of a text are sure.
 use Rattle.std.proofs.Common.{◌≡◌, ℕ, zero, suc, ◌+◌, ◌-◌, ◌<◌, ◌≤◌, true, false, List, [], ◌∷◌, ◌++◌, length, take, drop, refl, sym, ap, ◌∙◌, arith, take_at, length-append, IsUtf8, IsCharBoundary, subst}
 use Rattle.std.proofs.lemmas.Str.{IsCharBoundary-from_drop, IsCharBoundary-end, IsUtf8-between}
-use Rattle.std.proofs.Math.Seq.{take-length}
-use Rattle.std.proofs.lemmas.Grind.{common_steps}
-use Rattle.rustc_lexer.specs.declared.relex.front.TokenStart.{TokenStart}
-use Rattle.rustc_lexer.specs.{Token}
-use Rattle.rustc_lexer.specs.Offsets.{IsBound}
-use Rattle.rustc_lexer.specs.Tokens.{bound, tokens_by}
-use Rattle.rustc_lexer.specs.Locality.{has_two, AreLocal, IsSettled, StaysUpTo, IsGrammar}
-use Rattle.rustc_lexer.specs.Classes.{IsText}
-use Rattle.rustc_lexer.specs.means.Relexing.{kept_front}
-use Rattle.rustc_lexer.proofs.lemmas.edits.Bounds.{bound_mono, cuts, rises}
-use Rattle.rustc_lexer.proofs.lemmas.edits.KeptFront.{kept_is, kept_tells}
+use Rattle.std.proofs.{Math.Seq.{take-length}, lemmas.Grind.{common_steps}}
+use Rattle.rustc_lexer.specs.{declared.relex.front.TokenStart.{TokenStart}, Token, Offsets.{IsBound}}
+use Rattle.rustc_lexer.specs.{Tokens.{bound, tokens_by}, Locality.{has_two, AreLocal, IsSettled, StaysUpTo, IsGrammar}}
+use Rattle.rustc_lexer.specs.{Classes.{IsText}, means.Relexing.{kept_front}}
+use Rattle.rustc_lexer.proofs.lemmas.edits.{Bounds.{bound_mono, cuts, rises}, KeptFront.{kept_is, kept_tells}}
 use Rattle.rustc_lexer.specs.laws.Cuts.{at_bound, tokens_local}
 use Rattle.rustc_lexer.proofs.lemmas.edits.FrontAndBack.{has_two-agree, has_two-mono}
 use Rattle.rustc_lexer.proofs.lemmas.tokens.Progress.{IsLexedTo, lexed_more}
@@ -23,7 +17,9 @@ pub record IsSureTo (first : List ℕ → Token) (text : List ℕ) (offset : ℕ
   pub two : 0 < length items → has_two text offset (length text) ≡ true
 
 module _ {first : List ℕ → Token} (law : IsGrammar first) (text : List ℕ) (is : IsText text) where
-  pub sure_next : (offset next : ℕ) (token : Token) → IsSureTo first text offset → offset < length text → token ≡ first (drop offset text) → next ≡ offset + token.len → has_two text next (length text) ≡ true → IsSureTo first text next
+  pub sure_next : (offset next : ℕ) (token : Token) → IsSureTo first text offset → offset < length text
+      → token ≡ first (drop offset text) → next ≡ offset + token.len → has_two text next (length text) ≡ true
+      → IsSureTo first text next
   sure_next offset next token at more token_is next_is two = grind (arith, common_steps, lexed_more law text at.items offset is at.to more, token_is, next_is)
 
   boundary : (k : ℕ) → (bound (tokens_by first text) k ≤ length text) × IsCharBoundary text (bound (tokens_by first text) k)
@@ -58,12 +54,15 @@ module _ {first : List ℕ → Token} (law : IsGrammar first) (text : List ℕ) 
           let past = (lexed_more law text at.items offset is at.to more).offset_is in
           rw (sym (past ∙ ap (bound (tokens_by first text)) (length-append at.items (first (drop offset text) ∷ [])))) (out more)
 
-  pub next_boundary : (offset : ℕ) (token : Token) → IsSureTo first text offset → offset < length text → token ≡ first (drop offset text) → (offset + token.len ≤ length text) × IsCharBoundary text (offset + token.len)
+  pub next_boundary : (offset : ℕ) (token : Token) → IsSureTo first text offset → offset < length text
+      → token ≡ first (drop offset text) → (offset + token.len ≤ length text) × IsCharBoundary text (offset + token.len)
   next_boundary offset token at more token_is =
       grind (arith, common_steps, lexed_more law text at.items offset is at.to more, token_is, (lexed_more law text at.items offset is at.to more).offset_is, (ap (λ (t : Token). offset + t.len) token_is ∙ (lexed_more law text at.items offset is at.to more).offset_is), boundary (length (at.items ++ first (drop offset text) ∷ [])))
 
   -- whatever is appended, the tokens before a bound that two characters follow stay
-  pub stays_at : (more : List ℕ) (k : ℕ) → IsText (text ++ more) → k ≤ length (tokens_by first text) → has_two text (bound (tokens_by first text) k) (length text) ≡ true → take k (tokens_by first (text ++ more)) ≡ take k (tokens_by first text)
+  pub stays_at : (more : List ℕ) (k : ℕ) → IsText (text ++ more) → k ≤ length (tokens_by first text)
+      → has_two text (bound (tokens_by first text) k) (length text) ≡ true
+      → take k (tokens_by first (text ++ more)) ≡ take k (tokens_by first text)
   stays_at more k its few two =
       let b : ℕ = bound (tokens_by first text) k in
       let middle : IsUtf8 (take (length text - b) (drop b text)) = IsUtf8-between text b (length text) is.utf8 (boundary k).0 (boundary k).1 (IsCharBoundary-end text) in

@@ -1,17 +1,11 @@
 -- Relexing is under way: from its beginning, past tokens, to the meeting.
 use Rattle.std.proofs.Common.{◌≡◌, ◌↔◌, ℕ, ◌+◌, ◌-◌, ◌<◌, ◌≤◌, Bool, true, false, true≢false, eqb, eqb-true, List, ◌∷◌, ◌++◌, length, take, drop, refl, sym, ap, ◌∙◌, ap₂, suc, subst, arith, inl, inr, length-drop, drop-drop, take-append-drop, max, eq-or-lt_of_le}
-use Rattle.std.proofs.lemmas.Bool.{cases_lt}
-use Rattle.std.proofs.lemmas.Grind.{common_steps}
+use Rattle.std.proofs.lemmas.{Bool.{cases_lt}, Grind.{common_steps}}
 use Rattle.rustc_lexer.specs.declared.relex.front.{Meeting.Meeting, TokenStart.TokenStart}
-use Rattle.rustc_lexer.specs.declared.relex.relexing.{Change.Change, Relexed.Relexed, Relexing.Relexing}
-use Rattle.rustc_lexer.specs.{Token}
-use Rattle.rustc_lexer.specs.Classes.{IsText}
-use Rattle.rustc_lexer.specs.Edits.{IsMeeting, IsRelexed, part_by}
-use Rattle.rustc_lexer.specs.Locality.{IsGrammar, has_two}
-use Rattle.rustc_lexer.specs.Offsets.{IsBound}
-use Rattle.rustc_lexer.specs.Relexing.{IsMadeOf, IsUnderWay, IsWhole, TakesSteps, known}
-use Rattle.rustc_lexer.specs.Tokens.{bound, tokens_by}
-use Rattle.rustc_lexer.specs.means.Relexing.{IsFollowed, IsLexed, kept_front}
+use Rattle.rustc_lexer.specs.{declared.relex.relexing.{Change.Change, Relexed.Relexed, Relexing.Relexing}, Token}
+use Rattle.rustc_lexer.specs.{Classes.{IsText}, Edits.{IsMeeting, IsRelexed, part_by}, Locality.{IsGrammar, has_two}}
+use Rattle.rustc_lexer.specs.{Offsets.{IsBound}, Relexing.{IsMadeOf, IsUnderWay, IsWhole, TakesSteps, known}}
+use Rattle.rustc_lexer.specs.{Tokens.{bound, tokens_by}, means.Relexing.{IsFollowed, IsLexed, kept_front}}
 use Rattle.rustc_lexer.specs.laws.Cuts.{at_bound, tokens-cons}
 use Rattle.rustc_lexer.proofs.lemmas.edits.Bounds.{bound_mono, rises}
 use Rattle.rustc_lexer.proofs.lemmas.edits.FrontAndBack.{bound-same, edited, has_two-before, met_rest}
@@ -50,10 +44,14 @@ module _ {first : List ℕ → Token} (law : IsGrammar first) {before lengths in
   kept_old number e = rw e (sym (front_same law is.edit_of), kept_new law is.edit_of)
 
   -- each bound before it is before the edit
-  pub front_below : (kept : TokenStart) → IsBound old kept → (0 < kept.index → has_two before kept.offset change.start ≡ true) → (k : ℕ) → k < kept.index → bound old k + change.new_stop < max change.new_stop kept.offset + change.old_stop
+  pub front_below : (kept : TokenStart) → IsBound old kept
+      → (0 < kept.index → has_two before kept.offset change.start ≡ true) → (k : ℕ) → k < kept.index
+      → bound old k + change.new_stop < max change.new_stop kept.offset + change.old_stop
   front_below kept at two k less = grind (arith, common_steps, bound_mono, kept, has_two-before)
 
-  pub begun : (front : TokenStart) (to : Meeting) → front.index ≡ kept_front before old change.start → IsBound old front → IsFollowed old change.old_stop change.new_stop front.offset to.at to.met → (front.offset < change.new_stop → to.at ≡ front)
+  pub begun : (front : TokenStart) (to : Meeting) → front.index ≡ kept_front before old change.start → IsBound old front
+      → IsFollowed old change.old_stop change.new_stop front.offset to.at to.met
+      → (front.offset < change.new_stop → to.at ≡ front)
       → IsUnderWay first before change text record { front = front; lexed = 0; back = to.at; at = front.offset; met = to.met }
   begun front to number at followed stays =
       let same = kept_old front.index number in
@@ -115,7 +113,8 @@ module _ {first : List ℕ → Token} (law : IsGrammar first) {before lengths in
         met_rest law is.edit_of (known at) at.back.index (omega (arith, here.0, u.offset)) (omega (arith, here.1, u.back_bound.1, u.offset))
 
     -- the counts are those of the edit, and the new tokens are whole
-    pub counts_met : at.met ≡ true → IsRelexed (part_by first) before change.start change.old_stop insert (record { kept_front = at.front.index; lexed = at.lexed; kept_back = length old - at.back.index }) × IsWhole old new at
+    pub counts_met : at.met ≡ true
+        → IsRelexed (part_by first) before change.start change.old_stop insert (record { kept_front = at.front.index; lexed = at.lexed; kept_back = length old - at.back.index }) × IsWhole old new at
     counts_met hit =
         let front = (kept_old at.front.index u.front).0 in
         let rest = rest_met hit in
@@ -148,7 +147,10 @@ module _ {first : List ℕ → Token} (law : IsGrammar first) {before lengths in
       offset_past = omega (arith, steps.offset, shift count, ap (bound new) known_past)
 
       -- it goes on, if it met no old token on the way
-      pub goes_on : at.met ≡ false → ((number back : ℕ) → known at < number → number < known past → Meets number back → ⊥) → IsFollowed old change.old_stop change.new_stop past.at past.back past.met → IsUnderWay first before change text past
+      pub goes_on : at.met ≡ false
+          → ((number back : ℕ) → known at < number → number < known past → Meets number back → ⊥)
+          → IsFollowed old change.old_stop change.new_stop past.at past.back past.met
+          → IsUnderWay first before change text past
       goes_on out none followed = record {
         front = ap (λ (b : TokenStart). b.index) steps.front ∙ u.front;
         front_bound = subst (IsBound old) (sym steps.front) u.front_bound;
@@ -182,7 +184,8 @@ module _ {first : List ℕ → Token} (law : IsGrammar first) {before lengths in
           ]
 
     -- the next token
-    pub gives_next : {token : Token} {past : Relexing} → at.met ≡ false → token ≡ first (drop at.at text) → TakesSteps first text change.new_stop at 1 past → drop (known at) new ≡ token ∷ drop (known past) new
+    pub gives_next : {token : Token} {past : Relexing} → at.met ≡ false → token ≡ first (drop at.at text)
+        → TakesSteps first text change.new_stop at 1 past → drop (known at) new ≡ token ∷ drop (known past) new
     gives_next {token} {past} out token_is steps =
         let rest : List ℕ = drop at.at text in
         let rest_is : IsText rest = subst (λ p. IsText (drop p text)) (sym u.offset) (at_bound law (known at) text (edited is.edit_of).text_is).past in

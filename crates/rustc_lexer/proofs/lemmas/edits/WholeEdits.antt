@@ -3,25 +3,19 @@ use Rattle.std.proofs.Common.{◌≡◌, ℕ, max, ◌+◌, ◌-◌, ◌<◌, �
 use Rattle.std.proofs.Math.Nat.{le-max_left, le-max_right, max-le}
 use Rattle.std.specs.List.{count_by}
 use Rattle.std.proofs.lemmas.Grind.{common_steps}
-use Rattle.rustc_lexer.specs.{Token}
-use Rattle.rustc_lexer.specs.declared.head.Head.{Head}
-use Rattle.rustc_lexer.specs.declared.relex.relexing.{Change.Change, Relexed.Relexed}
+use Rattle.rustc_lexer.specs.{Token, declared.{head.Head.{Head}, relex.relexing.{Change.Change, Relexed.Relexed}}}
 use Rattle.rustc_lexer.specs.Edits.{body_in, ends_from, IsMeeting, IsRelexed, IsRelexedTo, part_by, apply, KeepsHead}
 use Rattle.rustc_lexer.specs.Locality.{has_two, IsGrammar}
-use Rattle.rustc_lexer.specs.Relexing.{IsEditOf, IsMadeOf, IsBodyChange, IsHeadOf, IsInBody}
-use Rattle.rustc_lexer.specs.Partition.{Layout}
+use Rattle.rustc_lexer.specs.{Relexing.{IsEditOf, IsMadeOf, IsBodyChange, IsHeadOf, IsInBody}, Partition.{Layout}}
 use Rattle.rustc_lexer.specs.Tokens.{tokens_by}
 use Rattle.rustc_lexer.specs.means.Document.{body_change, body_insert, by_head, counted, IsHeadIn, TakesFew, tokens_of_head, head_put}
 use Rattle.rustc_lexer.proofs.lemmas.edits.KeptFront.{kept_none}
 use Rattle.rustc_lexer.proofs.lemmas.edits.OneAnswer.{relexed_is, counts_of, meets, meets_behind}
-use Rattle.rustc_lexer.proofs.lemmas.edits.FrontAndBack.{edited, IsEdited, same_rest}
-use Rattle.rustc_lexer.proofs.lemmas.edits.Bounds.{count-cons, rest_is}
+use Rattle.rustc_lexer.proofs.lemmas.edits.{FrontAndBack.{edited, IsEdited, same_rest}, Bounds.{count-cons, rest_is}}
 use Rattle.rustc_lexer.proofs.lemmas.edits.Heads.{body_at, boundary_of, head_stays, heads_are, whole_head}
-use Rattle.std.proofs.lemmas.Bool.{cases_lt}
-use Rattle.std.proofs.lemmas.List.{drop-take, drop-append-le}
+use Rattle.std.proofs.lemmas.{Bool.{cases_lt}, List.{drop-take, drop-append-le}}
 use Rattle.std.proofs.lemmas.Str.{IsUtf8-drop, IsUtf8-take, IsCharBoundary-from_drop}
-use Rattle.rustc_lexer.specs.Classes.{IsText}
-use Rattle.rustc_lexer.specs.Document.{body_start, head_tokens, whole_by}
+use Rattle.rustc_lexer.specs.{Classes.{IsText}, Document.{body_start, head_tokens, whole_by}}
 
 -- an offset past another is between characters of what follows that one
 pub boundary-past : (xs : List ℕ) (from p : ℕ) → IsUtf8 xs → from ≤ p → IsCharBoundary xs p → IsCharBoundary (drop from xs) (p - from)
@@ -141,7 +135,8 @@ module _ {first : List ℕ → Token} (law : IsGrammar first) {text insert made 
   made_body false decided = front_body
 
 -- the tokens behind the first ones are replaced
-put_is : (tokens lexed : List Token) (n f b : ℕ) → f ≤ b → n + b ≤ length tokens → take (n + f) tokens ++ (lexed ++ drop (n + b) tokens) ≡ take n tokens ++ (take f (drop n tokens) ++ (lexed ++ drop b (drop n tokens)))
+put_is : (tokens lexed : List Token) (n f b : ℕ) → f ≤ b → n + b ≤ length tokens
+    → take (n + f) tokens ++ (lexed ++ drop (n + b) tokens) ≡ take n tokens ++ (take f (drop n tokens) ++ (lexed ++ drop b (drop n tokens)))
 put_is tokens lexed n f b le inside = grind (arith, common_steps, take-add, drop-drop, append_assoc)
 
 pub put_behind : (tokens lexed : List Token) (n f b : ℕ) (head : Option Head) → f ≤ b → n + b ≤ length tokens → head ≡ None → {E : Type 0} (r : Result Unit E) (now : List Token)
@@ -310,6 +305,8 @@ body_is {first} law before insert text edit old now kept change e old_head now_h
         (subst (λ ts. Counted kept (tokens_of_head old) ts r) now_head.tokens_are (relexed_as law e old_is now_is decided r there)))
 
 -- what the change is, by its places
-pub in_body : (kept : Bool) (from to : ℕ) (edit : Change) → (kept ≡ true → (from ≤ edit.start) × (edit.start ≤ edit.old_stop) × (edit.start ≤ edit.new_stop)) → IsInBody kept from to edit (body_change kept from to edit)
+pub in_body : (kept : Bool) (from to : ℕ) (edit : Change)
+    → (kept ≡ true → (from ≤ edit.start) × (edit.start ≤ edit.old_stop) × (edit.start ≤ edit.new_stop))
+    → IsInBody kept from to edit (body_change kept from to edit)
 in_body true from to edit order = let o = order refl in grind (arith, common_steps, o.0, o.1, o.2)
 in_body false from to edit order = (max (from - edit.old_stop) (to - edit.new_stop), refl, omega arith, omega arith, λ n old new. omega (arith, old, new))

@@ -1,28 +1,18 @@
 -- The head that is found in a document is the one that its tokens tell: those up to the frontmatter.
 use Rattle.std.proofs.Common.{◌≡◌, ℕ, zero, suc, ◌+◌, ◌-◌, ◌≤◌, true, false, true≢false, List, [], ◌∷◌, ◌++◌, length, length-append, length-drop, drop-drop, take, drop, refl, sym, ap, ap₂, ◌∙◌, subst, arith, chars, Option, None, Some, IsCharBoundary}
-use Rattle.std.proofs.Math.Seq.{take-append_seam}
-use Rattle.std.proofs.lemmas.Bool.{not-true}
-use Rattle.rustc_lexer.specs.{Edition, Token, TokenKind}
-use Rattle.rustc_lexer.specs.declared.head.Head.{Head}
-use Rattle.rustc_lexer.specs.Classes.{IsText, bytes}
+use Rattle.std.proofs.{Math.Seq.{take-append_seam}, lemmas.Bool.{not-true}}
+use Rattle.rustc_lexer.specs.{Edition, Token, TokenKind, declared.head.Head.{Head}, Classes.{IsText, bytes}}
 use Rattle.rustc_lexer.specs.Answers.{first_in}
 use Rattle.rustc_lexer.specs.Document.{is_frontmatter, shebang_len, document_tokens, head_count, head_tokens, whole_by}
 use Rattle.rustc_lexer.specs.means.Document.{front_tokens}
 use Rattle.rustc_lexer.specs.LanguageText as grammar
 use Rattle.rustc_lexer.specs.LanguageText.{AreTokens, IsTokenIn, Mode, is_source, mode_after, newest, part, source}
-use Rattle.rustc_lexer.specs.Partition.{tokens_in}
-use Rattle.rustc_lexer.specs.Relexing.{IsHeadOf}
-use Rattle.rustc_lexer.specs.Tokens.{bound, tokens_by}
-use Rattle.rustc_lexer.specs.laws.Choice.{by_either, by_symbol}
-use Rattle.rustc_lexer.specs.laws.LanguageTokens.{language}
-use Rattle.rustc_lexer.specs.laws.Tokens.{partitions}
-use Rattle.rustc_lexer.specs.means.Frontmatter.{frontmatter, opens, spaces_len}
-use Rattle.rustc_lexer.specs.means.Scan.{past}
-use Rattle.rustc_lexer.specs.means.Tokens.{read_tokens}
+use Rattle.rustc_lexer.specs.{Partition.{tokens_in}, Relexing.{IsHeadOf}, Tokens.{bound, tokens_by}}
+use Rattle.rustc_lexer.specs.laws.{Choice.{by_either, by_symbol}, LanguageTokens.{language}, Tokens.{partitions}}
+use Rattle.rustc_lexer.specs.means.{Frontmatter.{frontmatter, opens, spaces_len}, Scan.{past}, Tokens.{read_tokens}}
 use Rattle.rustc_lexer.proofs.lemmas.heads.DocumentTokens.{shebang-boundary, with-front, with-spaced, without-front}
 use Rattle.rustc_lexer.proofs.lemmas.edits.FrontAndBack.{bound-same}
-use Rattle.std.proofs.lemmas.List.{length-take, take-take}
-use Rattle.std.proofs.lemmas.Str.{IsCharBoundary-from_rest, IsUtf8-drop}
+use Rattle.std.proofs.lemmas.{List.{length-take, take-take}, Str.{IsCharBoundary-from_rest, IsUtf8-drop}}
 use Rattle.std.proofs.lemmas.Grind.{common_steps}
 
 -- ---- no token of a part is a frontmatter
@@ -61,7 +51,9 @@ some-end : (space : ℕ) (front : Token) → space + front.len ≡ bound (front_
 some-end zero front = omega arith
 some-end (suc n) front = omega arith
 
-count-front : (space : ℕ) (front : Option Token) (tokens : List Token) → ((t : Token) → front ≡ Some t → is_frontmatter t.kind ≡ true) → head_count tokens ≡ 0 → head_count (front_tokens space front ++ tokens) ≡ length (front_tokens space front)
+count-front : (space : ℕ) (front : Option Token) (tokens : List Token)
+    → ((t : Token) → front ≡ Some t → is_frontmatter t.kind ≡ true) → head_count tokens ≡ 0
+    → head_count (front_tokens space front ++ tokens) ≡ length (front_tokens space front)
 count-front space front tokens w3 w4 = grind (arith, common_steps)
 
 pub bound-append : (ts us : List Token) → bound (ts ++ us) (length ts) ≡ bound ts (length ts)

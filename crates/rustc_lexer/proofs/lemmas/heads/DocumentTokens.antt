@@ -2,36 +2,23 @@
 use Rattle.std.proofs.lemmas.Grind.{common_steps}
 use Rattle.std.proofs.Common.{◌≡◌, ℕ, zero, suc, ◌+◌, ◌-◌, ◌<◌, Bool, not, true, false, true≢false, List, [], ◌∷◌, ◌++◌, length, take, drop, refl, sym, ap, ap₂, ◌∙◌, subst, arith, length-drop, drop-drop, take-append-drop, append_assoc, length-append, codes, get_or, IsUtf8, IsCharBoundary, chars, Option, None, Some}
 use Rattle.std.specs.Option.{unwrap_or}
-use Rattle.std.proofs.lemmas.Bool.{and_parts, eqb-true, not-true}
-use Rattle.std.proofs.Math.Seq.{get_or-append_seam}
+use Rattle.std.proofs.{lemmas.Bool.{and_parts, eqb-true, not-true}, Math.Seq.{get_or-append_seam}}
 use Rattle.std.proofs.lemmas.Str.{length-le-encodes, IsCharBoundary-before_ascii, IsCharBoundary-end, IsCharBoundary-start}
-use Rattle.rustc_lexer.specs.{Edition, Token, TokenKind, Eof, Whitespace}
-use Rattle.rustc_lexer.specs.Classes.{is_whitespace, IsText, bytes}
-use Rattle.rustc_lexer.specs.Document.{shebang_len}
-use Rattle.rustc_lexer.specs.means.Document.{front_tokens}
-use Rattle.rustc_lexer.specs.Answers.{shebang}
+use Rattle.rustc_lexer.specs.{Edition, Token, TokenKind, Eof, Whitespace, Classes.{is_whitespace, IsText, bytes}}
+use Rattle.rustc_lexer.specs.{Document.{shebang_len}, means.Document.{front_tokens}, Answers.{shebang}}
 use Rattle.rustc_lexer.specs.Language as the
 use Rattle.rustc_lexer.specs.LanguageCalls as calls
-use Rattle.rustc_lexer.specs.LanguageCalls.{IsLineBefore, IsShebang}
-use Rattle.rustc_lexer.specs.laws.TheAnswers.{the_shebang}
+use Rattle.rustc_lexer.specs.{LanguageCalls.{IsLineBefore, IsShebang}, laws.TheAnswers.{the_shebang}}
 use Rattle.rustc_lexer.specs.Language.{IsTokenBefore}
 use Rattle.rustc_lexer.specs.LanguageText as grammar
 use Rattle.rustc_lexer.specs.LanguageText.{AreTokens, IsTokenIn, Mode, is_source, mode_after, mode_edition, part, source}
-use Rattle.rustc_lexer.specs.FrontmatterGrammar.{OpensNone}
-use Rattle.rustc_lexer.specs.Tables.{symbols}
-use Rattle.rustc_lexer.specs.laws.Choice.{by_either, by_symbol}
-use Rattle.rustc_lexer.specs.laws.LanguageFrontmatter.{opens-none}
-use Rattle.rustc_lexer.specs.laws.LanguageIn.{oldest}
-use Rattle.rustc_lexer.specs.laws.LanguageTokens.{tokens-are, tokens-read}
-use Rattle.rustc_lexer.specs.laws.Frontmatter.{frontmatter-cut}
-use Rattle.rustc_lexer.specs.laws.LanguageRuns.{run-stops}
-use Rattle.rustc_lexer.specs.laws.LanguageComments.{space-sound}
+use Rattle.rustc_lexer.specs.{FrontmatterGrammar.{OpensNone}, Tables.{symbols}, laws.Choice.{by_either, by_symbol}}
+use Rattle.rustc_lexer.specs.laws.{LanguageFrontmatter.{opens-none}, LanguageIn.{oldest}}
+use Rattle.rustc_lexer.specs.laws.{LanguageTokens.{tokens-are, tokens-read}, Frontmatter.{frontmatter-cut}}
+use Rattle.rustc_lexer.specs.laws.{LanguageRuns.{run-stops}, LanguageComments.{space-sound}}
 use Rattle.rustc_lexer.specs.laws.Past.{past-zero, chars-past, length-past, past-drop, IsUtf8-past}
-use Rattle.rustc_lexer.specs.laws.Tokens.{tokens-cons}
-use Rattle.rustc_lexer.specs.means.Frontmatter.{frontmatter, opens, spaces_len}
-use Rattle.rustc_lexer.specs.means.Lexeme.{symbol_kind}
-use Rattle.rustc_lexer.specs.means.Scan.{bytes_of, next_is, past, run_len}
-use Rattle.rustc_lexer.specs.means.Taking.{token_at}
+use Rattle.rustc_lexer.specs.{laws.Tokens.{tokens-cons}, means.Frontmatter.{frontmatter, opens, spaces_len}}
+use Rattle.rustc_lexer.specs.means.{Lexeme.{symbol_kind}, Scan.{bytes_of, next_is, past, run_len}, Taking.{token_at}}
 use Rattle.rustc_lexer.specs.means.Tokens.{read_tokens}
 
 -- ---- a token that leaves source what it is
@@ -138,7 +125,8 @@ module _ (edition : Edition) where
         ∙ (ap (λ ts. space_before size ++ ts) (without-space tail tail_text none_past out) ∙ sym (spaced (part edition) (λ e. absurd (true≢false (sym e)))))
 
     -- a frontmatter past white space
-    pub with-spaced : opens (chars text) ≡ false → opens (chars tail) ≡ true → read_tokens (source edition) text ≡ front_tokens size (Some (frontmatter tail)) ++ read_tokens (part edition) (drop (size + (frontmatter tail).len) text)
+    pub with-spaced : opens (chars text) ≡ false → opens (chars tail) ≡ true
+        → read_tokens (source edition) text ≡ front_tokens size (Some (frontmatter tail)) ++ read_tokens (part edition) (drop (size + (frontmatter tail).len) text)
     with-spaced none opened =
         spaced (source edition) (λ e. none)
         ∙ (ap (λ ts. space_before size ++ ts) (with-front tail tail_text opened ∙ ap (λ xs. frontmatter tail ∷ read_tokens (part edition) xs) behind)

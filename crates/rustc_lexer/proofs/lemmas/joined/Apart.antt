@@ -11,16 +11,11 @@ use Rattle.rustc_lexer.specs.Language as the
 use Rattle.rustc_lexer.specs.Language.{IsTokenBefore, begins_prefixed}
 use Rattle.rustc_lexer.specs.LiteralGrammar as lit
 use Rattle.rustc_lexer.specs.LiteralGrammar.{IsDoubleQuoted, IsSingleQuoted, IsRaw, IsLiteralBefore, IsSuffixBefore}
-use Rattle.rustc_lexer.specs.NumberGrammar.{is_no_fraction, IsNumberBefore}
-use Rattle.rustc_lexer.specs.Tokens.{is_faulty}
-use Rattle.rustc_lexer.specs.Joined.{is_open}
+use Rattle.rustc_lexer.specs.{NumberGrammar.{is_no_fraction, IsNumberBefore}, Tokens.{is_faulty}, Joined.{is_open}}
 use Rattle.rustc_lexer.specs.LanguageText.{IsTokenIn, kept, pound, ident, lifetime, lifetime_r}
-use Rattle.rustc_lexer.specs.means.Number.{begins_fraction}
-use Rattle.rustc_lexer.specs.means.Scan.{begins, next_is}
-use Rattle.rustc_lexer.specs.laws.LanguageLiterals.{number-digit}
-use Rattle.rustc_lexer.specs.laws.LanguageReach.{raw-alike}
-use Rattle.rustc_lexer.specs.laws.LanguageRuns.{IsSolid, solid-by}
-use Rattle.rustc_lexer.specs.laws.NumberLongest.{fraction-solid, number-before}
+use Rattle.rustc_lexer.specs.means.{Number.{begins_fraction}, Scan.{begins, next_is}}
+use Rattle.rustc_lexer.specs.laws.{LanguageLiterals.{number-digit}, LanguageReach.{raw-alike}}
+use Rattle.rustc_lexer.specs.laws.{LanguageRuns.{IsSolid, solid-by}, NumberLongest.{fraction-solid, number-before}}
 
 -- ---- white space is in no other class
 
@@ -116,12 +111,15 @@ suffix-apart (lit.none stop) other ch = lit.none (same is_id_start start-solid c
 suffix-apart (lit.some is stop) other ch = lit.some is (same is_id_continue continue-solid ch ∙ stop)
 
 -- a literal that is closed, by what its parts are
-literal-by : {next other : List ℕ} {kind : LiteralKind} {takes : Bool} {w : List ℕ} → ((kind : LiteralKind) (w : List ℕ) → IsNumberBefore next kind w → IsNumberBefore other kind w) → ((t : Bool) (w : List ℕ) → IsSingleQuoted next t w → t ≡ true → IsSingleQuoted other t w)
+literal-by : {next other : List ℕ} {kind : LiteralKind} {takes : Bool} {w : List ℕ}
+    → ((kind : LiteralKind) (w : List ℕ) → IsNumberBefore next kind w → IsNumberBefore other kind w)
+    → ((t : Bool) (w : List ℕ) → IsSingleQuoted next t w → t ≡ true → IsSingleQuoted other t w)
     → IsLiteralBefore next kind takes w → is_faulty kind ≡ false → IsLiteralBefore other kind takes w
 literal-by {next} {other} number single w0 good =
     grind (arith, common_steps, number, single, double-apart, raw-apart, lit.number, lit.str, lit.byte_str, lit.c_str, lit.byte_char, lit.char_of_one, lit.char, lit.char_of_name, lit.raw_str, lit.raw_byte_str, lit.raw_c_str)
 
-literal-apart : {next : List ℕ} {kind : LiteralKind} {takes : Bool} {w : List ℕ} → IsLiteralBefore next kind takes w → is_faulty kind ≡ false → (other : List ℕ) → Changes next other → IsLiteralBefore other kind takes w
+literal-apart : {next : List ℕ} {kind : LiteralKind} {takes : Bool} {w : List ℕ} → IsLiteralBefore next kind takes w
+    → is_faulty kind ≡ false → (other : List ℕ) → Changes next other → IsLiteralBefore other kind takes w
 literal-apart is good other ch = literal-by (λ kind w n. number-apart n other ch) (λ t w q e. single-apart q e other ch) is good
 
 -- ---- tokens
@@ -149,7 +147,8 @@ prefixed-apart w ch = rw (
   same-ident (codes "k#") w refl ch,
 ) refl
 
-pub token-apart : {next : List ℕ} {kind : TokenKind} {w : List ℕ} → IsTokenBefore next kind w → 0 < length w → is_open kind ≡ false → (other : List ℕ) → Changes next other → Goes kind next other → IsTokenBefore other kind w
+pub token-apart : {next : List ℕ} {kind : TokenKind} {w : List ℕ} → IsTokenBefore next kind w → 0 < length w
+    → is_open kind ≡ false → (other : List ℕ) → Changes next other → Goes kind next other → IsTokenBefore other kind w
 token-apart (the.end none) some good other ch go = absurd (omega arith)
 token-apart (the.whitespace all stop) some good other ch go = the.whitespace all (go.space refl stop)
 token-apart (the.line_comment all stop is) some good other ch go = the.line_comment all (go.line refl stop) is
@@ -178,7 +177,9 @@ token-apart (the.symbol is) some good other ch go = the.symbol is
 goes-free : (kind : TokenKind) (next other : List ℕ) → (kind ≡ Whitespace → ⊥) → is_line kind ≡ false → Goes kind next other
 goes-free kind next other no_space no_line = grind (arith, common_steps)
 
-pub in-apart : {edition : Edition} {next : List ℕ} {kind : TokenKind} {w : List ℕ} → IsTokenIn edition next kind w → 0 < length w → is_open kind ≡ false → (other : List ℕ) → Changes next other → Goes kind next other → IsTokenIn edition other kind w
+pub in-apart : {edition : Edition} {next : List ℕ} {kind : TokenKind} {w : List ℕ} → IsTokenIn edition next kind w
+    → 0 < length w → is_open kind ≡ false → (other : List ℕ) → Changes next other → Goes kind next other
+    → IsTokenIn edition other kind w
 in-apart (kept le p) some good other ch go = kept le (token-apart p some good other ch go)
 in-apart (pound lt) some good other ch go = pound lt
 in-apart {next = next} (ident lt p) some good other ch go = ident lt (token-apart p some refl other ch (goes-free UnknownPrefix next other (λ e. cc e) refl))

@@ -1,24 +1,16 @@
 -- Texts that touch: how to find that out, and that the end of the first text is enough for it.
 use Rattle.std.proofs.Common.{◌≡◌, ◌↔◌, ℕ, zero, suc, ◌+◌, ◌-◌, ◌<◌, ◌≤◌, true, List, [], ◌∷◌, ◌++◌, length, take, drop, refl, sym, ap, ◌∙◌, arith, length-append, length-drop, length-take, length-take-le, take-append-drop, slice_range, IsUtf8, IsCharBoundary}
-use Rattle.std.proofs.Math.Seq.{drop-append_seam}
-use Rattle.std.proofs.lemmas.List.{append_cancel_left, drop-append-le}
+use Rattle.std.proofs.{Math.Seq.{drop-append_seam}, lemmas.List.{append_cancel_left, drop-append-le}}
 use Rattle.std.proofs.lemmas.Str.{IsCharBoundary-start, IsCharBoundary-from_rest, IsUtf8-drop, IsUtf8-between, IsUtf8-take}
 use Rattle.std.proofs.lemmas.Grind.{common_steps}
-use Rattle.rustc_lexer.specs.{Edition, Token}
-use Rattle.rustc_lexer.specs.Answers.{first_in}
-use Rattle.rustc_lexer.specs.Classes.{IsText}
+use Rattle.rustc_lexer.specs.{Edition, Token, Answers.{first_in}, Classes.{IsText}}
 use Rattle.rustc_lexer.specs.Joined as the
-use Rattle.rustc_lexer.specs.Joined.{IsJoined, IsSeparated, MayTouch, AreInseparable}
-use Rattle.rustc_lexer.specs.Locality.{has_two, IsGrammar}
-use Rattle.rustc_lexer.specs.Partition.{bound, tokens_by}
-use Rattle.rustc_lexer.specs.laws.Cuts.{IsCutAt, at_bound, tokens-cons, tokens-nil}
-use Rattle.rustc_lexer.specs.laws.Edition.{edition_grammar}
-use Rattle.rustc_lexer.specs.means.Joined.{IsSure}
+use Rattle.rustc_lexer.specs.{Joined.{IsJoined, IsSeparated, MayTouch, AreInseparable}, Locality.{has_two, IsGrammar}}
+use Rattle.rustc_lexer.specs.{Partition.{bound, tokens_by}, laws.Cuts.{IsCutAt, at_bound, tokens-cons, tokens-nil}}
+use Rattle.rustc_lexer.specs.{laws.Edition.{edition_grammar}, means.Joined.{IsSure}}
 use Rattle.std.proofs.lemmas.List.Folds.{drop_split}
-use Rattle.rustc_lexer.proofs.lemmas.edits.Bounds.{bound_mono, bound-last, rises}
-use Rattle.rustc_lexer.proofs.lemmas.heads.ByTokens.{bound-append}
-use Rattle.rustc_lexer.proofs.lemmas.edits.Settled.{stays_at}
-use Rattle.rustc_lexer.proofs.lemmas.edits.FrontAndBack.{bound-same, drop_of-take}
+use Rattle.rustc_lexer.proofs.lemmas.{edits.Bounds.{bound_mono, bound-last, rises}, heads.ByTokens.{bound-append}}
+use Rattle.rustc_lexer.proofs.lemmas.edits.{Settled.{stays_at}, FrontAndBack.{bound-same, drop_of-take}}
 
 -- what two lists have in front says nothing of how they differ
 front_cancels : {whole left : List Token} (front rest more us : List Token) → whole ≡ front ++ rest → left ≡ front ++ more → whole ≡ left ++ us
@@ -51,7 +43,10 @@ module _ {first : List ℕ → Token} (law : IsGrammar first) where
   -- ---- the end of the first text is enough
 
   -- what is appended leaves the tokens up to a sure bound
-  pub sure_stays : (left more : List ℕ) (from number : ℕ) → IsText left → IsText (left ++ more) → number ≤ length (tokens_by first left) → bound (tokens_by first left) number ≡ from → (0 < from → has_two left from (length left) ≡ true) → take number (tokens_by first (left ++ more)) ≡ take number (tokens_by first left)
+  pub sure_stays : (left more : List ℕ) (from number : ℕ) → IsText left → IsText (left ++ more)
+      → number ≤ length (tokens_by first left) → bound (tokens_by first left) number ≡ from
+      → (0 < from → has_two left from (length left) ≡ true)
+      → take number (tokens_by first (left ++ more)) ≡ take number (tokens_by first left)
   sure_stays left more from zero is whole few at two = refl
   sure_stays left more from (suc k) is whole few at two =
       let positive : 0 < from = omega (arith, at, rises law left is 0 (omega arith), bound_mono (tokens_by first left) 1 (suc k) (omega arith)) in

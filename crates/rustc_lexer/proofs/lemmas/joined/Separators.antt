@@ -3,8 +3,7 @@ use Rattle.std.proofs.lemmas.Grind.{common_steps}
 use Rattle.std.proofs.Common.{◌⊎◌, inl, inr, ◌≡◌, ℕ, ◌+◌, ◌^◌, ◌<◌, Bool, true, false, true≢false, List, [], ◌∷◌, ◌++◌, length, refl, sym, ap, ◌∙◌, subst, arith, append_assoc, length-append, chars, IsUtf8}
 use Rattle.std.proofs.Math.Seq.{drop-append_seam, take-append_seam}
 use Rattle.std.specs.List.{list_all}
-use Rattle.std.proofs.lemmas.List.{append-nil}
-use Rattle.std.proofs.lemmas.Str.{IsUtf8-append, chars-append, chars-encodes}
+use Rattle.std.proofs.lemmas.{List.{append-nil}, Str.{IsUtf8-append, chars-append, chars-encodes}}
 use lib.Utf8.{encode, scalars}
 use Rattle.std.specs.Str.{encode_utf8_all}
 use Rattle.rustc_lexer.specs.{Edition, Token, TokenKind, Whitespace}
@@ -15,21 +14,18 @@ use Rattle.rustc_lexer.specs.Language as the
 use Rattle.rustc_lexer.specs.Language.{IsTokenBefore}
 use Rattle.rustc_lexer.specs.LanguageText as grammar
 use Rattle.rustc_lexer.specs.LanguageText.{AreTokens, IsTokenIn, Mode, kept, lexed_since, mode_after, mode_edition, part, year}
-use Rattle.rustc_lexer.specs.laws.Choice.{by_symbol}
-use Rattle.rustc_lexer.specs.means.Scan.{next_is}
+use Rattle.rustc_lexer.specs.{laws.Choice.{by_symbol}, means.Scan.{next_is}}
 use Rattle.std.proofs.lemmas.Bool.{and_parts, not-true}
-use Rattle.rustc_lexer.specs.laws.Cuts.{tokens-nil}
-use Rattle.rustc_lexer.specs.laws.LanguageFront.{empty-text}
-use Rattle.rustc_lexer.specs.laws.LanguageIn.{oldest}
-use Rattle.rustc_lexer.specs.laws.LanguageTokens.{tokens-are, tokens-read}
-use Rattle.rustc_lexer.specs.laws.Texts.{left_text}
+use Rattle.rustc_lexer.specs.laws.{Cuts.{tokens-nil}, LanguageFront.{empty-text}, LanguageIn.{oldest}}
+use Rattle.rustc_lexer.specs.laws.{LanguageTokens.{tokens-are, tokens-read}, Texts.{left_text}}
 use Rattle.rustc_lexer.specs.means.Edition.{first_token_in}
 use Rattle.rustc_lexer.proofs.lemmas.joined.Apart.{Changes, here as changed, Goes, changes-past, in-apart}
 
 -- the tokens of characters that are read as a part
 data Are (edition : Edition) : List ℕ → List Token → Type 0 where
   none : Are edition [] []
-  one : {kind : TokenKind} {c : ℕ} {w next : List ℕ} {tokens : List Token} → IsTokenIn edition next kind (c ∷ w) → Are edition next tokens → Are edition (c ∷ w ++ next) (record { kind = kind; len = bytes (c ∷ w) } ∷ tokens)
+  one : {kind : TokenKind} {c : ℕ} {w next : List ℕ} {tokens : List Token} → IsTokenIn edition next kind (c ∷ w)
+      → Are edition next tokens → Are edition (c ∷ w ++ next) (record { kind = kind; len = bytes (c ∷ w) } ∷ tokens)
 
 of_part : {mode : Mode} {cs : List ℕ} {tokens : List Token} → AreTokens mode cs tokens → (edition : Edition) → mode ≡ part edition → Are edition cs tokens
 of_part (grammar.nothing) edition e = none
@@ -149,7 +145,9 @@ white_space_separates edition = grind (arith, common_steps, touches, begins)
 
 module _ (edition : Edition) (text piece : List ℕ) (is : IsText text) (utf8 : IsUtf8 piece) (room : length text + (length piece + 1) < 2 ^ 32) (closed : AreClosed (Tokens edition text)) where
   -- a separator of one character
-  parts : (d : ℕ) → scalars (d ∷ []) ≡ true → encode_utf8_all (d ∷ []) ≡ d ∷ [] → is_whitespace d ≡ true → last_takes_in (Tokens edition text) d ≡ false → NextIsNot is_whitespace (chars piece) → IsSeparated edition text (d ∷ []) piece
+  parts : (d : ℕ) → scalars (d ∷ []) ≡ true → encode_utf8_all (d ∷ []) ≡ d ∷ [] → is_whitespace d ≡ true
+      → last_takes_in (Tokens edition text) d ≡ false → NextIsNot is_whitespace (chars piece)
+      → IsSeparated edition text (d ∷ []) piece
   parts d scalar encoded white out stop =
       let its : IsUtf8 (d ∷ []) = (d ∷ [], (scalar, encoded)) in
       let shown : chars (d ∷ []) ≡ d ∷ [] = ap chars (sym encoded) ∙ chars-encodes (d ∷ []) scalar in

@@ -1,15 +1,10 @@
 -- A run of characters whose front is in ASCII, by its bytes.
 use Rattle.std.proofs.Common.{◌≡◌, ℕ, suc, ◌<◌, ◌≤◌, Bool, true, false, true≢false, List, [], ◌∷◌, ◌++◌, length, drop, nat_lt, refl, sym, ap, ◌∙◌, arith, subst}
-use Rattle.std.specs.Char.{encode_utf8}
-use Rattle.std.specs.List.{prefix_len}
-use Rattle.std.specs.Str.{chars, encode_utf8_all, IsUtf8, IsCharBoundary}
+use Rattle.std.specs.{Char.{encode_utf8}, List.{prefix_len}, Str.{chars, encode_utf8_all, IsUtf8, IsCharBoundary}}
 use Rattle.std.proofs.lemmas.Bool.{ltb-false, ltb-true}
 use Rattle.std.proofs.lemmas.Str.{chars-nil, chars_past_char, encodes-chars, IsUtf8-past_char, byte_from_char, encode_ascii, IsCharBoundary-from_drop}
-use Rattle.std.proofs.lemmas.List.Sums.{prefix_len-le-length}
-use Rattle.std.proofs.lemmas.Grind.{common_steps}
-use Rattle.rustc_lexer.specs.means.ByteRuns.{is_wide}
-use Rattle.rustc_lexer.specs.means.Scan.{past, next_is, run_len}
-use Rattle.rustc_lexer.specs.laws.Choice.{by_either}
+use Rattle.std.proofs.lemmas.{List.Sums.{prefix_len-le-length}, Grind.{common_steps}}
+use Rattle.rustc_lexer.specs.{means.{ByteRuns.{is_wide}, Scan.{past, next_is, run_len}}, laws.Choice.{by_either}}
 use Rattle.rustc_lexer.specs.laws.Past.{past-one}
 use Rattle.rustc_lexer.proofs.lemmas.tokens.Runs.{run_ends}
 

@@ -5,10 +5,8 @@ use Rattle.std.proofs.lemmas.Bool.{agree_below_at, and_left, and_right, cases_lt
 use Rattle.std.proofs.lemmas.Nat.{pow_pos, and_le_l, and_le_r, or_lt, shr-shr}
 use Rattle.std.proofs.lemmas.Nat.Bits.{bit_at_and, bit_at_or, bit_at_not, bit_at_lowest, bit_at-lt, bit_at-suc, bit_at-zero, bit_at_above, bit_at_cat_high, bit_at_cat_low, bit_at-trailing_zeros}
 use Rattle.std.proofs.lemmas.Simd.{bit_mask_l, length-chunk, get_or-chunk, mask_l-mod}
-use Rattle.std.proofs.lemmas.List.{get_or-map, get_or_past, length-map}
-use Rattle.std.proofs.Math.Bool.{and-true, and_self}
-use Rattle.std.proofs.Math.Nat.{add-zero}
-use Rattle.std.proofs.lemmas.Grind.{common_steps}
+use Rattle.std.proofs.{lemmas.List.{get_or-map, get_or_past, length-map}, Math.Bool.{and-true, and_self}}
+use Rattle.std.proofs.{Math.Nat.{add-zero}, lemmas.Grind.{common_steps}}
 use lib.Count.{count_trailing_zeros}
 use lib.Lanes.{chunk, mask_l}
 use Rattle.rustc_lexer.specs.means.Ends.{bit, IsLowest}

@@ -1,15 +1,12 @@
 -- The loop over a block comment: from one star or slash to the next.
 use Rattle.std.proofs.Common.{◌≡◌, ◌≢◌, ℕ, suc, ◌+◌, ◌<◌, ◌==◌, Bool, true, false, List, [], ◌∷◌, ◌++◌, length, drop, refl, sym, ap, ◌∙◌, arith, length-append, subst, Option, Some, None, not}
 use Rattle.std.specs.Str.{chars, IsUtf8}
-use Rattle.std.proofs.lemmas.Bool.{and_parts, or_cases, or_parts, eqb-true, not-true, not-false}
-use Rattle.std.proofs.lemmas.Grind.{common_steps}
-use Rattle.rustc_lexer.specs.{DocStyle, TokenKind, BlockComment}
-use Rattle.rustc_lexer.specs.means.Least.{more}
+use Rattle.std.proofs.lemmas.{Bool.{and_parts, or_cases, or_parts, eqb-true, not-true, not-false}, Grind.{common_steps}}
+use Rattle.rustc_lexer.specs.{DocStyle, TokenKind, BlockComment, means.Least.{more}}
 use Rattle.rustc_lexer.specs.means.BlockComment.{at_closing, at_opening, block_doc_style, comment_end, block_comment, block_comment_to, out_of}
 use Rattle.rustc_lexer.specs.means.Scan.{begins, or_all, or_all_at, past, run_len, scanned}
 use Rattle.rustc_lexer.specs.laws.BlockComment.{out_of-plain}
-use Rattle.rustc_lexer.specs.laws.Past.{past-zero, past-past, past-two, chars-past, IsUtf8-cut}
-use Rattle.rustc_lexer.specs.laws.Choice.{by_either}
+use Rattle.rustc_lexer.specs.laws.{Past.{past-zero, past-past, past-two, chars-past, IsUtf8-cut}, Choice.{by_either}}
 use Rattle.rustc_lexer.proofs.lemmas.tokens.QuotedLoop.{run_fails}
 use Rattle.memchr.specs.Find.{is_byte2}
 
@@ -34,7 +31,9 @@ unfolding out_of
 out_of-opening depth s w2 = grind (arith, common_steps)
 
 -- past some characters, which lead to this depth
-step : (text rest tail w : List ℕ) (depth to n : ℕ) → Commenting text rest depth → chars rest ≡ w ++ chars tail → length w ≡ n → tail ≡ past n rest → out_of depth (w ++ chars tail) ≡ more n (out_of to (chars tail)) → Commenting text tail to
+step : (text rest tail w : List ℕ) (depth to n : ℕ) → Commenting text rest depth → chars rest ≡ w ++ chars tail
+    → length w ≡ n → tail ≡ past n rest → out_of depth (w ++ chars tail) ≡ more n (out_of to (chars tail))
+    → Commenting text tail to
 step text rest tail w depth to n at reads len cut e = record {
   utf8 = IsUtf8-cut n rest tail at.utf8 cut;
   same = moved (out_of to (chars tail)) ∙ (ap (λ o. leaves o (w ++ chars tail) rest) (sym e) ∙ (ap (λ cs. leaves (out_of depth cs) cs rest) (sym reads) ∙ at.same));
@@ -123,6 +122,7 @@ comment text rest style terminated e f =
     ap (λ (d : Option DocStyle). (BlockComment d terminated, rest)) e
     ∙ (ap (λ (r : Bool × List ℕ). (BlockComment (block_doc_style (chars text)) r.0, r.1)) f ∙ by_end (comment_end (chars text)))
   where
-    by_end : (o : Option ℕ) → ◌≡◌ {A = TokenKind × List ℕ} (BlockComment (block_doc_style (chars text)) (or_all_at o (chars text)).0, past (or_all_at o (chars text)).1 text) ((block_comment_to o (chars text)).0, past (block_comment_to o (chars text)).1 text)
+    by_end : (o : Option ℕ)
+        → ◌≡◌ {A = TokenKind × List ℕ} (BlockComment (block_doc_style (chars text)) (or_all_at o (chars text)).0, past (or_all_at o (chars text)).1 text) ((block_comment_to o (chars text)).0, past (block_comment_to o (chars text)).1 text)
     by_end None = refl
     by_end (Some n) = refl

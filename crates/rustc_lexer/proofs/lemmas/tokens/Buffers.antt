@@ -2,20 +2,13 @@
 use Rattle.std.proofs.Common.{All, get_or, ◌≡◌, ℕ, zero, suc, ◌+◌, ◌-◌, ◌<◌, ◌≤◌, List, [], ◌∷◌, ◌++◌, length, map, take, drop, min, inl, inr, refl, sym, ap, ◌∙◌, arith, slice_set, length-drop}
 use Rattle.std.proofs.lemmas.Bool.{cases_lt}
 use Rattle.std.proofs.lemmas.List.{take-append-drop, take_more_set, drop-set-lt, drop-drop, length-set, map-append}
-use Rattle.std.proofs.lemmas.List.Elements.{All-head, All-tail}
-use Rattle.std.proofs.lemmas.Str.{IsCharBoundary-from_drop}
-use Rattle.std.proofs.Math.Nat.{min-eq_left, min-eq_right, min-le_right}
-use Rattle.std.proofs.lemmas.Grind.{common_steps}
+use Rattle.std.proofs.lemmas.{List.Elements.{All-head, All-tail}, Str.{IsCharBoundary-from_drop}}
+use Rattle.std.proofs.{Math.Nat.{min-eq_left, min-eq_right, min-le_right}, lemmas.Grind.{common_steps}}
 use Rattle.rustc_lexer.specs.{Token, Edition, FrontmatterAllowed}
 use Rattle.rustc_lexer.specs.Tokens.{IsFilledTo, state_past, bound, tokens_by, tokens_of, tokens_left, Partitions, TakesToken}
-use Rattle.rustc_lexer.specs.means.Tokens.{IsFilled}
-use Rattle.rustc_lexer.specs.State.{State}
-use Rattle.rustc_lexer.specs.Classes.{IsText}
-use Rattle.rustc_lexer.specs.Locality.{IsGrammar}
+use Rattle.rustc_lexer.specs.{means.Tokens.{IsFilled}, State.{State}, Classes.{IsText}, Locality.{IsGrammar}}
 use Rattle.rustc_lexer.specs.LanguageText.{Mode, part, mode_after, mode_edition, mode_in}
-use Rattle.rustc_lexer.specs.means.Edition.{first_token_in}
-use Rattle.rustc_lexer.specs.means.Taking.{take_next}
-use Rattle.rustc_lexer.specs.laws.Edition.{edition_grammar}
+use Rattle.rustc_lexer.specs.{means.{Edition.{first_token_in}, Taking.{take_next}}, laws.Edition.{edition_grammar}}
 use Rattle.rustc_lexer.specs.laws.Cuts.{IsCutAt, at_bound, tokens-cons}
 use Rattle.rustc_lexer.proofs.lemmas.tokens.Progress.{IsOffset, next-from_drop, none_more, none_past}
 
@@ -35,11 +28,13 @@ module _ {X : Type 0} (written : Token → X) (tokens left : List Token) (buffer
   one_written x e =
       grind (arith, common_steps, next-from_drop, take_more_set, map-append, drop-set-lt, drop-drop, length-set)
 
-pub whole_buffer : {X : Type 0} (written : Token → X) (tokens : List Token) (buffer filled : List X) (count : ℕ) → IsWritten written tokens buffer filled count → filled ≡ map written (take count tokens) ++ drop count buffer
+pub whole_buffer : {X : Type 0} (written : Token → X) (tokens : List Token) (buffer filled : List X) (count : ℕ)
+    → IsWritten written tokens buffer filled count → filled ≡ map written (take count tokens) ++ drop count buffer
 whole_buffer written tokens buffer filled count is = sym (take-append-drop count filled) ∙ (ap (λ l. l ++ drop count filled) is.front ∙ ap (λ l. map written (take count tokens) ++ l) is.back)
 
 -- either no token is left, or no room
-pub all_written : {X : Type 0} (written : Token → X) (tokens : List Token) (buffer filled : List X) (count : ℕ) → IsWritten written tokens buffer filled count → length tokens ≤ count → IsFilled written tokens buffer filled count
+pub all_written : {X : Type 0} (written : Token → X) (tokens : List Token) (buffer filled : List X) (count : ℕ)
+    → IsWritten written tokens buffer filled count → length tokens ≤ count → IsFilled written tokens buffer filled count
 all_written written tokens buffer filled count is all = grind (arith, common_steps, min-eq_right, whole_buffer)
 
 -- the tokens that begin before an offset are written, and no other is left to be, or no room
@@ -67,7 +62,10 @@ module _ {first : List ℕ → Token} (law : IsGrammar first) (text : List ℕ) 
   next_offset more = grind (arith, common_steps, next_token, next-from_drop _ count _ _ (next_token more))
 
 -- those that begin before the end of the text are all
-pub filled_all : {first : List ℕ → Token} (law : IsGrammar first) {X : Type 0} (written : Token → X) (text : List ℕ) → IsText text → (end : ℕ) → end ≡ length text → (buffer filled : List X) (count : ℕ) → IsFilledTo written end (tokens_by first text) buffer filled count → IsFilled written (tokens_by first text) buffer filled count
+pub filled_all : {first : List ℕ → Token} (law : IsGrammar first) {X : Type 0} (written : Token → X) (text : List ℕ)
+    → IsText text → (end : ℕ) → end ≡ length text → (buffer filled : List X) (count : ℕ)
+    → IsFilledTo written end (tokens_by first text) buffer filled count
+    → IsFilled written (tokens_by first text) buffer filled count
 filled_all {first} law written text is end whole buffer filled count to = record {
   as_many = elim (cases_lt count (length buffer)) [
     | inl more ↦
@@ -96,7 +94,9 @@ count_bound tokens some zero few = omega arith
 count_bound [] some (suc count) few = absurd (omega arith)
 count_bound (t ∷ ts) some (suc count) few = let ih = count_bound ts (All-tail (λ (t : Token). 0 < t.len) t ts some) count (omega arith) in let one = All-head (λ (t : Token). 0 < t.len) t ts some in omega arith
 
-pub shorter_left : (text left : List ℕ) (tokens : List Token) → Partitions text tokens → (buffer count : ℕ) → count ≡ min buffer (length tokens) → left ≡ drop (bound tokens count) text → 0 < buffer → 0 < length text → length left < length text
+pub shorter_left : (text left : List ℕ) (tokens : List Token) → Partitions text tokens → (buffer count : ℕ)
+    → count ≡ min buffer (length tokens) → left ≡ drop (bound tokens count) text → 0 < buffer → 0 < length text
+    → length left < length text
 shorter_left text left tokens parts buffer count e cut some_buffer some_text =
     grind (arith, common_steps, cases_lt, min-eq_left, min-eq_right, min-le_right, length-drop, count_bound)
 
@@ -139,7 +139,8 @@ pub record IsFilling {X : Type 0} (form : Token → X) (edition : Edition) (text
   pub begun : (k : ℕ) → k < count → bound (tokens_by (first_token_in edition) text) k < end
 
 -- one more of them
-pub filled_more : {X : Type 0} (written : Token → X) (edition : Edition) (text : List ℕ) (end : ℕ) (buffer filled : List X) (count : ℕ) (s t : State) (token : Token) (x : X) → IsText text → end ≤ length text → IsFilling written edition text end buffer filled count s
+pub filled_more : {X : Type 0} (written : Token → X) (edition : Edition) (text : List ℕ) (end : ℕ) (buffer filled : List X) (count : ℕ) (s t : State) (token : Token) (x : X)
+    → IsText text → end ≤ length text → IsFilling written edition text end buffer filled count s
     → length text - end < length s.rest → count < length filled → TakesToken s token t → x ≡ written token → IsFilling written edition text end buffer (slice_set filled count x) (count + 1) t
 filled_more written edition text end buffer filled count s t token x is inside at more room takes e =
     let law = edition_grammar edition in

@@ -1,19 +1,13 @@
 -- The run of a class that stops only at bytes of ASCII, by a search of the bytes.
 use Rattle.std.proofs.Common.{◌≡◌, ℕ, ◌+◌, ◌<◌, ◌≤◌, ◌==◌, ◌||◌, ◌&&◌, not, cond, Bool, true, false, true≢false, List, [], ◌∷◌, ◌++◌, append-nil, length, drop, get_or, refl, sym, ap, ap₂, ◌∙◌, arith, inl, inr, drop-drop, map, bit_or, Some, None}
-use Rattle.std.specs.Char.{encode_utf8}
-use Rattle.std.specs.List.{position_or_len, prefix_len}
-use Rattle.std.specs.Str.{chars, encode_utf8_all, IsUtf8}
+use Rattle.std.specs.{Char.{encode_utf8}, List.{position_or_len, prefix_len}, Str.{chars, encode_utf8_all, IsUtf8}}
 use Rattle.std.proofs.Math.ListN.{drop_of_length-le}
 use Rattle.std.proofs.lemmas.Bool.{cond-true, eq-eqb, eqb-true, false_from_ne_true, or_cases, not_from_true, not_from_false}
-use Rattle.std.proofs.Math.Seq.{drop-append_seam}
-use Rattle.std.proofs.lemmas.List.Folds.{prefix_len-append}
+use Rattle.std.proofs.{Math.Seq.{drop-append_seam}, lemmas.List.Folds.{prefix_len-append}}
 use Rattle.std.proofs.lemmas.List.Sums.{position_or_len_is, prefix_len_is}
-use Rattle.std.proofs.lemmas.Str.{encode_ascii, inside_one, encodes-chars}
-use Rattle.std.proofs.lemmas.Grind.{common_steps}
+use Rattle.std.proofs.lemmas.{Str.{encode_ascii, inside_one, encodes-chars}, Grind.{common_steps}}
 use Rattle.memchr.specs.Find.{IsFirstByte, is_byte, is_byte2}
-use Rattle.rustc_lexer.specs.means.Ends.{bit}
-use Rattle.rustc_lexer.specs.means.Scan.{begins, next_is, past, run_len}
-use Rattle.rustc_lexer.specs.laws.Choice.{by_either}
+use Rattle.rustc_lexer.specs.{means.{Ends.{bit}, Scan.{begins, next_is, past, run_len}}, laws.Choice.{by_either}}
 use Rattle.rustc_lexer.proofs.lemmas.tokens.AsciiRuns.{next_byte, past_run, past_run-in, past_run-out}
 use Rattle.rustc_lexer.specs.laws.Past.{chars-past}
 use Rattle.rustc_lexer.proofs.lemmas.tokens.Bits.{mask_in, mask_lowest}
@@ -72,7 +66,8 @@ pub found_at : (stops : ℕ → Bool) (text bytes : List ℕ) (n : ℕ) → byte
 found_at stops text bytes n read h = ap (position_or_len stops) (sym read) ∙ position_or_len_is stops bytes n 0 (omega arith)
     (λ k l. false_from_ne_true _ (h.0.before k (omega arith) l)) (λ l. h.1)
 
-pub found_nowhere : (stops : ℕ → Bool) (small : (b : ℕ) → stops b ≡ true → b < 128) (text bytes : List ℕ) → IsUtf8 text → bytes ≡ text → IsFirstByte stops bytes None → [] ≡ past (run_len (others stops small) (chars text)) text
+pub found_nowhere : (stops : ℕ → Bool) (small : (b : ℕ) → stops b ≡ true → b < 128) (text bytes : List ℕ) → IsUtf8 text
+    → bytes ≡ text → IsFirstByte stops bytes None → [] ≡ past (run_len (others stops small) (chars text)) text
 found_nowhere stops small text bytes is read h =
     let none : position_or_len stops bytes ≡ length bytes = position_or_len_is stops bytes (length bytes) 0 (omega arith)
     (λ k l. false_from_ne_true _ (h k (omega arith) l)) (λ l. absurd (omega arith)) in
@@ -80,7 +75,9 @@ found_nowhere stops small text bytes is read h =
 
 -- ---- a look at the first n bytes
 
-pub in_first : (stops : ℕ → Bool) (bytes : List ℕ) (n found : ℕ) → n ≤ 64 → n ≤ length bytes → found ≡ mask_l (map stops (chunk 0 n bytes)) → 0 < found → IsFirstByte stops bytes (Some (count_trailing_zeros 64 found))
+pub in_first : (stops : ℕ → Bool) (bytes : List ℕ) (n found : ℕ) → n ≤ 64 → n ≤ length bytes
+    → found ≡ mask_l (map stops (chunk 0 n bytes)) → 0 < found
+    → IsFirstByte stops bytes (Some (count_trailing_zeros 64 found))
 in_first stops bytes n found few le mask some =
     let room : 0 + n ≤ length bytes = omega arith in
     let low = mask_lowest stops bytes 0 n found room mask few some in

@@ -3,13 +3,9 @@ use Rattle.std.proofs.lemmas.Grind.{common_steps}
 use Rattle.std.proofs.Common.{◌≡◌, ℕ, ◌+◌, ◌-◌, ◌<◌, List, length, drop, take, sym, ap, subst, ◌∙◌, arith}
 use Rattle.std.specs.Str.{IsUtf8}
 use Rattle.std.proofs.lemmas.List.{take_rest}
-use Rattle.rustc_lexer.specs.{Edition, FrontmatterAllowed, Token, No}
-use Rattle.rustc_lexer.specs.LanguageText.{mode_in}
-use Rattle.rustc_lexer.specs.declared.entry.ahead.Ahead.{Ahead}
-use Rattle.rustc_lexer.specs.State.{State}
-use Rattle.rustc_lexer.specs.Tokens.{TakesToken}
-use Rattle.rustc_lexer.specs.laws.State.{state}
-use Rattle.rustc_lexer.specs.means.Edition.{first_token_in}
+use Rattle.rustc_lexer.specs.{Edition, FrontmatterAllowed, Token, No, LanguageText.{mode_in}}
+use Rattle.rustc_lexer.specs.{declared.entry.ahead.Ahead.{Ahead}, State.{State}, Tokens.{TakesToken}}
+use Rattle.rustc_lexer.specs.{laws.State.{state}, means.Edition.{first_token_in}}
 use Rattle.rustc_lexer.specs.means.Ends.{AreEndsPast, IsEnds, IsUnclassified, KnowsAhead, TakesClassified}
 use Rattle.rustc_lexer.proofs.lemmas.tokens.Tokens.{takes_part}
 

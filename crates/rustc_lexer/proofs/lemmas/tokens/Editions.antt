@@ -1,17 +1,12 @@
 -- What an edition has in place of some tokens.
 use Rattle.std.proofs.Common.{◌≡◌, ◌≢◌, ◌<◌, ℕ, suc, Bool, true, false, List, [], ◌∷◌, length, ◌⊎◌, refl, codes, ap, ◌∙◌, IsCharBoundary, arith}
 use Rattle.rustc_lexer.specs.{Edition, Token, TokenKind, E2015, E2018, E2021, E2024, Pound, GuardedStrPrefix, RawLifetime, UnknownPrefix, UnknownPrefixLifetime}
-use Rattle.rustc_lexer.specs.laws.Edition.{edition_grammar}
-use Rattle.rustc_lexer.specs.laws.Language.{lexeme-sound}
-use Rattle.rustc_lexer.specs.laws.LanguageIn.{unhashed}
-use Rattle.rustc_lexer.specs.declared.lexemes.family.Family.TheVariants.{Hash}
-use Rattle.rustc_lexer.specs.Tables.{is_emoji}
+use Rattle.rustc_lexer.specs.laws.{Edition.{edition_grammar}, Language.{lexeme-sound}, LanguageIn.{unhashed}}
+use Rattle.rustc_lexer.specs.{declared.lexemes.family.Family.TheVariants.{Hash}, Tables.{is_emoji}}
 use Rattle.unicode_ident.proofs.Computing.{unicode_ident}
 use Rattle.rustc_lexer.specs.means.Lexeme.{family_of, first_token, lexeme, past_first}
-use Rattle.rustc_lexer.specs.means.Quick.{BeginsWithNoHash, IsFirstBy, IsFirstToken}
-use Rattle.rustc_lexer.specs.means.Scan.{bytes_of}
-use Rattle.rustc_lexer.specs.means.Edition.{token, before_2024, changed, first_token_in}
-use Rattle.rustc_lexer.specs.Classes.{IsText}
+use Rattle.rustc_lexer.specs.means.{Quick.{BeginsWithNoHash, IsFirstBy, IsFirstToken}, Scan.{bytes_of}}
+use Rattle.rustc_lexer.specs.{means.Edition.{token, before_2024, changed, first_token_in}, Classes.{IsText}}
 use Rattle.std.proofs.lemmas.Grind.{common_steps}
 use Rattle.std.specs.Fmt.{decimal, digits}
 
@@ -41,7 +36,8 @@ hash_family : family_of 35 ≡ Hash
 unfolding is_emoji unicode_ident
 hash_family = refl
 
-kept_first : (cs : List ℕ) → ((first : ℕ) (s : List ℕ) → cs ≡ first ∷ s → family_of first ≢ Hash) → before_2024 (lexeme cs).0 (bytes_of (lexeme cs).1 cs) ≡ token (lexeme cs).0 (bytes_of (lexeme cs).1 cs)
+kept_first : (cs : List ℕ) → ((first : ℕ) (s : List ℕ) → cs ≡ first ∷ s → family_of first ≢ Hash)
+    → before_2024 (lexeme cs).0 (bytes_of (lexeme cs).1 cs) ≡ token (lexeme cs).0 (bytes_of (lexeme cs).1 cs)
 kept_first [] none = refl
 kept_first (c ∷ s) none =
     unhashed (lexeme-sound (c ∷ s)) (λ e. none c s refl (ap family_of e ∙ hash_family)) (bytes_of (suc (past_first c s).1) (c ∷ s))

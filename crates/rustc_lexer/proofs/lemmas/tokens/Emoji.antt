@@ -3,13 +3,10 @@ use Rattle.std.proofs.Common.{◌≡◌, ℕ, zero, suc, ◌+◌, ◌<◌, ◌�
 use Rattle.std.proofs.Math.Bool.{and-false, or-true}
 use Rattle.std.proofs.lemmas.Bool.{and_parts, le-leb, lt-leb, leb-true, lt-ltb, le-ltb, ltb-true, ltb-false}
 use Rattle.std.proofs.lemmas.List.Sorted.{IsNonDecreasingBy-from_all_adjacent}
-use Rattle.std.specs.List.Sorted.{IsBinarySearchResult, IsPartitionPoint, IsSearchInRange}
-use Rattle.std.specs.Ordering.{ordering_index}
-use Rattle.std.specs.declared.cmp.Ordering.{Ordering}
-use Rattle.std.specs.declared.cmp.Ordering.TheVariants.{Less, Equal, Greater}
+use Rattle.std.specs.{List.Sorted.{IsBinarySearchResult, IsPartitionPoint, IsSearchInRange}, Ordering.{ordering_index}}
+use Rattle.std.specs.declared.cmp.Ordering.{Ordering, TheVariants.{Less, Equal, Greater}}
 use Rattle.std.proofs.lemmas.Grind.{common_steps}
-use Rattle.rustc_lexer.specs.Tables.{emoji_ranges, is_emoji}
-use Rattle.rustc_lexer.specs.means.Emoji.{Range, is_within, in_ranges, side}
+use Rattle.rustc_lexer.specs.{Tables.{emoji_ranges, is_emoji}, means.Emoji.{Range, is_within, in_ranges, side}}
 use Rattle.rustc_lexer.specs.laws.Choice.{by_either}
 
 -- each range has a member, and begins past the end of the one before, the first at n or later
@@ -63,7 +60,8 @@ searched c rs (Err i) up bound found = sym (out_of_all c rs (λ k d lt. outside 
         (λ e. ap is_equal (parts.1 k d (ltb-false k i e) lt))
 
 -- past ASCII, what the search answers
-pub past_ascii : (c : ℕ) (ascii : Bool) (r : Result ℕ ℕ) → ascii ≡ nat_lt c 128 → ascii ≡ false → IsSearchInRange r (length emoji_ranges) → IsBinarySearchResult (side c) emoji_ranges r → is_ok r ≡ is_emoji c
+pub past_ascii : (c : ℕ) (ascii : Bool) (r : Result ℕ ℕ) → ascii ≡ nat_lt c 128 → ascii ≡ false
+    → IsSearchInRange r (length emoji_ranges) → IsBinarySearchResult (side c) emoji_ranges r → is_ok r ≡ is_emoji c
 unfolding is_emoji emoji_ranges
 past_ascii c ascii r e f bound found = rw (le-leb 128 c (ltb-false c 128 (sym e ∙ f))) (searched c emoji_ranges r refl bound found)
 

@@ -1,21 +1,14 @@
 -- The families that characters choose: by the table in ASCII, and by the classes past it.
 use Rattle.std.proofs.Common.{◌≡◌, ℕ, ◌<◌, ◌≤◌, ◌==◌, not, true, false, true≢false, List, [], ◌∷◌, get_or, refl, sym, ap, ◌∙◌, arith}
 use Rattle.std.specs.Str.{chars}
-use Rattle.std.proofs.lemmas.Bool.{ne_eqb}
-use Rattle.std.proofs.lemmas.List.FromFn.{get_or-map-range_with_len}
+use Rattle.std.proofs.lemmas.{Bool.{ne_eqb}, List.FromFn.{get_or-map-range_with_len}}
 use Rattle.unicode_ident.specs.Ident.{is_xid_start}
 use Rattle.unicode_ident.proofs.Computing.{unicode_ident}
-use Rattle.rustc_lexer.specs.declared.lexemes.family.TheConstants.{FAMILIES}
-use Rattle.rustc_lexer.specs.declared.lexemes.family.Family.{Family}
-use Rattle.rustc_lexer.specs.declared.lexemes.family.Family.TheVariants.{Slash, Word}
-use Rattle.rustc_lexer.specs.{TokenKind}
-use Rattle.rustc_lexer.specs.Classes.{is_id_start, is_whitespace}
-use Rattle.rustc_lexer.specs.Tables.{is_emoji}
-use Rattle.rustc_lexer.specs.laws.Choice.{by_either}
-use Rattle.rustc_lexer.specs.laws.LanguageRuns.{among}
-use Rattle.rustc_lexer.specs.means.Lexeme.{family_of, past_first, read_by}
-use Rattle.rustc_lexer.specs.means.Scan.{scanned}
-use Rattle.rustc_lexer.specs.laws.Scan.{scanned-same}
+use Rattle.rustc_lexer.specs.declared.lexemes.family.{TheConstants.{FAMILIES}, Family.{Family}}
+use Rattle.rustc_lexer.specs.{declared.lexemes.family.Family.TheVariants.{Slash, Word}, TokenKind}
+use Rattle.rustc_lexer.specs.{Classes.{is_id_start, is_whitespace}, Tables.{is_emoji}, laws.Choice.{by_either}}
+use Rattle.rustc_lexer.specs.{laws.LanguageRuns.{among}, means.Lexeme.{family_of, past_first, read_by}}
+use Rattle.rustc_lexer.specs.{means.Scan.{scanned}, laws.Scan.{scanned-same}}
 
 -- what the family of the first character reads
 pub by_family : (f : Family) (c : ℕ) (tail : List ℕ) (read : TokenKind × List ℕ) → f ≡ family_of c → read ≡ scanned (read_by f c) tail → read ≡ scanned (past_first c) tail

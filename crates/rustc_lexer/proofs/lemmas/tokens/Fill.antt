@@ -1,18 +1,11 @@
 -- What the clauses `count` and `state` of `Tokens::fill`, with those of `as_str` before it, tell of the iterator after it.
 use Rattle.std.proofs.Common.{◌≡◌, ℕ, zero, suc, ◌+◌, ◌<◌, ◌≤◌, [], length, drop, min, refl, sym, ap, subst, ◌∙◌, arith, length-drop, pos_of_ne-zero}
-use Rattle.std.proofs.lemmas.List.{nil_from_length}
-use Rattle.std.proofs.lemmas.Str.{IsUtf8-drop}
-use Rattle.std.proofs.Math.Nat.{min-le_right}
-use Rattle.rustc_lexer.specs.{Token}
-use Rattle.rustc_lexer.specs.Classes.{IsText}
-use Rattle.rustc_lexer.specs.LanguageText.{Mode, mode_edition}
-use Rattle.rustc_lexer.specs.State.{State}
+use Rattle.std.proofs.{lemmas.{List.{nil_from_length}, Str.{IsUtf8-drop}}, Math.Nat.{min-le_right}}
+use Rattle.rustc_lexer.specs.{Token, Classes.{IsText}, LanguageText.{Mode, mode_edition}, State.{State}}
 use Rattle.rustc_lexer.specs.Tokens.{advance, bound, state_past, tokens_left, tokens_of, TakesToken}
-use Rattle.rustc_lexer.specs.means.Taking.{token_at}
-use Rattle.rustc_lexer.specs.laws.State.{edition-after, past_token}
+use Rattle.rustc_lexer.specs.{means.Taking.{token_at}, laws.State.{edition-after, past_token}}
 use Rattle.rustc_lexer.specs.laws.Tokens.{partitions, tokens-nil}
-use Rattle.rustc_lexer.proofs.lemmas.tokens.Buffers.{left_more, rest_more, shorter_left}
-use Rattle.rustc_lexer.proofs.lemmas.tokens.Progress.{none_more}
+use Rattle.rustc_lexer.proofs.lemmas.tokens.{Buffers.{left_more, rest_more, shorter_left}, Progress.{none_more}}
 use Rattle.rustc_lexer.proofs.lemmas.tokens.Tokens.{takes_first}
 
 record IsPast (s t : State) (count : ℕ) : Type 0 where

@@ -1,26 +1,15 @@
 -- How a frontmatter opens, by the token that is there otherwise.
 use Rattle.std.proofs.Common.{◌≡◌, ℕ, ◌==◌, true, false, List, [], ◌∷◌, drop, refl, sym, ap, ◌∙◌, arith}
-use Rattle.std.specs.List.{starts_with}
-use Rattle.std.specs.Str.{chars, IsUtf8}
-use Rattle.std.proofs.lemmas.Bool.{eqb-true}
-use Rattle.std.proofs.lemmas.Grind.{common_steps}
+use Rattle.std.specs.{List.{starts_with}, Str.{chars, IsUtf8}}
+use Rattle.std.proofs.lemmas.{Bool.{eqb-true}, Grind.{common_steps}}
 use Rattle.unicode_ident.proofs.Computing.{unicode_ident}
-use Rattle.rustc_lexer.specs.{Edition, Token, Minus, Whitespace}
-use Rattle.rustc_lexer.specs.Classes.{is_whitespace}
-use Rattle.rustc_lexer.specs.FrontmatterGrammar.{fence}
-use Rattle.rustc_lexer.specs.Tables.{emoji_ranges, is_emoji}
-use Rattle.rustc_lexer.specs.declared.lexemes.family.Family.TheVariants.{Symbol}
-use Rattle.rustc_lexer.specs.means.Edition.{first_token_in}
-use Rattle.rustc_lexer.specs.means.Frontmatter.{is_dash, opens, spaces_len}
-use Rattle.rustc_lexer.specs.means.Lexeme.{first_token, lexeme, past_first, read_by}
-use Rattle.rustc_lexer.specs.means.Scan.{begins, bytes_of, past}
-use Rattle.rustc_lexer.specs.laws.Choice.{by_either}
-use Rattle.rustc_lexer.specs.laws.Frontmatter.{opens-other}
-use Rattle.rustc_lexer.specs.laws.LanguageClosing.{begins-encode}
-use Rattle.rustc_lexer.specs.laws.LanguageRuns.{chooses, chooses-space}
-use Rattle.rustc_lexer.specs.laws.Past.{past-drop}
-use Rattle.rustc_lexer.proofs.lemmas.tokens.Editions.{older}
-use Rattle.rustc_lexer.proofs.lemmas.tokens.Search.{starts-begins}
+use Rattle.rustc_lexer.specs.{Edition, Token, Minus, Whitespace, Classes.{is_whitespace}, FrontmatterGrammar.{fence}}
+use Rattle.rustc_lexer.specs.{Tables.{emoji_ranges, is_emoji}, declared.lexemes.family.Family.TheVariants.{Symbol}}
+use Rattle.rustc_lexer.specs.means.{Edition.{first_token_in}, Frontmatter.{is_dash, opens, spaces_len}}
+use Rattle.rustc_lexer.specs.means.{Lexeme.{first_token, past_first, read_by}, Scan.{begins, bytes_of, past}}
+use Rattle.rustc_lexer.specs.laws.{Choice.{by_either}, Frontmatter.{opens-other}, LanguageClosing.{begins-encode}}
+use Rattle.rustc_lexer.specs.laws.{LanguageRuns.{chooses, chooses-space}, Past.{past-drop}}
+use Rattle.rustc_lexer.proofs.lemmas.tokens.{Editions.{older}, Search.{starts-begins}}
 
 chooses-dash : past_first 45 ≡ read_by Symbol 45
 unfolding unicode_ident is_emoji emoji_ranges
@@ -44,7 +33,9 @@ module _ (edition : Edition) (text : List ℕ) (is : IsUtf8 text) where
   dashes n =
       grind (arith, common_steps, starts-begins, past-drop n text is, begins-encode (fence 3) (drop n (chars text)) refl)
 
-  by_first : (cs : List ℕ) (token : Token) → chars text ≡ cs → token ≡ first_token_in edition text → (token.kind ≡ Whitespace → starts_with (λ x y. x == y) (drop token.len text) (fence 3) ≡ false) → (token.kind ≡ Minus → starts_with (λ x y. x == y) text (fence 3) ≡ false) → opens cs ≡ false
+  by_first : (cs : List ℕ) (token : Token) → chars text ≡ cs → token ≡ first_token_in edition text
+      → (token.kind ≡ Whitespace → starts_with (λ x y. x == y) (drop token.len text) (fence 3) ≡ false)
+      → (token.kind ≡ Minus → starts_with (λ x y. x == y) text (fence 3) ≡ false) → opens cs ≡ false
   by_first [] token e is_first no_space no_dash = refl
   by_first (c ∷ s) token e is_first no_space no_dash = by_either (is_whitespace c)
       (λ w.
@@ -61,5 +52,7 @@ module _ (edition : Edition) (text : List ℕ) (is : IsUtf8 text) where
       opens-none (c ∷ s) (rw w (ap (begins (fence 3)) (sym e) ∙ begins_none)))
       (λ d. opens-other (c ∷ s) (rw (d, w) refl)))
 
-  pub opens_not : (token : Token) → token ≡ first_token_in edition text → (token.kind ≡ Whitespace → starts_with (λ x y. x == y) (drop token.len text) (fence 3) ≡ false) → (token.kind ≡ Minus → starts_with (λ x y. x == y) text (fence 3) ≡ false) → opens (chars text) ≡ false
+  pub opens_not : (token : Token) → token ≡ first_token_in edition text
+      → (token.kind ≡ Whitespace → starts_with (λ x y. x == y) (drop token.len text) (fence 3) ≡ false)
+      → (token.kind ≡ Minus → starts_with (λ x y. x == y) text (fence 3) ≡ false) → opens (chars text) ≡ false
   opens_not token is_first no_space no_dash = by_first (chars text) token refl is_first no_space no_dash

@@ -1,19 +1,13 @@
 -- Guarded strings: what is taken of a text.
 use Rattle.std.proofs.Common.{◌≡◌, ℕ, suc, ◌+◌, ◌-◌, Bool, true, false, if◌then◌else◌, List, [], ◌∷◌, length, drop, sym, ap, ◌∙◌, arith, subst, Option, Some, None}
 use Rattle.std.specs.Str.{chars, IsUtf8, IsCharBoundary}
-use Rattle.std.proofs.lemmas.Str.{IsCharBoundary-from_drop}
-use Rattle.std.proofs.lemmas.Grind.{common_steps}
-use Rattle.rustc_lexer.specs.{GuardedStr}
-use Rattle.rustc_lexer.specs.means.Guarded.{guarded_body, string_past, guarded_by, take_guarded}
-use Rattle.rustc_lexer.specs.means.Raw.{hash_run, is_quote}
-use Rattle.rustc_lexer.specs.means.Scan.{after, begins, bytes_of, next_is, past, scanned}
-use Rattle.rustc_lexer.specs.LanguageText.{Mode}
-use Rattle.rustc_lexer.specs.State.{State}
+use Rattle.std.proofs.lemmas.{Str.{IsCharBoundary-from_drop}, Grind.{common_steps}}
+use Rattle.rustc_lexer.specs.{GuardedStr, means.Guarded.{guarded_body, string_past, guarded_by, take_guarded}}
+use Rattle.rustc_lexer.specs.means.{Raw.{hash_run, is_quote}, Scan.{after, begins, bytes_of, next_is, past, scanned}}
+use Rattle.rustc_lexer.specs.{LanguageText.{Mode}, State.{State}}
 use Rattle.rustc_lexer.specs.laws.Past.{past-past, past-drop, chars-past, IsUtf8-past, length-past}
-use Rattle.rustc_lexer.proofs.lemmas.tokens.ByteSearch.{begins-byte}
-use Rattle.rustc_lexer.proofs.lemmas.tokens.Raw.{hash_cut}
-use Rattle.rustc_lexer.specs.laws.Scan.{scanned-after}
-use Rattle.rustc_lexer.specs.laws.State.{state}
+use Rattle.rustc_lexer.proofs.lemmas.tokens.{ByteSearch.{begins-byte}, Raw.{hash_cut}}
+use Rattle.rustc_lexer.specs.laws.{Scan.{scanned-after}, State.{state}}
 
 -- what follows the n hashes at the front
 module _ (rest front : List ℕ) (n : ℕ) (is : IsUtf8 rest) (count : n ≡ hash_run (chars rest)) (cut : front ≡ drop n rest) where
@@ -65,5 +59,6 @@ module _ (pending : ℕ) (left : List ℕ) (mode : Mode) (s : State) (rest : Lis
   pub none_here : None ≡ string_past n (chars rest) → take_guarded s ≡ (None, state (pending + n) (drop n left) mode)
   none_here read = guarded-is None read ∙ ap (λ (xs : List ℕ). let r : Option GuardedStr × State = (None, state (pending + n) (drop n xs) mode) in r) here
 
-  pub some_here : (closed : Bool) (t : ℕ) → Some (closed, t) ≡ string_past n (chars rest) → take_guarded s ≡ (Some record { n_hashes = n; terminated = closed; token_len = pending + t }, state 0 (drop t left) mode)
+  pub some_here : (closed : Bool) (t : ℕ) → Some (closed, t) ≡ string_past n (chars rest)
+      → take_guarded s ≡ (Some record { n_hashes = n; terminated = closed; token_len = pending + t }, state 0 (drop t left) mode)
   some_here closed t read = grind (arith, common_steps, guarded-is (Some (closed, t)) read, here)

@@ -4,18 +4,13 @@ use Rattle.std.specs.Str.{encode_utf8_all, IsCharBoundary, IsUtf8}
 use Rattle.std.proofs.lemmas.Bool.{eqb-true, or_cases}
 use Rattle.std.proofs.lemmas.Str.{chars-nil, encode_ascii, encodes-chars, IsCharBoundary-from_drop}
 use Rattle.std.proofs.lemmas.Grind.{common_steps}
-use Rattle.rustc_lexer.specs.{GuardedStrPrefix, Pound}
-use Rattle.rustc_lexer.specs.laws.Choice.{by_either}
+use Rattle.rustc_lexer.specs.{GuardedStrPrefix, Pound, laws.Choice.{by_either}}
 use Rattle.rustc_lexer.proofs.lemmas.tokens.Editions.{first_by, pound_by}
-use Rattle.rustc_lexer.specs.declared.lexemes.family.Family.TheVariants.{Hash}
-use Rattle.rustc_lexer.specs.means.Hash.{opens_guarded}
-use Rattle.rustc_lexer.specs.means.Lexeme.{family_of, past_first}
-use Rattle.rustc_lexer.specs.means.Quick.{BeginsWithNoHash, IsFirstBy, IsFirstToken}
-use Rattle.rustc_lexer.specs.means.Raw.{is_hash}
-use Rattle.rustc_lexer.specs.means.Scan.{next_is, past, scanned}
-use Rattle.rustc_lexer.proofs.lemmas.tokens.AsciiRuns.{next_byte, IsUtf8-ascii, past-ascii}
-use Rattle.rustc_lexer.proofs.lemmas.tokens.Families.{by_family}
-use Rattle.rustc_lexer.specs.laws.Past.{past-one, past-zero}
+use Rattle.rustc_lexer.specs.{declared.lexemes.family.Family.TheVariants.{Hash}, means.Hash.{opens_guarded}}
+use Rattle.rustc_lexer.specs.means.{Lexeme.{family_of, past_first}, Quick.{BeginsWithNoHash, IsFirstBy, IsFirstToken}}
+use Rattle.rustc_lexer.specs.means.{Raw.{is_hash}, Scan.{next_is, scanned}}
+use Rattle.rustc_lexer.proofs.lemmas.tokens.{AsciiRuns.{next_byte, IsUtf8-ascii, past-ascii}, Families.{by_family}}
+use Rattle.rustc_lexer.specs.laws.Past.{past-zero}
 use Rattle.rustc_lexer.proofs.lemmas.tokens.Quick.{first}
 
 opens_guarded-small : (c : ℕ) → opens_guarded c ≡ true → c < 128
@@ -44,7 +39,9 @@ pub no_hash-empty : (text : List ℕ) → length text ≡ 0 → BeginsWithNoHash
 no_hash-empty text w1 = grind (arith, common_steps, first, chars-nil)
 
 -- a text that begins with a hash
-pub prefix_first : (text : List ℕ) (b : ℕ) (rest : List ℕ) → IsUtf8 text → text ≡ b ∷ rest → b < 128 → Hash ≡ family_of b → next_is opens_guarded rest ≡ true → IsFirstToken text record { kind = GuardedStrPrefix; len = 2 }
+pub prefix_first : (text : List ℕ) (b : ℕ) (rest : List ℕ) → IsUtf8 text → text ≡ b ∷ rest → b < 128
+    → Hash ≡ family_of b → next_is opens_guarded rest ≡ true
+    → IsFirstToken text record { kind = GuardedStrPrefix; len = 2 }
 prefix_first text b [] is e small family opens = absurd (true≢false (sym opens))
 prefix_first text b (d ∷ ds) is e small family opens = first text b (d ∷ ds) GuardedStrPrefix 1 is e small (omega arith) decided
   where
@@ -53,14 +50,16 @@ prefix_first text b (d ∷ ds) is e small family opens = first text b (d ∷ ds)
         by_family Hash b (d ∷ ds) _ family
         (grind (arith, common_steps, next_byte opens_guarded opens_guarded-small (d ∷ ds) inner, past-ascii d ds inner (opens_guarded-small d opens)))
 
-pub pound_first : (text : List ℕ) (b : ℕ) (rest : List ℕ) → IsUtf8 text → text ≡ b ∷ rest → b < 128 → Hash ≡ family_of b → next_is opens_guarded rest ≡ false → IsFirstToken text record { kind = Pound; len = 1 }
+pub pound_first : (text : List ℕ) (b : ℕ) (rest : List ℕ) → IsUtf8 text → text ≡ b ∷ rest → b < 128 → Hash ≡ family_of b
+    → next_is opens_guarded rest ≡ false → IsFirstToken text record { kind = Pound; len = 1 }
 pound_first text b rest is e small family none = first text b rest Pound 0 is e small (omega arith) decided
   where
     decided : IsUtf8 rest → (Pound, rest) ≡ scanned (past_first b) rest
     decided inner = by_family Hash b rest _ family (grind (arith, common_steps, next_byte opens_guarded opens_guarded-small rest inner, past-zero rest inner))
 
 -- the same in each edition
-pub hash_alone : (guards : Bool) (text : List ℕ) (b : ℕ) (rest : List ℕ) → IsUtf8 text → text ≡ b ∷ rest → b < 128 → Hash ≡ family_of b → next_is opens_guarded rest ≡ false → IsFirstBy guards text record { kind = Pound; len = 1 }
+pub hash_alone : (guards : Bool) (text : List ℕ) (b : ℕ) (rest : List ℕ) → IsUtf8 text → text ≡ b ∷ rest → b < 128
+    → Hash ≡ family_of b → next_is opens_guarded rest ≡ false → IsFirstBy guards text record { kind = Pound; len = 1 }
 hash_alone guards text b rest is e small family none = first_by guards text _ (pound_first text b rest is e small family none) refl
 
 pub hash_older : (text : List ℕ) (b : ℕ) (rest : List ℕ) → IsUtf8 text → text ≡ b ∷ rest → b < 128 → Hash ≡ family_of b → IsFirstBy false text record { kind = Pound; len = 1 }

@@ -1,11 +1,9 @@
 -- The two runs of an identifier: what it may go on with, and past an emoji all else.
 use Rattle.std.proofs.Common.{◌≡◌, ℕ, ◌+◌, ◌&&◌, not, Bool, true, false, if◌then◌else◌, List, [], ◌∷◌, take, drop, refl, sym, ap, ◌∙◌, arith, zero-add, codes, ltb, lt-ltb}
-use Rattle.std.specs.List.{list_all}
-use Rattle.std.specs.Str.{chars, IsUtf8}
+use Rattle.std.specs.{List.{list_all}, Str.{chars, IsUtf8}}
 use Rattle.std.proofs.lemmas.Grind.{common_steps}
 use Rattle.rustc_lexer.specs.{Ident, UnknownPrefix}
-use Rattle.rustc_lexer.specs.Classes.{is_id_start, is_id_continue, ends_prefix, is_word_continue}
-use Rattle.rustc_lexer.specs.Tables.{is_emoji}
+use Rattle.rustc_lexer.specs.{Classes.{is_id_start, is_id_continue, ends_prefix, is_word_continue}, Tables.{is_emoji}}
 use Rattle.rustc_lexer.specs.means.Ident.{ident_or_unknown_prefix, invalid_ident, begins_hash_ident}
 use Rattle.rustc_lexer.specs.means.Scan.{begins, next_is, past, run_len, scanned}
 use Rattle.rustc_lexer.specs.laws.Past.{chars-past, past-past, past-two}

@@ -1,31 +1,21 @@
 -- What the grammar says of the text of a token by its kind, and of the suffix of a literal.
 use Rattle.std.proofs.Common.{◌≡◌, ◌↔◌, ◌≤◌, Bool, true, false, true≢false, List, ℕ, [], ◌∷◌, ◌++◌, codes, drop, take, length, refl, sym, ap, ap₂, arith, ◌∙◌, chars, Ok, Option, Result, Some, None, IsSome}
-use Rattle.std.proofs.lemmas.List.{append-nil}
-use Rattle.std.proofs.lemmas.Str.{chars-append, chars-encodes, encode_ascii, encodes-append}
+use Rattle.std.proofs.lemmas.{List.{append-nil}, Str.{chars-append, chars-encodes, encode_ascii, encodes-append}}
 use Rattle.std.proofs.lemmas.Grind.{common_steps}
 use Rattle.std.specs.Str.{encode_utf8_all}
 use Rattle.rustc_lexer.specs.{Edition, LiteralKind, RawStrError, Token, TokenKind, Ident, RawIdent, UnknownPrefix, Literal, Eof}
-use Rattle.rustc_lexer.specs.Answers.{raw_check}
-use Rattle.rustc_lexer.specs.Classes.{bytes, is_ident, Chars, IsText, Utf8}
+use Rattle.rustc_lexer.specs.{Answers.{raw_check}, Classes.{bytes, is_ident, Chars, IsText, Utf8}}
 use Rattle.rustc_lexer.specs.Language as the
 use Rattle.rustc_lexer.specs.Language.{IsTokenBefore}
 use Rattle.rustc_lexer.specs.LanguageCalls as call
 use Rattle.rustc_lexer.specs.LanguageCalls.{IsRawAnswer}
 use Rattle.rustc_lexer.specs.LanguageText as grammar
-use Rattle.rustc_lexer.specs.LanguageText.{AreTokens, IsTokenIn, Mode}
-use Rattle.rustc_lexer.specs.LiteralGrammar.{IsLiteralBefore, IsRaw}
-use Rattle.rustc_lexer.specs.NumberGrammar.{HasNumberForm}
-use Rattle.rustc_lexer.specs.State.{HasSuffixWithin}
-use Rattle.rustc_lexer.specs.Tables.{symbol_kind, symbols}
-use Rattle.rustc_lexer.specs.Tokens.{is_faulty, HasSuffix, HasText}
-use Rattle.rustc_lexer.specs.laws.Choice.{by_symbol}
-use Rattle.rustc_lexer.specs.laws.LanguageFront.{split}
-use Rattle.rustc_lexer.specs.laws.LanguageLiterals.{bytes-append}
-use Rattle.rustc_lexer.specs.laws.LanguageRaw.{raw-read}
-use Rattle.rustc_lexer.specs.laws.LanguageReach.{number-kind, raw-alike}
-use Rattle.rustc_lexer.specs.laws.Language.{lexeme-sound}
-use Rattle.rustc_lexer.specs.laws.TheAnswers.{the_raw}
-use Rattle.rustc_lexer.specs.means.Lexeme.{first_token}
+use Rattle.rustc_lexer.specs.{LanguageText.{AreTokens, IsTokenIn, Mode}, LiteralGrammar.{IsLiteralBefore, IsRaw}}
+use Rattle.rustc_lexer.specs.{NumberGrammar.{HasNumberForm}, State.{HasSuffixWithin}, Tables.{symbol_kind, symbols}}
+use Rattle.rustc_lexer.specs.{Tokens.{is_faulty, HasSuffix, HasText}, laws.{Choice.{by_symbol}, LanguageFront.{split}}}
+use Rattle.rustc_lexer.specs.laws.{LanguageLiterals.{bytes-append}, LanguageRaw.{raw-read}}
+use Rattle.rustc_lexer.specs.laws.{LanguageReach.{number-kind, raw-alike}, Language.{lexeme-sound}}
+use Rattle.rustc_lexer.specs.{laws.TheAnswers.{the_raw}, means.Lexeme.{first_token}}
 
 -- ---- literals
 
@@ -52,7 +42,8 @@ checked : {next rest w : Chars} {o : Option ℕ} → IsRaw next o w → (o ≡ N
 checked {rest = rest} {o = o} is end p text e = grind (arith, common_steps, (the_raw text p).only tt (Ok tt), raw-alike is rest (λ none over. end none), accepted, accepts)
 
 -- the text of a literal is as its kind says
-literal-text : {next w : Chars} {kind : LiteralKind} {may : Bool} → IsLiteralBefore next kind may w → (rest : Chars) → (may ≡ false → rest ≡ []) → (n : ℕ) (text : Utf8) → chars text ≡ w ++ rest → HasText (Literal kind n) text
+literal-text : {next w : Chars} {kind : LiteralKind} {may : Bool} → IsLiteralBefore next kind may w → (rest : Chars)
+    → (may ≡ false → rest ≡ []) → (n : ℕ) (text : Utf8) → chars text ≡ w ++ rest → HasText (Literal kind n) text
 literal-text w0 rest w2 n text w5 = grind (arith, common_steps, checked, number-quiet)
 
 -- ---- one token

@@ -1,8 +1,6 @@
 -- A mask that is computed lane by lane is held to a test at each of the 256 bytes.
 use Rattle.std.proofs.Common.{◌≡◌, ℕ, leb, cond, ◌%◌, ◌^◌, ◌<◌, ◌≤◌, Bool, true, List, [], ◌∷◌, map, length, refl, ap, ap₂, ◌∙◌, arith, w8, Fits}
-use Rattle.std.proofs.lemmas.Bool.{agree_below, agree_below_at}
-use Rattle.std.proofs.lemmas.Simd.{mask_l-mod}
-use Rattle.std.proofs.lemmas.List.{length-map}
+use Rattle.std.proofs.lemmas.{Bool.{agree_below, agree_below_at}, Simd.{mask_l-mod}, List.{length-map}}
 use lib.Lanes.{mask_l, top, Each1}
 
 each_byte : (f : ℕ → ℕ) (p : ℕ → Bool) → ((x : ℕ) → x < 256 → top 7 (f x) ≡ p x) → (v : List ℕ) → Each1 (Fits w8) v → map (top 7) (map f v) ≡ map p v

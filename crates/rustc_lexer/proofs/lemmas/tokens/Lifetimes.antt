@@ -1,20 +1,12 @@
 -- Characters and lifetimes, as the code reads them.
 use Rattle.std.proofs.Common.{◌≡◌, ℕ, zero, suc, ◌+◌, ◌-◌, ◌≤◌, ◌&&◌, ◌||◌, not, Bool, true, false, ltb, if◌then◌else◌, List, [], ◌∷◌, length, take, drop, codes, sym, ap, ◌∙◌, arith, length-append, length-take-le, lt-ltb, le-ltb}
-use Rattle.std.specs.Char.{is_ascii_digit, encode_utf8, len_utf8}
-use Rattle.std.specs.List.{list_all}
-use Rattle.std.specs.Str.{chars, IsUtf8}
-use Rattle.std.proofs.lemmas.Str.{length-encode, length-le-encodes}
-use Rattle.std.proofs.Math.Bool.{not-not}
-use Rattle.std.proofs.lemmas.Grind.{common_steps}
+use Rattle.std.specs.{Char.{is_ascii_digit, encode_utf8, len_utf8}, List.{list_all}, Str.{chars, IsUtf8}}
+use Rattle.std.proofs.{lemmas.Str.{length-encode, length-le-encodes}, Math.Bool.{not-not}, lemmas.Grind.{common_steps}}
 use Rattle.rustc_lexer.specs.{TokenKind, Char, Literal, Lifetime, UnknownPrefixLifetime}
-use Rattle.rustc_lexer.specs.Classes.{is_id_continue, is_word_continue}
-use Rattle.rustc_lexer.specs.Tables.{is_emoji}
+use Rattle.rustc_lexer.specs.{Classes.{is_id_continue, is_word_continue}, Tables.{is_emoji}}
 use Rattle.rustc_lexer.specs.means.Lifetime.{past_name, plain_lifetime, lifetime, is_character, is_character_at, lifetime_or_char}
-use Rattle.rustc_lexer.specs.laws.Lifetime.{name_of, unquoted_name}
-use Rattle.rustc_lexer.specs.means.Literal.{literal}
-use Rattle.rustc_lexer.specs.means.Quoted.{char_body}
-use Rattle.rustc_lexer.specs.laws.Reach.{run_len_le}
-use Rattle.rustc_lexer.specs.means.Scan.{begins, bytes_of, past, run_len, scanned}
+use Rattle.rustc_lexer.specs.{laws.Lifetime.{name_of, unquoted_name}, means.{Literal.{literal}, Quoted.{char_body}}}
+use Rattle.rustc_lexer.specs.{laws.Reach.{run_len_le}, means.Scan.{begins, bytes_of, past, run_len, scanned}}
 use Rattle.rustc_lexer.specs.laws.Past.{past-zero, past-past, chars-past, length-past, IsUtf8-past}
 use Rattle.rustc_lexer.proofs.lemmas.tokens.Identifiers.{has_emoji, word_runs, word_all, word_more}
 use Rattle.rustc_lexer.specs.laws.Scan.{scanned-and_then, scanned-no, scanned-yes}
@@ -61,12 +53,15 @@ module _ (c : ℕ) (rest part end : List ℕ) (is : IsUtf8 rest) (first : part �
   plain_lifetime-is : scanned (plain_lifetime c) rest ≡ scanned (past_name c (take whole (chars rest))) end
   plain_lifetime-is = scanned-and_then name_of (past_name c) rest end (take whole (chars rest)) is (ap (λ (xs : List ℕ). (take whole (chars rest), xs)) end-is)
 
-  pub plain_lifetime-quoted : (left : List ℕ) (w : ℕ) → begins (codes "'") (chars end) ≡ true → left ≡ past 1 end → w ≡ len_utf8 c → (Literal (Char true) (2 + (w + (length rest - length end))), left) ≡ scanned (plain_lifetime c) rest
+  pub plain_lifetime-quoted : (left : List ℕ) (w : ℕ) → begins (codes "'") (chars end) ≡ true → left ≡ past 1 end
+      → w ≡ len_utf8 c
+      → (Literal (Char true) (2 + (w + (length rest - length end))), left) ≡ scanned (plain_lifetime c) rest
   plain_lifetime-quoted left w t cut is_w =
       grind (arith, common_steps, end-is, length-past, length-append, length-encode, scanned-yes, plain_lifetime-is)
 
   pub plain_lifetime-unquoted_name : (kind : TokenKind) (emoji : Bool) → begins (codes "'") (chars end) ≡ false → emoji ≡ ltb (length end) (length part)
-      → kind ≡ (if begins (codes "#") (chars end) && not (is_ascii_digit c) then UnknownPrefixLifetime else Lifetime (is_ascii_digit c || is_emoji c || emoji)) → (kind, end) ≡ scanned (plain_lifetime c) rest
+      → kind ≡ (if begins (codes "#") (chars end) && not (is_ascii_digit c) then UnknownPrefixLifetime else Lifetime (is_ascii_digit c || is_emoji c || emoji))
+      → (kind, end) ≡ scanned (plain_lifetime c) rest
   plain_lifetime-unquoted_name kind emoji t same e =
       grind (arith, common_steps, end-is, IsUtf8-past whole rest is, e, same, emoji-is, past-unquoted_name c (take whole (chars rest)) end (rw end-is (IsUtf8-past whole rest is)) t, plain_lifetime-is)
 

@@ -1,20 +1,12 @@
 -- Three bytes that stand together, looked for at 16 places at a time.
-use Rattle.std.proofs.Common.{◌≡◌, ℕ, zero, suc, ◌+◌, ◌-◌, ◌<◌, ◌≤◌, ◌^◌, ◌==◌, ◌&&◌, Bool, false, true≢false, List, [], ◌∷◌, map, length, drop, get_or, refl, sym, ap, ◌∙◌, subst, arith, bit_and, inl, inr}
-use Rattle.std.proofs.Math.Bool.{and-false}
-use Rattle.std.proofs.lemmas.Bool.{cases_lt}
-use Rattle.std.proofs.lemmas.List.{length-map}
-use Rattle.std.proofs.lemmas.Simd.{length-chunk, mask_l-lt}
-use Rattle.std.proofs.lemmas.Nat.Bits.{bit_at_above}
-use Rattle.std.proofs.lemmas.Grind.{common_steps}
+use Rattle.std.proofs.Common.{◌≡◌, ℕ, zero, suc, ◌+◌, ◌-◌, ◌<◌, ◌≤◌, ◌^◌, ◌==◌, ◌&&◌, Bool, false, List, [], ◌∷◌, map, length, drop, get_or, sym, ap, ◌∙◌, subst, arith, bit_and, inl, inr}
+use Rattle.std.proofs.{Math.Bool.{and-false}, lemmas.{Bool.{cases_lt}, List.{length-map}}}
+use Rattle.std.proofs.lemmas.{Simd.{length-chunk, mask_l-lt}, Nat.Bits.{bit_at_above}, Grind.{common_steps}}
 use lib.Count.{count_trailing_zeros}
 use lib.Lanes.{chunk, mask_l}
 use Rattle.memchr.specs.Find.{is_byte}
-use Rattle.rustc_lexer.specs.means.Ends.{bit}
-use Rattle.rustc_lexer.specs.means.Frontmatter.{first}
-use Rattle.rustc_lexer.specs.means.Least.{more, one_more}
-use Rattle.rustc_lexer.specs.means.Scan.{begins}
-use Rattle.rustc_lexer.specs.laws.Choice.{by_either}
-use Rattle.rustc_lexer.specs.laws.Least.{more-zero, offset-on, one_more-more}
+use Rattle.rustc_lexer.specs.means.{Ends.{bit}, Frontmatter.{first}, Least.{more}, Scan.{begins}}
+use Rattle.rustc_lexer.specs.laws.{Least.{more-zero, offset-on, one_more-more}}
 use Rattle.rustc_lexer.proofs.lemmas.tokens.Bits.{bit-and, bit-zero, lowest_in, lowest_is}
 
 -- a mask of the first 16 bytes
@@ -68,5 +60,7 @@ apart_first one two three ds (c ∷ s) (suc n) le apart =
     grind (arith, common_steps, offset-on, three_none, one_more-more, apart_first one two three ds s n (omega arith) (λ k l. apart (suc k) (omega arith)))
 
 -- the same of a pattern by its second and third byte
-pub apart_pattern : (one two three : ℕ) (others s : List ℕ) (n : ℕ) → 1 < length others → get_or others 0 0 ≡ two → get_or others 1 0 ≡ three → n ≤ length s → AreApart one two three s n → first (one ∷ others) s ≡ more n (first (one ∷ others) (drop n s))
+pub apart_pattern : (one two three : ℕ) (others s : List ℕ) (n : ℕ) → 1 < length others → get_or others 0 0 ≡ two
+    → get_or others 1 0 ≡ three → n ≤ length s → AreApart one two three s n
+    → first (one ∷ others) s ≡ more n (first (one ∷ others) (drop n s))
 apart_pattern one two three others s n w6 w7 w8 w9 w10 = grind (arith, common_steps, apart_first)

@@ -1,12 +1,7 @@
 -- Where an iterator stands in its text, for its callers.
 use Rattle.std.proofs.Common.{◌≡◌, ℕ, ◌+◌, ◌-◌, ◌∙◌, List, length, take, drop, drop-drop, length-drop, ap, IsCharBoundary, arith}
-use Rattle.std.proofs.lemmas.Str.{IsCharBoundary-from_rest}
-use Rattle.std.proofs.lemmas.Grind.{common_steps}
-use Rattle.rustc_lexer.specs.{Token}
-use Rattle.rustc_lexer.specs.Document.{shebang_len}
-use Rattle.rustc_lexer.specs.laws.State.{StandsAt}
-use Rattle.rustc_lexer.specs.State.{State}
-use Rattle.rustc_lexer.specs.Tokens.{TakesToken}
+use Rattle.std.proofs.lemmas.{Str.{IsCharBoundary-from_rest}, Grind.{common_steps}}
+use Rattle.rustc_lexer.specs.{Token, Document.{shebang_len}, laws.State.{StandsAt}, State.{State}, Tokens.{TakesToken}}
 
 -- past a token it stands where the token ends
 pub stands_past : (text : List ℕ) (offset : ℕ) (s t : State) (token : Token) → StandsAt text offset s → TakesToken s token t → StandsAt text (offset + token.len) t

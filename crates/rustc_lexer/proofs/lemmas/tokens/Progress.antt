@@ -1,12 +1,7 @@
 -- Lexing from the left: the tokens so far are the first ones of the text.
 use Rattle.std.proofs.Common.{◌≡◌, ℕ, zero, suc, ◌+◌, ◌<◌, ◌≤◌, List, [], ◌∷◌, ◌++◌, length, take, drop, refl, sym, ap, ◌∙◌, arith, length-drop, length-append, IsUtf8, IsCharBoundary, take_all}
-use Rattle.std.proofs.lemmas.List.{drop_all}
-use Rattle.std.proofs.lemmas.Str.{IsCharBoundary-from_drop}
-use Rattle.std.proofs.lemmas.Grind.{common_steps}
-use Rattle.rustc_lexer.specs.{Token}
-use Rattle.rustc_lexer.specs.Classes.{IsText}
-use Rattle.rustc_lexer.specs.Locality.{IsGrammar}
-use Rattle.rustc_lexer.specs.Tokens.{bound, tokens_by}
+use Rattle.std.proofs.lemmas.{List.{drop_all}, Str.{IsCharBoundary-from_drop}, Grind.{common_steps}}
+use Rattle.rustc_lexer.specs.{Token, Classes.{IsText}, Locality.{IsGrammar}, Tokens.{bound, tokens_by}}
 use Rattle.rustc_lexer.specs.laws.Cuts.{IsCutAt, at_bound, tokens-cons, tokens-nil}
 
 -- the list's item number n, where x comes after the first n
@@ -36,7 +31,9 @@ pub record IsOffset (text : List ℕ) (offset : ℕ) : Type 0 where
 pub lexed_offset : {first : List ℕ → Token} (law : IsGrammar first) (text : List ℕ) (items : List Token) (offset : ℕ) → IsText text → IsLexedTo first text items offset → IsOffset text offset
 lexed_offset law text items offset is at = grind (arith, common_steps, at_bound, IsCharBoundary-from_drop)
 
-pub lexed_more : {first : List ℕ → Token} (law : IsGrammar first) (text : List ℕ) (items : List Token) (offset : ℕ) → IsText text → IsLexedTo first text items offset → offset < length text → IsLexedTo first text (items ++ first (drop offset text) ∷ []) (offset + (first (drop offset text)).len)
+pub lexed_more : {first : List ℕ → Token} (law : IsGrammar first) (text : List ℕ) (items : List Token) (offset : ℕ)
+    → IsText text → IsLexedTo first text items offset → offset < length text
+    → IsLexedTo first text (items ++ first (drop offset text) ∷ []) (offset + (first (drop offset text)).len)
 lexed_more {first} law text items offset is at more =
     let n : ℕ = length items in
     let x : Token = first (drop offset text) in
@@ -60,7 +57,8 @@ pub none_past : {first : List ℕ → Token} (law : IsGrammar first) (text : Lis
     → length (tokens_by first text) ≤ n
 none_past {first} law text n is all = none_more _ n ((at_bound law n text is).rest ∙ (ap (tokens_by first) (drop_all _ text all) ∙ tokens-nil first))
 
-pub lexed_whole : {first : List ℕ → Token} (law : IsGrammar first) (text : List ℕ) (items : List Token) (offset : ℕ) → IsText text → IsLexedTo first text items offset → length text ≤ offset → items ≡ tokens_by first text
+pub lexed_whole : {first : List ℕ → Token} (law : IsGrammar first) (text : List ℕ) (items : List Token) (offset : ℕ)
+    → IsText text → IsLexedTo first text items offset → length text ≤ offset → items ≡ tokens_by first text
 lexed_whole {first} law text items offset is at all = at.items_are ∙ take_all (length items) (tokens_by first text)
     (none_past law text (length items) is (omega (arith, at.offset_is)))
 

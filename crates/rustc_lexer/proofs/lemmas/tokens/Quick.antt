@@ -1,29 +1,22 @@
 -- Tokens that are decided by their bytes.
 use Rattle.std.proofs.Common.{◌≡◌, ℕ, ◌+◌, ◌-◌, ◌<◌, ◌≤◌, ◌==◌, not, Bool, true, false, if◌then◌else◌, List, ◌∷◌, length, drop, codes, refl, sym, ap, ◌∙◌, arith, subst, length-drop}
-use Rattle.std.specs.List.{prefix_len}
-use Rattle.std.specs.Str.{chars, IsUtf8}
+use Rattle.std.specs.{List.{prefix_len}, Str.{chars, IsUtf8}}
 use Rattle.std.proofs.lemmas.Bool.{or_parts, or_cases, not-true, not-false, eqb-true, ltb-true, lt-leb}
-use Rattle.std.proofs.lemmas.Str.{chars-nil}
-use Rattle.std.proofs.lemmas.List.Sums.{prefix_len-le-length}
-use Rattle.std.proofs.lemmas.Grind.{common_steps}
+use Rattle.std.proofs.lemmas.{Str.{chars-nil}, List.Sums.{prefix_len-le-length}, Grind.{common_steps}}
 use Rattle.unicode_ident.proofs.IdentLemmas.{is_xid_continue-ascii}
 use Rattle.rustc_lexer.specs.{TokenKind, Ident, UnknownPrefix, Whitespace}
 use Rattle.rustc_lexer.specs.means.ByteRuns.{is_continue_byte, is_space_byte, is_wide}
-use Rattle.rustc_lexer.specs.Classes.{is_id_continue, ends_prefix}
-use Rattle.rustc_lexer.specs.Tables.{is_emoji}
-use Rattle.rustc_lexer.specs.means.Ident.{ident_or_unknown_prefix, begins_hash_ident}
-use Rattle.rustc_lexer.specs.laws.Choice.{by_symbol}
+use Rattle.rustc_lexer.specs.{Classes.{is_id_continue, ends_prefix}, Tables.{is_emoji}}
+use Rattle.rustc_lexer.specs.{means.Ident.{ident_or_unknown_prefix, begins_hash_ident}, laws.Choice.{by_symbol}}
 use Rattle.rustc_lexer.specs.laws.LanguageWords.{by_letter}
 use Rattle.rustc_lexer.proofs.lemmas.tokens.Editions.{first_by, is_newer}
 use Rattle.rustc_lexer.specs.means.Lexeme.{family_of, word, symbols, symbol_kind, past_first, opens_raw, begins_raw}
 use Rattle.rustc_lexer.specs.means.Quick.{is_space_lead, turns_word, IsFirstBy, IsFirstToken}
 use Rattle.rustc_lexer.specs.means.Scan.{begins, next_is, past, run_len, scanned}
 use Rattle.rustc_lexer.proofs.lemmas.tokens.AsciiRuns.{chars-ascii, IsUtf8-ascii, past-ascii, skips, stops_here}
-use Rattle.rustc_lexer.proofs.lemmas.tokens.Identifiers.{ident_or_unknown_prefix-valid}
-use Rattle.rustc_lexer.proofs.lemmas.tokens.Lexemes.{made}
+use Rattle.rustc_lexer.proofs.lemmas.tokens.{Identifiers.{ident_or_unknown_prefix-valid}, Lexemes.{made}}
 use Rattle.rustc_lexer.proofs.lemmas.tokens.ClassParts.{continue_part}
-use Rattle.rustc_lexer.specs.laws.Past.{chars-past}
-use Rattle.rustc_lexer.specs.laws.Scan.{scanned-gives, scanned-same}
+use Rattle.rustc_lexer.specs.laws.{Past.{chars-past}, Scan.{scanned-gives, scanned-same}}
 use Rattle.rustc_lexer.proofs.lemmas.tokens.WhiteSpace.{space_stops_here}
 use Rattle.rustc_lexer.specs.declared.lexemes.family.Family.TheVariants.{Space, Symbol, Word}
 use Rattle.rustc_lexer.proofs.lemmas.tokens.Families.{by_family}
@@ -62,7 +55,8 @@ word-plain b s h = grind (arith, common_steps, by_letter, is_plain s h)
 
 -- ---- the next character, by the next byte
 
-pub turned-emoji : (left : List ℕ) → IsUtf8 left → next_is turns_word left ≡ false → (next_is is_emoji (chars left) ≡ false) × ((next_is ends_prefix (chars left) ≡ false) × (next_is is_wide left ≡ false))
+pub turned-emoji : (left : List ℕ) → IsUtf8 left → next_is turns_word left ≡ false
+    → (next_is is_emoji (chars left) ≡ false) × ((next_is ends_prefix (chars left) ≡ false) × (next_is is_wide left ≡ false))
 turned-emoji w0 is e = grind (arith, common_steps, chars-nil, or_parts, ltb-true, not-false, chars-ascii, emoji-ascii)
 
 -- ---- the tokens
@@ -77,14 +71,16 @@ module _ (b : ℕ) (rest : List ℕ) (kind : TokenKind) (n : ℕ) (is : IsUtf8 (
       (made text rest (drop n rest) b kind is (chars-ascii b rest is small) (past-ascii b rest is small) g)
 
 -- the same of a text
-pub first : (text : List ℕ) (b : ℕ) (rest : List ℕ) (kind : TokenKind) (n : ℕ) → IsUtf8 text → text ≡ b ∷ rest → b < 128 → n ≤ length rest → (IsUtf8 rest → (kind, drop n rest) ≡ scanned (past_first b) rest)
+pub first : (text : List ℕ) (b : ℕ) (rest : List ℕ) (kind : TokenKind) (n : ℕ) → IsUtf8 text → text ≡ b ∷ rest → b < 128
+    → n ≤ length rest → (IsUtf8 rest → (kind, drop n rest) ≡ scanned (past_first b) rest)
     → IsFirstToken text record { kind = kind; len = 1 + n }
 first text b rest kind n is e small inside g =
     let whole : IsUtf8 (b ∷ rest) = subst (λ xs. IsUtf8 xs) e is in
     subst (λ xs. IsFirstToken xs record { kind = kind; len = 1 + n }) (sym e) (taken b rest kind n whole small inside (g (IsUtf8-ascii b rest whole small)))
 
 -- a word and what no word goes on with
-pub word_first : (text : List ℕ) (b : ℕ) (rest : List ℕ) (end : ℕ) → IsUtf8 text → text ≡ b ∷ rest → b < 128 → Word ≡ family_of b → end ≡ prefix_len is_continue_byte rest → not (next_is turns_word (drop end rest)) ≡ true
+pub word_first : (text : List ℕ) (b : ℕ) (rest : List ℕ) (end : ℕ) → IsUtf8 text → text ≡ b ∷ rest → b < 128
+    → Word ≡ family_of b → end ≡ prefix_len is_continue_byte rest → not (next_is turns_word (drop end rest)) ≡ true
     → IsFirstToken text record { kind = Ident; len = 1 + end }
 word_first text b rest end is e small family counted ends = first text b rest Ident end is e small (omega (arith, prefix_len-le-length is_continue_byte rest)) decided
   where
@@ -98,14 +94,16 @@ word_first text b rest end is e small family counted ends = first text b rest Id
         sym (ap (next_is ends_prefix) (ap chars offset ∙ chars-past (run_len is_id_continue (chars rest)) rest inner)) ∙ next.1.0 in
         by_family Word b rest _ family (ap (λ (t : Bool). let k : TokenKind = if t then UnknownPrefix else Ident in (k, left)) (sym next.1.0) ∙ (ident_or_unknown_prefix-valid rest left inner offset next.0 ∙ sym (scanned-same (word b) ident_or_unknown_prefix rest (word-plain b (chars rest) no_end))))
 
-pub space_first : (text : List ℕ) (b : ℕ) (rest : List ℕ) (end : ℕ) → IsUtf8 text → text ≡ b ∷ rest → b < 128 → Space ≡ family_of b → end ≡ prefix_len is_space_byte rest → not (next_is is_space_lead (drop end rest)) ≡ true
+pub space_first : (text : List ℕ) (b : ℕ) (rest : List ℕ) (end : ℕ) → IsUtf8 text → text ≡ b ∷ rest → b < 128
+    → Space ≡ family_of b → end ≡ prefix_len is_space_byte rest → not (next_is is_space_lead (drop end rest)) ≡ true
     → IsFirstToken text record { kind = Whitespace; len = 1 + end }
 space_first text b rest end is e small family counted ends = first text b rest Whitespace end is e small (omega (arith, prefix_len-le-length is_space_byte rest)) decided
   where
     decided : IsUtf8 rest → (Whitespace, drop end rest) ≡ scanned (past_first b) rest
     decided inner = by_family Space b rest _ family (ap (λ xs. (Whitespace, xs)) (space_stops_here rest rest end inner refl counted (drop end rest) refl (not-true _ ends)))
 
-pub symbol_first : (text : List ℕ) (b : ℕ) (rest : List ℕ) (kind : TokenKind) → IsUtf8 text → text ≡ b ∷ rest → b < 128 → Symbol ≡ family_of b → kind ≡ symbol_kind b → IsFirstToken text record { kind = kind; len = 1 }
+pub symbol_first : (text : List ℕ) (b : ℕ) (rest : List ℕ) (kind : TokenKind) → IsUtf8 text → text ≡ b ∷ rest → b < 128
+    → Symbol ≡ family_of b → kind ≡ symbol_kind b → IsFirstToken text record { kind = kind; len = 1 }
 symbol_first text b rest kind is e small family same = first text b rest kind 0 is e small (omega arith) decided
   where
     decided : IsUtf8 rest → (kind, rest) ≡ scanned (past_first b) rest
@@ -115,11 +113,15 @@ symbol_first text b rest kind is e small family same = first text b rest kind 0 
 symbol-kept : (b : ℕ) → is_newer (symbol_kind b) ≡ false
 symbol-kept b = not-true _ (by_symbol (λ (kind : TokenKind). not (is_newer kind)) symbols b refl refl)
 
-pub symbol_by : (guards : Bool) (text : List ℕ) (b : ℕ) (rest : List ℕ) (kind : TokenKind) → IsUtf8 text → text ≡ b ∷ rest → b < 128 → Symbol ≡ family_of b → kind ≡ symbol_kind b → IsFirstBy guards text record { kind = kind; len = 1 }
+pub symbol_by : (guards : Bool) (text : List ℕ) (b : ℕ) (rest : List ℕ) (kind : TokenKind) → IsUtf8 text
+    → text ≡ b ∷ rest → b < 128 → Symbol ≡ family_of b → kind ≡ symbol_kind b
+    → IsFirstBy guards text record { kind = kind; len = 1 }
 symbol_by guards text b rest kind is e small family same = first_by guards text _ (symbol_first text b rest kind is e small family same) (ap is_newer same ∙ symbol-kept b)
 
 -- an identifier, by the byte after it
-pub ident_or_unknown_prefix_ends : (tail rest bytes : List ℕ) → IsUtf8 tail → IsUtf8 rest → rest ≡ past (run_len is_id_continue (chars tail)) tail → bytes ≡ rest → not (next_is turns_word bytes) ≡ true → (Ident, rest) ≡ scanned ident_or_unknown_prefix tail
+pub ident_or_unknown_prefix_ends : (tail rest bytes : List ℕ) → IsUtf8 tail → IsUtf8 rest
+    → rest ≡ past (run_len is_id_continue (chars tail)) tail → bytes ≡ rest → not (next_is turns_word bytes) ≡ true
+    → (Ident, rest) ≡ scanned ident_or_unknown_prefix tail
 ident_or_unknown_prefix_ends tail rest bytes is whole offset read ends =
     let next = turned-emoji rest whole (sym (ap (next_is turns_word) read) ∙ not-true _ ends) in
     ap (λ (t : Bool). let k : TokenKind = if t then UnknownPrefix else Ident in (k, rest)) (sym next.1.0) ∙ ident_or_unknown_prefix-valid tail rest is offset next.0

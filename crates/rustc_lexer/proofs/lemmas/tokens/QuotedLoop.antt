@@ -2,10 +2,8 @@
 use Rattle.std.proofs.Common.{◌≡◌, ◌≢◌, ℕ, suc, ◌+◌, not, Bool, true, false, List, [], ◌∷◌, length, drop, refl, sym, ap, ◌∙◌, arith, ◌<◌, Option, MatchOption, Bor}
 use Rattle.std.specs.Str.{chars, IsUtf8}
 use Rattle.memchr.specs.Find.{is_byte2}
-use Rattle.std.proofs.lemmas.Bool.{eqb-true, ne_eqb, not-false, or_cases, or_parts}
-use Rattle.std.proofs.lemmas.Grind.{common_steps}
-use Rattle.rustc_lexer.specs.means.Scan.{begins, past, run_len, scanned}
-use Rattle.rustc_lexer.specs.means.Quoted.{double_quoted_string, is_lone}
+use Rattle.std.proofs.lemmas.{Bool.{eqb-true, ne_eqb, not-false, or_cases, or_parts}, Grind.{common_steps}}
+use Rattle.rustc_lexer.specs.means.{Scan.{begins, past, run_len, scanned}, Quoted.{double_quoted_string, is_lone}}
 use Rattle.rustc_lexer.specs.laws.Scan.{run_len-stop}
 use Rattle.rustc_lexer.specs.laws.Past.{past-zero, past-past, past-two, chars-past, IsUtf8-past, past_le}
 
@@ -38,7 +36,8 @@ module _ (text tail : List ℕ) (c : ℕ) (is : IsUtf8 text) (reads : chars text
   lone-is : (b : Bool) → c ≢ 92 → begins (39 ∷ []) (chars tail) ≡ b → is_lone (chars text) ≡ b
   lone-is b ne q = rw (reads, ne_eqb c 92 ne) q
 
-  pub lone-found : c ≢ 92 → (o : Option (Bor (List ℕ))) → MatchOption o (begins (39 ∷ []) (chars tail) ≡ false) (λ t. (begins (39 ∷ []) (chars tail) ≡ true) × (t.now ≡ past 1 tail) × (length t.now < length tail))
+  pub lone-found : c ≢ 92 → (o : Option (Bor (List ℕ)))
+      → MatchOption o (begins (39 ∷ []) (chars tail) ≡ false) (λ t. (begins (39 ∷ []) (chars tail) ≡ true) × (t.now ≡ past 1 tail) × (length t.now < length tail))
       → MatchOption o (is_lone (chars text) ≡ false) (λ t. (is_lone (chars text) ≡ true) × (t.now ≡ past 2 text))
   lone-found w0 o w2 = grind (arith, common_steps, lone-is, past-two)
 

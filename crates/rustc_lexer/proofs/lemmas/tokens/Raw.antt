@@ -2,11 +2,8 @@
 use Rattle.std.proofs.Common.{◌≡◌, ℕ, suc, ◌+◌, ◌-◌, ◌≤◌, ◌<◌, ◌==◌, ◌&&◌, max, nat_le, Bool, true, false, if◌then◌else◌, List, [], ◌∷◌, length, drop, refl, sym, ap, ◌∙◌, subst, arith, Option, Some, None, Result, Err, MatchOption}
 use Rattle.std.specs.Str.{chars, encode_utf8_all, IsUtf8, IsCharBoundary}
 use Rattle.std.proofs.lemmas.Bool.{eqb-true, eq-eqb, ne_eqb, le-leb, lt-leb, and_parts, not-true}
-use Rattle.std.proofs.lemmas.Str.{IsCharBoundary-from_drop}
-use Rattle.std.proofs.Math.Seq.{drop-length}
-use Rattle.std.proofs.lemmas.Grind.{common_steps}
-use Rattle.rustc_lexer.specs.{RawStrError, NoTerminator}
-use Rattle.rustc_lexer.specs.means.Least.{one_more, more}
+use Rattle.std.proofs.{lemmas.Str.{IsCharBoundary-from_drop}, Math.Seq.{drop-length}, lemmas.Grind.{common_steps}}
+use Rattle.rustc_lexer.specs.{RawStrError, NoTerminator, means.Least.{one_more, more}}
 use Rattle.rustc_lexer.specs.laws.Least.{offset-here, offset-on, more-more, more-zero}
 use Rattle.rustc_lexer.specs.means.Raw.{least_offset, is_hash, is_quote, is_no_quote, hash_run, closes, close, quote_hashes, most_hashes, quote_with, quote_if, quote_end, hash_count, raw_closed, raw_text}
 use Rattle.rustc_lexer.specs.laws.LanguageRuns.{run-stops}
@@ -21,7 +18,8 @@ more-quote k h o = grind (arith, common_steps)
 
 -- the characters of a class without quotes are passed over
 module _ (p : ℕ → Bool) (none : (c : ℕ) → p c ≡ true → is_quote c ≡ false) where
-  skip-offset : (test : List ℕ → Bool) → ((c : ℕ) (s : List ℕ) → is_quote c ≡ false → test (c ∷ s) ≡ false) → (s : List ℕ) → least_offset test s ≡ more (run_len p s) (least_offset test (drop (run_len p s) s))
+  skip-offset : (test : List ℕ → Bool) → ((c : ℕ) (s : List ℕ) → is_quote c ≡ false → test (c ∷ s) ≡ false)
+      → (s : List ℕ) → least_offset test s ≡ more (run_len p s) (least_offset test (drop (run_len p s) s))
   skip-offset test fails = skip_run p test (λ c s e. fails c s (none c e))
 
   skip-most : (s : List ℕ) → most_hashes s ≡ most_hashes (drop (run_len p s) s)
@@ -122,7 +120,8 @@ module _ (n before : ℕ) (text left tail next : List ℕ) (found : ℕ) (end : 
   next_at : next ≡ past (at.taken + (suc (run_len is_no_quote (chars left)) + hash_run (chars tail))) text
   next_at = grind (arith, common_steps, tail_at, past-past)
 
-  offset_on : (test : List ℕ → Bool) → ((c : ℕ) (s : List ℕ) → is_quote c ≡ false → test (c ∷ s) ≡ false) → test (34 ∷ chars tail) ≡ false → least_offset test (chars text) ≡ more at.taken (least_offset test (chars left))
+  offset_on : (test : List ℕ → Bool) → ((c : ℕ) (s : List ℕ) → is_quote c ≡ false → test (c ∷ s) ≡ false)
+      → test (34 ∷ chars tail) ≡ false → least_offset test (chars text) ≡ more at.taken (least_offset test (chars left))
       → least_offset test (chars text) ≡ more (at.taken + (suc (run_len is_no_quote (chars left)) + hash_run (chars tail))) (least_offset test (chars next))
   offset_on test fails e f =
       grind (arith, common_steps, f, offset-past (chars left) (chars tail) quote test fails e, more-more at.taken (suc (run_len is_no_quote (chars left)) + hash_run (chars tail)) (least_offset test (drop (hash_run (chars tail)) (chars tail))), next_reads)
@@ -132,7 +131,8 @@ module _ (n before : ℕ) (text left tail next : List ℕ) (found : ℕ) (end : 
 
   -- the quote has too few hashes to close
   module _ (few : length tail - length next < n) (shorter : length next ≤ length text) where
-    on : (to : ℕ) (o : Option ℕ) → found ≤ to → hash_run (chars tail) ≤ to → max found (hash_run (chars tail)) ≡ to → o ≡ quote_end before (chars text) (quote_if to (chars text)) → Searching n before text next to o
+    on : (to : ℕ) (o : Option ℕ) → found ≤ to → hash_run (chars tail) ≤ to → max found (hash_run (chars tail)) ≡ to
+        → o ≡ quote_end before (chars text) (quote_if to (chars text)) → Searching n before text next to o
     on to o above here most e = grind (arith, common_steps, count, next_at, offset_on, closes-fails, lt-leb, most_on, counts-fails, ne_eqb)
 
     pub search_on : length tail - length next ≤ found → Searching n before text next found end

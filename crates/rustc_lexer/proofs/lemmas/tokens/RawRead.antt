@@ -1,12 +1,9 @@
 -- What a raw string is read as, from what its parts are.
 use Rattle.std.proofs.Common.{◌≡◌, ℕ, suc, ◌+◌, ◌-◌, ◌≤◌, ◌==◌, ◌↔◌, IsTrue, slice_index, true, List, [], ◌∷◌, length, take, drop, sym, ap, ◌∙◌, arith, length-take, length-drop, Result}
 use Rattle.std.specs.Str.{chars, encode_utf8_all, IsUtf8}
-use Rattle.std.proofs.Math.Seq.{drop-nil}
-use Rattle.std.proofs.Math.Bool.{and-true}
-use Rattle.std.proofs.lemmas.Str.{encodes-chars, length-le-encodes}
+use Rattle.std.proofs.{Math.{Seq.{drop-nil}, Bool.{and-true}}, lemmas.Str.{encodes-chars, length-le-encodes}}
 use Rattle.std.proofs.lemmas.Grind.{common_steps}
-use Rattle.rustc_lexer.specs.{RawStrError}
-use Rattle.rustc_lexer.specs.means.Raw.{hash_run, raw_text, raw_starter, raw_read, StartsRaw}
+use Rattle.rustc_lexer.specs.{RawStrError, means.Raw.{hash_run, raw_text, raw_starter, raw_read, StartsRaw}}
 use Rattle.rustc_lexer.specs.means.Scan.{begins, past, scanned}
 use Rattle.rustc_lexer.specs.laws.Past.{past-zero, past-past, chars-past, IsUtf8-cut, IsUtf8-past, length-past}
 use Rattle.rustc_lexer.proofs.lemmas.tokens.Raw.{hash_len, quote_front}

@@ -1,28 +1,18 @@
 -- The ends of runs, what is known past them, and the tokens that are classified by them.
 use Rattle.std.proofs.Common.{◌≡◌, ℕ, zero, suc, ◌+◌, ◌-◌, ◌/◌, nat_lt, ◌^◌, bit_and, ◌<◌, ◌≤◌, Bool, true, false, true≢false, not, ◌&&◌, ◌||◌, List, ◌∷◌, length, drop, get_or, refl, sym, ap, ap₂, subst, ◌∙◌, arith, length-drop, inl, inr, Option, Some, None, is_some}
-use Rattle.std.specs.List.{prefix_len}
-use Rattle.std.specs.Str.{IsCharBoundary, IsUtf8}
-use Rattle.std.proofs.lemmas.Str.{IsCharBoundary-from_rest, IsUtf8-drop}
-use Rattle.std.proofs.Math.Seq.{drop-cons}
+use Rattle.std.specs.{List.{prefix_len}, Str.{IsCharBoundary, IsUtf8}}
+use Rattle.std.proofs.{lemmas.Str.{IsCharBoundary-from_rest, IsUtf8-drop}, Math.Seq.{drop-cons}}
 use Rattle.std.proofs.lemmas.Bool.{agree_below_at, and_parts, or_parts, cases_lt, not-true, not-false, le-ltb, lt-ltb, ltb-true}
-use Rattle.std.proofs.lemmas.Nat.{and_le_r, shr_le}
-use Rattle.std.proofs.lemmas.List.{get_or-drop}
-use Rattle.std.proofs.lemmas.Option.{none-some, same_Some}
-use Rattle.std.proofs.lemmas.List.FromFn.{get_or-map-range_with_len}
-use Rattle.std.proofs.lemmas.List.Sums.{prefix_len_is}
-use Rattle.std.proofs.Math.Bool.{and-true, not-not}
-use Rattle.std.proofs.lemmas.Grind.{common_steps}
+use Rattle.std.proofs.lemmas.{Nat.{and_le_r, shr_le}, List.{get_or-drop}, Option.{none-some, same_Some}}
+use Rattle.std.proofs.lemmas.List.{FromFn.{get_or-map-range_with_len}, Sums.{prefix_len_is}}
+use Rattle.std.proofs.{Math.Bool.{and-true, not-not}, lemmas.Grind.{common_steps}}
 use Rattle.unicode_ident.proofs.Computing.{unicode_ident}
-use Rattle.rustc_lexer.specs.{Edition, TokenKind, Ident, Whitespace}
-use Rattle.rustc_lexer.specs.declared.lexemes.family.TheConstants.{CLASSIFIED}
-use Rattle.rustc_lexer.specs.declared.lexemes.family.Family.{Family}
-use Rattle.rustc_lexer.specs.declared.lexemes.family.Family.TheVariants.{Space, Word, Symbol}
+use Rattle.rustc_lexer.specs.{Edition, TokenKind, Ident, Whitespace, declared.lexemes.family.TheConstants.{CLASSIFIED}}
+use Rattle.rustc_lexer.specs.declared.lexemes.family.Family.{Family, TheVariants.{Space, Word, Symbol}}
 use Rattle.rustc_lexer.specs.means.Edition.{changed, first_token_in}
 use Rattle.rustc_lexer.specs.means.Ends.{bit, goes_on, is_end, AreEndsPast, IsEnds, IsLowest, classified, classified_in, StaysWithin}
-use Rattle.rustc_lexer.specs.means.ByteRuns.{is_continue_byte, is_space_byte}
-use Rattle.rustc_lexer.specs.Tables.{is_emoji}
-use Rattle.rustc_lexer.specs.means.Lexeme.{family_of, symbol_kind}
-use Rattle.rustc_lexer.specs.means.Quick.{is_space_lead, turns_word, IsFirstToken}
+use Rattle.rustc_lexer.specs.{means.ByteRuns.{is_continue_byte, is_space_byte}, Tables.{is_emoji}}
+use Rattle.rustc_lexer.specs.means.{Lexeme.{family_of, symbol_kind}, Quick.{is_space_lead, turns_word, IsFirstToken}}
 use Rattle.rustc_lexer.specs.means.Scan.{next_is}
 use Rattle.rustc_lexer.proofs.lemmas.tokens.Editions.{is_newer, older}
 use Rattle.rustc_lexer.proofs.lemmas.tokens.Bits.{bit-and, bit-below, bit-flip, bit-zero, flip, within}
@@ -52,7 +42,8 @@ module _ (text : List ℕ) (n a b edges : ℕ) (few : n ≤ 64) (inside : n ≤ 
 
 -- ---- what is known past an end
 
-pub past_end : (text : List ℕ) (m from low less : ℕ) → AreEndsPast text from m → IsLowest m low → ((k : ℕ) → k ≤ low → bit less k ≡ false) → ((k : ℕ) → low < k → bit less k ≡ bit m k) → AreEndsPast text low less
+pub past_end : (text : List ℕ) (m from low less : ℕ) → AreEndsPast text from m → IsLowest m low
+    → ((k : ℕ) → k ≤ low → bit less k ≡ false) → ((k : ℕ) → low < k → bit less k ≡ bit m k) → AreEndsPast text low less
 past_end text m from low less are lowest gone others j set = grind (arith, common_steps, cases_lt)
 
 -- ---- where a run ends
@@ -194,7 +185,9 @@ unfolding is_emoji unicode_ident
 classified_older b kind some = sym (ap (said is_newer) some) ∙ agree_below_at (λ x. said is_newer (classified x)) (λ _. false) 128 b refl
     (classified_small b (ap is_some some))
 
-pub classified_same : (b : ℕ) (kind : TokenKind) → classified b ≡ Some kind → (edition : Edition) (cs : List ℕ) (len : ℕ) → changed edition cs record { kind = kind; len = len } ≡ record { kind = kind; len = len }
+pub classified_same : (b : ℕ) (kind : TokenKind) → classified b ≡ Some kind
+    → (edition : Edition) (cs : List ℕ) (len : ℕ)
+    → changed edition cs record { kind = kind; len = len } ≡ record { kind = kind; len = len }
 classified_same b kind some edition cs len = older edition cs record { kind = kind; len = len } (classified_older b kind some)
 
 -- ---- the next token

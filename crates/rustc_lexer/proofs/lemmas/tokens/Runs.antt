@@ -1,12 +1,11 @@
 -- Runs of a class of characters, read from the front.
-use Rattle.std.proofs.lemmas.Grind.{common_steps}
-use Rattle.std.proofs.Common.{◌≡◌, ℕ, Bool, true, false, List, [], ◌∷◌, refl, ◌∙◌, arith}
+use Rattle.std.proofs.{lemmas.Grind.{common_steps}, Common.{◌≡◌, ℕ, Bool, true, false, List, [], ◌∷◌, refl, ◌∙◌, arith}}
 use Rattle.std.specs.Str.{chars, IsUtf8}
-use Rattle.rustc_lexer.specs.means.Scan.{next_is, past, run_len}
-use Rattle.rustc_lexer.specs.laws.Past.{past-zero, past-past}
+use Rattle.rustc_lexer.specs.{means.Scan.{next_is, past, run_len}, laws.Past.{past-zero, past-past}}
 
 -- past a character of the class the run goes on
-pub run_on : (p : ℕ → Bool) (text tail : List ℕ) (c : ℕ) → IsUtf8 text → chars text ≡ c ∷ chars tail → tail ≡ past 1 text → p c ≡ true → past (run_len p (chars tail)) tail ≡ past (run_len p (chars text)) text
+pub run_on : (p : ℕ → Bool) (text tail : List ℕ) (c : ℕ) → IsUtf8 text → chars text ≡ c ∷ chars tail
+    → tail ≡ past 1 text → p c ≡ true → past (run_len p (chars tail)) tail ≡ past (run_len p (chars text)) text
 run_on p text tail c is reads cut e = grind (arith, common_steps, past-past)
 
 -- before another one, or at the end, nothing is left of it

@@ -1,19 +1,12 @@
 -- A byte and what follows it, looked for at the places of that byte.
 use Rattle.std.proofs.lemmas.Grind.{common_steps}
 use Rattle.std.proofs.Common.{◌≡◌, ℕ, zero, suc, ◌+◌, ◌-◌, ◌<◌, ◌≤◌, ◌==◌, Bool, true, false, List, [], ◌∷◌, ◌++◌, length, drop, get_or, refl, sym, ap, ◌∙◌, arith, Option, Some, None, length-drop, drop-drop}
-use Rattle.std.proofs.Math.Seq.{drop-cons, drop-length}
-use Rattle.std.proofs.lemmas.Bool.{eq-eqb, eqb-true, false_from_ne_true}
-use Rattle.std.proofs.lemmas.Bool.Decides.{Decides-eqb}
-use Rattle.std.proofs.lemmas.List.{get_or-drop}
-use Rattle.std.proofs.lemmas.Slice.Eq.{starts_is}
+use Rattle.std.proofs.{Math.Seq.{drop-cons, drop-length}, lemmas.Bool.{eq-eqb, eqb-true, false_from_ne_true}}
+use Rattle.std.proofs.lemmas.{Bool.Decides.{Decides-eqb}, List.{get_or-drop}, Slice.Eq.{starts_is}}
 use Rattle.std.specs.List.{starts_with}
 use Rattle.memchr.specs.Find.{IsFirstByte, is_byte}
-use Rattle.rustc_lexer.specs.means.Frontmatter.{first}
-use Rattle.rustc_lexer.specs.means.Least.{more, one_more}
-use Rattle.rustc_lexer.specs.means.Scan.{begins}
-use Rattle.rustc_lexer.specs.laws.Choice.{by_either}
-use Rattle.rustc_lexer.specs.laws.Fences.{begins-whole}
-use Rattle.rustc_lexer.specs.laws.LanguageRuns.{either-way}
+use Rattle.rustc_lexer.specs.means.{Frontmatter.{first}, Least.{more, one_more}, Scan.{begins}}
+use Rattle.rustc_lexer.specs.laws.{Choice.{by_either}, Fences.{begins-whole}, LanguageRuns.{either-way}}
 use Rattle.rustc_lexer.specs.laws.Least.{more-more, more-zero, offset-here, offset-on, one_more-more}
 
 begins-front : (pattern rest : List ℕ) → begins pattern (pattern ++ rest) ≡ true

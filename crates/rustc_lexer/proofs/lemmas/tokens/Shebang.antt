@@ -1,17 +1,11 @@
 -- Shebang lines: the front of a text, and its first line.
 use Rattle.std.proofs.Common.{◌≡◌, ◌≢◌, ℕ, zero, suc, ◌+◌, ◌-◌, ◌<◌, ◌≤◌, Bool, true, false, if◌then◌else◌, List, [], ◌∷◌, length, take, drop, get_or, codes, length-append, length-take-le, take-append-drop, refl, sym, ap, ◌∙◌, arith, Option, Some, None}
-use Rattle.std.proofs.Math.Seq.{drop-cons, drop-length, get_or-append_seam}
-use Rattle.std.proofs.lemmas.Bool.{ne_eqb}
-use Rattle.std.proofs.lemmas.List.{get_or-take}
-use Rattle.std.proofs.lemmas.Str.{IsCharBoundary-start}
-use Rattle.std.proofs.lemmas.Grind.{common_steps}
-use Rattle.rustc_lexer.specs.Classes.{AreAll, is_inline}
-use Rattle.rustc_lexer.specs.means.Scan.{begins}
+use Rattle.std.proofs.{Math.Seq.{drop-cons, drop-length, get_or-append_seam}, lemmas.Bool.{ne_eqb}}
+use Rattle.std.proofs.lemmas.{List.{get_or-take}, Str.{IsCharBoundary-start}, Grind.{common_steps}}
+use Rattle.rustc_lexer.specs.{Classes.{AreAll, is_inline}, means.Scan.{begins}}
 use Rattle.rustc_lexer.specs.means.Shebang.{is_attribute, line_len, shebang_past, read_shebang}
-use Rattle.rustc_lexer.specs.LanguageText.{part, newest}
-use Rattle.rustc_lexer.specs.Tokens.{tokens_of}
-use Rattle.rustc_lexer.specs.LanguageCalls.{IsLineBefore, to_end, to_newline, to_return}
-use Rattle.rustc_lexer.specs.laws.Fences.{begins-whole}
+use Rattle.rustc_lexer.specs.{LanguageText.{part, newest}, Tokens.{tokens_of}}
+use Rattle.rustc_lexer.specs.{LanguageCalls.{IsLineBefore, to_end, to_newline, to_return}, laws.Fences.{begins-whole}}
 use Rattle.rustc_lexer.specs.laws.LanguageShebang.{line-read}
 
 pub no_shebang : (s : List ℕ) → ((rest : List ℕ) → s ≢ 35 ∷ 33 ∷ rest) → None ≡ read_shebang s

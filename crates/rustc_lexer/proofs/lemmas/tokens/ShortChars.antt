@@ -1,19 +1,14 @@
 -- A character that a quote closes right behind one character of ASCII, or behind a backslash and one.
 use Rattle.std.proofs.Common.{◌≡◌, ℕ, ◌+◌, ◌-◌, ◌≤◌, ◌<◌, ◌==◌, Bool, true, false, List, [], ◌∷◌, length, drop, codes, refl, sym, ap, ◌∙◌, arith, subst, slice_index}
-use Rattle.std.specs.Int.{from_bool}
-use Rattle.std.specs.Str.{chars, encode_utf8_all, IsUtf8, IsCharBoundary}
-use Rattle.std.proofs.lemmas.Bool.{eqb-true, lt-leb}
-use Rattle.std.proofs.lemmas.Str.{encodes-chars, IsCharBoundary-from_drop}
-use Rattle.std.proofs.Math.Bool.{or-true}
-use Rattle.std.proofs.lemmas.Grind.{common_steps}
+use Rattle.std.specs.{Int.{from_bool}, Str.{chars, encode_utf8_all, IsUtf8, IsCharBoundary}}
+use Rattle.std.proofs.lemmas.{Bool.{eqb-true, lt-leb}, Str.{encodes-chars, IsCharBoundary-from_drop}}
+use Rattle.std.proofs.{Math.Bool.{or-true}, lemmas.Grind.{common_steps}}
 use Rattle.unicode_ident.proofs.IdentLemmas.{is_xid_start-ascii}
-use Rattle.rustc_lexer.specs.Tables.{is_emoji}
-use Rattle.rustc_lexer.specs.means.Lifetime.{is_name_start, is_character_at}
-use Rattle.rustc_lexer.specs.means.Quoted.{single_quoted_string}
-use Rattle.rustc_lexer.specs.means.Scan.{begins, past, scanned}
+use Rattle.rustc_lexer.specs.{Tables.{is_emoji}, means.Lifetime.{is_name_start, is_character_at}}
+use Rattle.rustc_lexer.specs.means.{Quoted.{single_quoted_string}, Scan.{begins, past, scanned}}
 use Rattle.rustc_lexer.specs.laws.Choice.{by_either}
 use Rattle.rustc_lexer.proofs.lemmas.tokens.AsciiRuns.{chars-ascii, IsUtf8-ascii, past-ascii}
-use Rattle.rustc_lexer.specs.laws.Past.{past-past, past-two}
+use Rattle.rustc_lexer.specs.laws.Past.{past-two}
 
 backslash-no_name : is_name_start 92 ≡ false
 unfolding is_emoji
@@ -64,7 +59,8 @@ module _ (text bytes : List ℕ) (offset : ℕ) (is : IsUtf8 text) (same : bytes
   pub short_char : ShortChar text (drop (offset + 1) text)
   short_char = subst (λ s. ShortChar s (drop (offset + 1) s)) same (by_text bytes (subst IsUtf8 (sym same) is) some offset_is small quote)
     where
-      by_text : (s : List ℕ) → IsUtf8 s → 3 ≤ length s → offset ≡ 1 + from_bool (slice_index s 0 == 92) → slice_index s (offset - 1) < 128 → slice_index s offset ≡ 39 → ShortChar s (drop (offset + 1) s)
+      by_text : (s : List ℕ) → IsUtf8 s → 3 ≤ length s → offset ≡ 1 + from_bool (slice_index s 0 == 92)
+          → slice_index s (offset - 1) < 128 → slice_index s offset ≡ 39 → ShortChar s (drop (offset + 1) s)
       by_text [] u l p m q = absurd (omega arith)
       by_text (b ∷ []) u l p m q = absurd (omega arith)
       by_text (b ∷ c ∷ []) u l p m q = absurd (omega arith)

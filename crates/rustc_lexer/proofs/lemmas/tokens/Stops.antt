@@ -3,8 +3,7 @@ use Rattle.std.proofs.lemmas.Grind.{common_steps}
 use Rattle.std.proofs.Common.{◌≡◌, ℕ, ◌+◌, ◌-◌, ◌*◌, ◌%◌, ◌^◌, ◌<◌, ◌≤◌, Bool, true, List, length, map, get_or, ◌∙◌, arith, bit_or}
 use Rattle.std.proofs.lemmas.Bool.{cases_lt, or_cases, or_right}
 use lib.Lanes.{chunk, mask_l}
-use Rattle.rustc_lexer.specs.means.ByteRuns.{outside}
-use Rattle.rustc_lexer.specs.means.Ends.{bit}
+use Rattle.rustc_lexer.specs.means.{ByteRuns.{outside}, Ends.{bit}}
 use Rattle.rustc_lexer.proofs.lemmas.tokens.Bits.{bit-or, bit-shl_below, bit-shl_on, mask_in, mask_past}
 
 module _ (p : ℕ → Bool) (bytes : List ℕ) where
@@ -32,5 +31,7 @@ module _ (p : ℕ → Bool) (bytes : List ℕ) where
   pub looked_last : (len last w mask : ℕ) → last + w ≡ len → len ≤ 64 → len ≤ length bytes → mask ≡ mask_l (map (outside p) (chunk last w bytes)) → Looked len 0 last (mask * 2 ^ last % 2 ^ 64)
   looked_last len last w mask sum few inside e = grind (arith, common_steps, sound, shown_in)
 
-  pub looked_on : (len at last stops w mask : ℕ) → Looked len at last stops → len ≤ 64 → at + w ≤ len → len ≤ length bytes → mask ≡ mask_l (map (outside p) (chunk at w bytes)) → Looked len (at + w) last (bit_or stops (mask * 2 ^ at % 2 ^ 64))
+  pub looked_on : (len at last stops w mask : ℕ) → Looked len at last stops → len ≤ 64 → at + w ≤ len
+      → len ≤ length bytes → mask ≡ mask_l (map (outside p) (chunk at w bytes))
+      → Looked len (at + w) last (bit_or stops (mask * 2 ^ at % 2 ^ 64))
   looked_on len at last stops w mask so few room inside e = grind (arith, common_steps, or_cases, bit-or, sound, cases_lt, or_right, shown_in)

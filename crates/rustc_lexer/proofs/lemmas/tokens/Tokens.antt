@@ -1,19 +1,13 @@
 -- Taking the tokens of a whole text, one by one.
 use Rattle.std.proofs.Common.{◌≡◌, ℕ, ◌+◌, ◌<◌, ◌≤◌, subst, List, [], length, length-drop, drop, drop-drop, arith, refl, sym, ap, ◌∙◌, Some, IsCharBoundary}
-use Rattle.std.specs.Prelude.{⊤}
-use Rattle.std.specs.Iterator.{at_most, MakesProgress}
-use Rattle.std.proofs.lemmas.Bool.{ne_eqb}
-use Rattle.std.proofs.lemmas.Str.{IsCharBoundary-from_take, IsUtf8-drop}
-use Rattle.std.proofs.lemmas.List.{drop_all}
+use Rattle.std.specs.{Prelude.{⊤}, Iterator.{at_most, MakesProgress}}
+use Rattle.std.proofs.lemmas.{Bool.{ne_eqb}, Str.{IsCharBoundary-from_take, IsUtf8-drop}, List.{drop_all}}
 use Rattle.std.proofs.lemmas.Grind.{common_steps}
 use Rattle.rustc_lexer.specs.{Edition, FrontmatterAllowed, Token, No}
 use Rattle.rustc_lexer.specs.Tokens.{tokens_of, tokens_left, RestartsAtBounds, TakesToken}
 use Rattle.rustc_lexer.specs.laws.Tokens.{token_at-cuts, tokens-cons, tokens-nil}
-use Rattle.rustc_lexer.specs.LanguageText.{Mode, part, mode_after, mode_in}
-use Rattle.rustc_lexer.specs.laws.Edition.{edition_grammar}
-use Rattle.rustc_lexer.specs.means.Edition.{first_token_in}
-use Rattle.rustc_lexer.specs.State.{State}
-use Rattle.rustc_lexer.specs.means.Taking.{token_at}
+use Rattle.rustc_lexer.specs.{LanguageText.{Mode, part, mode_after, mode_in}, laws.Edition.{edition_grammar}}
+use Rattle.rustc_lexer.specs.{means.Edition.{first_token_in}, State.{State}, means.Taking.{token_at}}
 use Rattle.rustc_lexer.specs.laws.Cuts.{at_bound}
 use Rattle.rustc_lexer.specs.laws.State.{state, past_token, past_token-is, advance-some, token_past-zero}
 use Rattle.rustc_lexer.specs.Classes.{IsText}

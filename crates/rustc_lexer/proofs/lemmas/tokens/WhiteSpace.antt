@@ -1,18 +1,11 @@
 -- White space outside ASCII, by the first byte of it.
 use Rattle.std.proofs.Common.{◌≡◌, ℕ, ◌||◌, Bool, true, false, true≢false, List, [], ◌∷◌, drop, get_or, refl, sym, ap, ◌∙◌, arith}
-use Rattle.std.specs.Char.{encode_utf8}
-use Rattle.std.specs.List.{prefix_len}
-use Rattle.std.specs.Str.{chars, encode_utf8_all, IsUtf8}
-use Rattle.std.proofs.lemmas.List.{get_or_append_left}
-use Rattle.std.proofs.lemmas.Str.{encodes-chars, length-encode, len_utf8_bounds}
-use Rattle.rustc_lexer.specs.means.ByteRuns.{is_space_byte}
-use Rattle.rustc_lexer.specs.Classes.{is_whitespace}
+use Rattle.std.specs.{Char.{encode_utf8}, List.{prefix_len}, Str.{chars, encode_utf8_all, IsUtf8}}
+use Rattle.std.proofs.lemmas.{List.{get_or_append_left}, Str.{encodes-chars, length-encode, len_utf8_bounds}}
+use Rattle.rustc_lexer.specs.{means.ByteRuns.{is_space_byte}, Classes.{is_whitespace}}
 use Rattle.std.proofs.lemmas.Bool.{false_from_ne_true}
-use Rattle.rustc_lexer.specs.laws.LanguageRuns.{among}
-use Rattle.rustc_lexer.specs.means.Quick.{is_space_lead}
-use Rattle.rustc_lexer.specs.means.Scan.{next_is, past, run_len}
-use Rattle.rustc_lexer.proofs.lemmas.tokens.AsciiRuns.{Skips, left_there, run_over}
-use Rattle.rustc_lexer.proofs.lemmas.tokens.ClassParts.{space_part}
+use Rattle.rustc_lexer.specs.{laws.LanguageRuns.{among}, means.{Quick.{is_space_lead}, Scan.{next_is, past, run_len}}}
+use Rattle.rustc_lexer.proofs.lemmas.tokens.{AsciiRuns.{Skips, left_there, run_over}, ClassParts.{space_part}}
 
 abbrev leads : ℕ → Bool
 leads b = is_space_byte b || is_space_lead b

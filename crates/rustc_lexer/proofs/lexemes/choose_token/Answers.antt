@@ -1,5 +1,4 @@
-use Rattle.std.proofs.Common.{arith}
-use Rattle.std.proofs.lemmas.Str.{IsCharBoundary-start}
+use Rattle.std.proofs.{Common.{arith}, lemmas.Str.{IsCharBoundary-start}}
 use Rattle.rustc_lexer.proofs.lemmas.tokens.Lexemes.{left-le, made, token-at_end}
 use Rattle.rustc_lexer.proofs.lexemes.choose_token.Goals as goal
 

@@ -1,9 +1,6 @@
-use Rattle.std.proofs.lemmas.Grind.{common_steps}
-use Rattle.std.proofs.Common.{arith, rules}
-use Rattle.rustc_lexer.specs.means.ByteRuns.{is_continue_byte}
-use Rattle.rustc_lexer.specs.Classes.{is_id_continue}
-use Rattle.rustc_lexer.proofs.lemmas.tokens.AsciiRuns.{may_cut, goes_on, stops_here}
-use Rattle.rustc_lexer.proofs.lemmas.tokens.ClassParts.{continue_part}
+use Rattle.std.proofs.{lemmas.Grind.{common_steps}, Common.{arith, rules}}
+use Rattle.rustc_lexer.specs.{means.ByteRuns.{is_continue_byte}, Classes.{is_id_continue}}
+use Rattle.rustc_lexer.proofs.lemmas.tokens.{AsciiRuns.{may_cut, goes_on, stops_here}, ClassParts.{continue_part}}
 use Rattle.rustc_lexer.proofs.scan.eat_continue.Goals as goal
 
 pub range_from-left-requires : goal.range_from-left-requires

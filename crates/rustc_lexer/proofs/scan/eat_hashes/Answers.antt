@@ -1,6 +1,5 @@
 use Rattle.rustc_lexer.specs.means.Raw.{is_hash}
-use Rattle.rustc_lexer.proofs.lemmas.tokens.AsciiRuns.{may_cut_small, past_small}
-use Rattle.rustc_lexer.proofs.lemmas.tokens.Hashes.{hash-small}
+use Rattle.rustc_lexer.proofs.lemmas.tokens.{AsciiRuns.{may_cut_small, past_small}, Hashes.{hash-small}}
 use Rattle.rustc_lexer.proofs.scan.eat_hashes.Goals as goal
 
 pub range_from-requires : goal.range_from-requires

@@ -1,10 +1,6 @@
-use Rattle.std.proofs.lemmas.Grind.{common_steps}
-use Rattle.std.proofs.Common.{arith, rules}
-use Rattle.std.proofs.lemmas.Bool.{not-true}
-use Rattle.rustc_lexer.specs.means.ByteRuns.{is_space_byte}
-use Rattle.rustc_lexer.specs.Classes.{is_whitespace}
-use Rattle.rustc_lexer.proofs.lemmas.tokens.AsciiRuns.{may_cut, goes_on}
-use Rattle.rustc_lexer.proofs.lemmas.tokens.ClassParts.{space_part}
+use Rattle.std.proofs.{lemmas.Grind.{common_steps}, Common.{arith, rules}, lemmas.Bool.{not-true}}
+use Rattle.rustc_lexer.specs.{means.ByteRuns.{is_space_byte}, Classes.{is_whitespace}}
+use Rattle.rustc_lexer.proofs.lemmas.tokens.{AsciiRuns.{may_cut, goes_on}, ClassParts.{space_part}}
 use Rattle.rustc_lexer.proofs.lemmas.tokens.WhiteSpace.{space_stops_here}
 use Rattle.rustc_lexer.proofs.scan.eat_whitespace.Goals as goal
 

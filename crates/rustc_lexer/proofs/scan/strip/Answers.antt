@@ -1,9 +1,6 @@
-use Rattle.std.proofs.lemmas.Grind.{common_steps}
-use Rattle.std.proofs.Common.{rules}
-use Rattle.std.proofs.Common.{sym, arith, ◌∙◌}
+use Rattle.std.proofs.{lemmas.Grind.{common_steps}, Common.{rules, sym, arith, ◌∙◌}}
 use Rattle.memchr.specs.Find.{is_byte}
-use Rattle.rustc_lexer.proofs.lemmas.tokens.AsciiRuns.{front_small}
-use Rattle.rustc_lexer.proofs.lemmas.tokens.ByteSearch.{begins_small, byte_small}
+use Rattle.rustc_lexer.proofs.lemmas.tokens.{AsciiRuns.{front_small}, ByteSearch.{begins_small, byte_small}}
 use Rattle.rustc_lexer.proofs.scan.strip.Goals as goal
 
 pub range_from-requires : goal.range_from-requires

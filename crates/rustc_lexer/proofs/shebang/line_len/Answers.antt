@@ -1,6 +1,5 @@
 use Rattle.std.proofs.Common.{None, Some, ap, sym, ◌∙◌, arith, rules, get_or, List, ℕ, ◌-◌}
-use Rattle.std.proofs.lemmas.Grind.{common_steps}
-use Rattle.std.proofs.lemmas.Str.Pattern.{find_char}
+use Rattle.std.proofs.lemmas.{Grind.{common_steps}, Str.Pattern.{find_char}}
 use Rattle.rustc_lexer.proofs.lemmas.tokens.Shebang.{no_newline, with_return, without_return}
 use Rattle.rustc_lexer.proofs.shebang.line_len.Goals as goal
 

@@ -1,15 +1,12 @@
 use Rattle.std.proofs.Common.{◌≡◌, ◌-◌, ℕ, List, length, ap, ◌∙◌, arith}
-use Rattle.rustc_lexer.specs.declared.edition.Edition.{Edition}
-use Rattle.rustc_lexer.specs.declared.token.FrontmatterAllowed.{FrontmatterAllowed}
-use Rattle.rustc_lexer.specs.LanguageText.{mode_in}
-use Rattle.rustc_lexer.specs.Classes.{IsText}
-use Rattle.rustc_lexer.specs.State.{State}
-use Rattle.rustc_lexer.specs.laws.State.{state}
+use Rattle.rustc_lexer.specs.declared.{edition.Edition.{Edition}, token.FrontmatterAllowed.{FrontmatterAllowed}}
+use Rattle.rustc_lexer.specs.{LanguageText.{mode_in}, Classes.{IsText}, State.{State}, laws.State.{state}}
 use Rattle.rustc_lexer_c.specs.Batch.{state_at}
 use Rattle.rustc_lexer_c.proofs.BatchLemmas.{batch_is, left_within}
 use Rattle.rustc_lexer_c.proofs.batch.fill.Goals as goal
 
-begun : (edition : Edition) (rest cut : List ℕ) (allowed given : FrontmatterAllowed) (s : State) → s ≡ record { pending = 0; rest = rest; mode = mode_in allowed edition } → rest ≡ cut → allowed ≡ given
+begun : (edition : Edition) (rest cut : List ℕ) (allowed given : FrontmatterAllowed) (s : State)
+    → s ≡ record { pending = 0; rest = rest; mode = mode_in allowed edition } → rest ≡ cut → allowed ≡ given
     → s ≡ record { pending = 0; rest = cut; mode = mode_in given edition }
 begun edition rest cut allowed given s e f g = e ∙ (ap (λ xs. state 0 xs (mode_in allowed edition)) f ∙ ap (λ (a : FrontmatterAllowed). state 0 cut (mode_in a edition)) g)
 

@@ -1,5 +1,4 @@
-use Rattle.std.proofs.Common.{arith, rules}
-use Rattle.std.proofs.lemmas.Grind.{common_steps}
+use Rattle.std.proofs.{Common.{arith, rules}, lemmas.Grind.{common_steps}}
 use Rattle.rustc_lexer_c.proofs.EscapeLemmas.{none_left, units_done}
 use Rattle.rustc_lexer_c.proofs.BufferLemmas.{all_taken, count_first, count_second}
 use Rattle.rustc_lexer_c.proofs.escapes.fill_all.Goals as goal

@@ -1,6 +1,5 @@
 use Rattle.std.proofs.Common.{ℕ, List, sym, true≢false, ◌∙◌}
-use Rattle.rustc_lexer.specs.Classes.{IsText}
-use Rattle.rustc_lexer.specs.Relexing.{IsChange}
+use Rattle.rustc_lexer.specs.{Classes.{IsText}, Relexing.{IsChange}}
 use Rattle.rustc_lexer_c.proofs.HeadLemmas.{Changes, found, refused_body, refused_edit}
 use Rattle.rustc_lexer_c.specs.Relex.{change_of}
 use Rattle.rustc_lexer_c.proofs.head.rustc_lexer_body_edit_unchecked.Goals as goal

@@ -1,12 +1,7 @@
 use Rattle.std.proofs.Common.{◌≡◌, List, ℕ, ◌++◌, map, take, drop, sym, subst}
-use Rattle.rustc_lexer.specs.declared.relex.relexing.Change.{Change}
-use Rattle.rustc_lexer.specs.declared.token.Token.{Token}
-use Rattle.rustc_lexer.specs.Relexing.{known}
-use Rattle.rustc_lexer.specs.Relexing.{IsMadeOf, IsUnderWay, TakesSteps}
-use Rattle.rustc_lexer.specs.Answers.{first_in}
-use Rattle.rustc_lexer.specs.Tokens.{tokens_by}
-use Rattle.rustc_lexer_c.specs.declared.token.CToken.{CToken}
-use Rattle.rustc_lexer_c.specs.Numbers.{token_numbers}
+use Rattle.rustc_lexer.specs.{declared.{relex.relexing.Change.{Change}, token.Token.{Token}}, Relexing.{known}}
+use Rattle.rustc_lexer.specs.{Relexing.{IsMadeOf, IsUnderWay, TakesSteps}, Answers.{first_in}, Tokens.{tokens_by}}
+use Rattle.rustc_lexer_c.specs.{declared.token.CToken.{CToken}, Numbers.{token_numbers}}
 use Rattle.rustc_lexer_c.proofs.RelexLemmas.{batch_is}
 use Rattle.rustc_lexer_c.proofs.relex.relex.Goals as goal
 

@@ -1,9 +1,7 @@
 use Rattle.std.proofs.Common.{◌-◌, ◌∷◌, [], false, length, map, sym, ap, ◌∙◌, arith, rules}
 use Rattle.std.specs.Str.{chars}
-use Rattle.rustc_literal_escaper.specs.declared.element.Element.TheVariants.{Byte}
-use Rattle.rustc_literal_escaper.specs.means.Elements.{Front, item_at}
-use Rattle.rustc_literal_escaper.proofs.ErrorLemmas.{folds-errors}
-use Rattle.rustc_literal_escaper.proofs.ItemLemmas.{first-one, items-step, first-plain}
+use Rattle.rustc_literal_escaper.specs.{declared.element.Element.TheVariants.{Byte}, means.Elements.{Front, item_at}}
+use Rattle.rustc_literal_escaper.proofs.{ErrorLemmas.{folds-errors}, ItemLemmas.{first-one, items-step, first-plain}}
 use Rattle.rustc_literal_escaper.proofs.check.check_escaped.Goals as goal
 
 pub items-preserved-then-is_plain : goal.items-preserved-then-is_plain

@@ -1,10 +1,8 @@
 use Rattle.std.proofs.Common.{◌≤◌, true, length}
-use Rattle.std.specs.List.{FoldsTo}
-use Rattle.std.specs.Str.{chars}
+use Rattle.std.specs.{List.{FoldsTo}, Str.{chars}}
 use denote.Text.{Utf8}
 use denote.Shadow.{shadow}
-use Rattle.rustc_literal_escaper.specs.means.Elements.{front_by, items_from}
-use Rattle.rustc_literal_escaper.specs.Meaning.{errors_in}
+use Rattle.rustc_literal_escaper.specs.{means.Elements.{front_by, items_from}, Meaning.{errors_in}}
 use Rattle.rustc_literal_escaper.proofs.check.check_raw_in.Given as goal
 
 -- the calls that are still to come end where all of them do

@@ -1,14 +1,9 @@
 use Rattle.std.proofs.Common.{◌≡◌, ◌++◌, ◌∷◌, [], false, true, length, length-append, refl, sym, ap, ◌∙◌, arith}
-use Rattle.std.specs.Char.{encode_utf8, is_ascii}
-use Rattle.std.specs.Str.{chars}
-use Rattle.std.specs.Str.Iter.{chars_rest}
+use Rattle.std.specs.{Char.{encode_utf8, is_ascii}, Str.{chars, Iter.{chars_rest}}}
 use Rattle.std.proofs.lemmas.List.{nil_from_length}
 use Rattle.std.proofs.lemmas.Str.{chars-nil, chars_past_char, length-encode, len_utf8_bounds, IsUtf8-past_char}
-use Rattle.rustc_literal_escaper.specs.means.Elements.{front_by}
-use Rattle.rustc_literal_escaper.specs.laws.Elements.{nothing}
-use Rattle.rustc_literal_escaper.proofs.ErrorLemmas.{folds-errors}
-use Rattle.rustc_literal_escaper.proofs.ItemLemmas.{first-raw}
-use Rattle.rustc_literal_escaper.proofs.WholeLemmas.{raw_wide}
+use Rattle.rustc_literal_escaper.specs.{means.Elements.{front_by}, laws.Elements.{nothing}}
+use Rattle.rustc_literal_escaper.proofs.{ErrorLemmas.{folds-errors}, ItemLemmas.{first-raw}, WholeLemmas.{raw_wide}}
 use Rattle.rustc_literal_escaper.proofs.check.check_raw_part.Goals as goal
 
 pub chars-preserved-then-in_ascii : goal.chars-preserved-then-in_ascii

@@ -1,7 +1,6 @@
 use Rattle.std.proofs.Common.{◌∷◌, [], false, arith}
 use Rattle.std.specs.Str.{chars}
-use Rattle.rustc_literal_escaper.proofs.ErrorLemmas.{folds-errors}
-use Rattle.rustc_literal_escaper.proofs.ItemLemmas.{first-one}
+use Rattle.rustc_literal_escaper.proofs.{ErrorLemmas.{folds-errors}, ItemLemmas.{first-one}}
 use Rattle.rustc_literal_escaper.proofs.check.check_unescaped.Goals as goal
 
 pub alone-preserved : goal.alone-preserved

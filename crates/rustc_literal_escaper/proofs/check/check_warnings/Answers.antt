@@ -1,7 +1,6 @@
 use Rattle.std.proofs.Common.{sym}
 use Rattle.std.specs.Str.{chars}
-use Rattle.rustc_literal_escaper.proofs.ErrorLemmas.{folds-errors}
-use Rattle.rustc_literal_escaper.proofs.PlaceLemmas.{line_end-found}
+use Rattle.rustc_literal_escaper.proofs.{ErrorLemmas.{folds-errors}, PlaceLemmas.{line_end-found}}
 use Rattle.rustc_literal_escaper.proofs.check.check_warnings.Goals as goal
 
 pub returns-clause-calls : goal.returns-clause-calls

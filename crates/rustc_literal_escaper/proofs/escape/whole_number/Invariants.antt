@@ -1,6 +1,5 @@
 use Rattle.std.proofs.Common.{◌≡◌, ◌≤◌, ◌<◌, ◌^◌, ◌∷◌, [], ◌++◌, min, true, length}
-use Rattle.std.specs.Char.{is_ascii}
-use Rattle.std.specs.List.{list_all}
+use Rattle.std.specs.{Char.{is_ascii}, List.{list_all}}
 use Rattle.rustc_literal_escaper.proofs.DigitLemmas.{left_at}
 use Rattle.rustc_literal_escaper.proofs.escape.whole_number.Given as goal
 

@@ -1,9 +1,6 @@
 use Rattle.std.proofs.Common.{◌≡◌, List, ℕ, false, Some, None, [], ◌∷◌, sym, ap, ◌∙◌}
-use Rattle.std.specs.Char.{is_ascii}
-use Rattle.std.specs.List.{slice_get}
-use Rattle.std.specs.Str.{chars}
-use Rattle.std.proofs.lemmas.Bool.{ltb-true}
-use Rattle.std.proofs.lemmas.Str.{chars-nil}
+use Rattle.std.specs.{Char.{is_ascii}, List.{slice_get}, Str.{chars}}
+use Rattle.std.proofs.lemmas.{Bool.{ltb-true}, Str.{chars-nil}}
 use Rattle.rustc_literal_escaper.proofs.PlaceLemmas.{first-tells}
 use Rattle.rustc_literal_escaper.proofs.scan.begins_in_ascii.Goals as goal
 

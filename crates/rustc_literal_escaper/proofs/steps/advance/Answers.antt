@@ -1,7 +1,6 @@
 use Rattle.std.proofs.Common.{ap, ◌∙◌, ◌++◌, List, arith, rules}
 use Rattle.std.specs.Str.{chars}
-use Rattle.rustc_literal_escaper.specs.Grammar.{Item}
-use Rattle.rustc_literal_escaper.specs.means.Elements.{front_by, items_from}
+use Rattle.rustc_literal_escaper.specs.{Grammar.{Item}, means.Elements.{front_by, items_from}}
 use Rattle.rustc_literal_escaper.proofs.ItemLemmas.{items-step, found-none}
 use Rattle.rustc_literal_escaper.proofs.steps.advance.Goals as goal
 

@@ -1,8 +1,6 @@
 use Rattle.std.proofs.Common.{ℕ, List, Option, Some, None, MatchOption, sym, ap, ◌∙◌, rules}
-use Rattle.std.specs.List.{slice_get}
-use Rattle.std.specs.Str.{chars}
-use Rattle.rustc_literal_escaper.specs.Grammar.{is_passed_over}
-use Rattle.rustc_literal_escaper.specs.means.Escape.{front_run}
+use Rattle.std.specs.{List.{slice_get}, Str.{chars}}
+use Rattle.rustc_literal_escaper.specs.{Grammar.{is_passed_over}, means.Escape.{front_run}}
 use Rattle.rustc_literal_escaper.proofs.PlaceLemmas.{no-byte, byte-not, byte-yes}
 use Rattle.rustc_literal_escaper.proofs.steps.split_passed.Goals as goal
 

@@ -1,16 +1,10 @@
 use Rattle.std.proofs.Common.{◌≡◌, ◌+◌, ◌-◌, ◌++◌, ◌∷◌, ℕ, List, [], true, false, length, length-append, refl, sym, ap, ◌∙◌, arith}
-use Rattle.std.specs.Char.{encode_utf8, is_ascii}
-use Rattle.std.specs.Str.{chars}
-use Rattle.std.specs.Str.Iter.{chars_rest}
+use Rattle.std.specs.{Char.{encode_utf8, is_ascii}, Str.{chars, Iter.{chars_rest}}}
 use denote.Param.Always.{mut_next}
 use Rattle.std.proofs.lemmas.Str.{chars-nil, chars_past_char, encode_ascii, length-encode, len_utf8_bounds, IsUtf8-past_char}
-use Rattle.std.proofs.lemmas.Bool.{ltb-true}
-use Rattle.std.proofs.lemmas.List.{nil_from_length}
-use Rattle.rustc_literal_escaper.specs.means.Elements.{front_by}
-use Rattle.rustc_literal_escaper.specs.laws.Elements.{nothing}
-use Rattle.rustc_literal_escaper.proofs.ItemLemmas.{first-raw}
-use Rattle.rustc_literal_escaper.proofs.RunLemmas.{folds-on}
-use Rattle.rustc_literal_escaper.proofs.WholeLemmas.{raw_wide}
+use Rattle.std.proofs.lemmas.{Bool.{ltb-true}, List.{nil_from_length}}
+use Rattle.rustc_literal_escaper.specs.{means.Elements.{front_by}, laws.Elements.{nothing}}
+use Rattle.rustc_literal_escaper.proofs.{ItemLemmas.{first-raw}, RunLemmas.{folds-on}, WholeLemmas.{raw_wide}}
 use Rattle.rustc_literal_escaper.proofs.strings.each_raw_char.Goals as goal
 
 pub chars-preserved-then-in_ascii : goal.chars-preserved-then-in_ascii

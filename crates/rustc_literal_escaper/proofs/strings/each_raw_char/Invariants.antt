@@ -1,7 +1,5 @@
 use Rattle.std.proofs.Common.{◌≡◌, ◌≤◌, ◌-◌, true, length}
-use Rattle.std.specs.List.{FoldsTo}
-use Rattle.std.specs.Str.{chars, IsUtf8}
-use Rattle.std.specs.Str.Iter.{chars_rest}
+use Rattle.std.specs.{List.{FoldsTo}, Str.{chars, IsUtf8, Iter.{chars_rest}}}
 use Rattle.rustc_literal_escaper.specs.means.Elements.{front_by, items_from}
 use Rattle.rustc_literal_escaper.proofs.strings.each_raw_char.Given as goal
 

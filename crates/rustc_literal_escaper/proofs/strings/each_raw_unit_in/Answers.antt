@@ -1,8 +1,6 @@
 use Rattle.std.proofs.Common.{[], ◌∷◌, true, refl, arith}
-use Rattle.rustc_literal_escaper.specs.means.Elements.{front_by}
-use Rattle.rustc_literal_escaper.specs.laws.Elements.{nothing}
-use Rattle.rustc_literal_escaper.proofs.ItemLemmas.{first-raw, part-items}
-use Rattle.rustc_literal_escaper.proofs.RunLemmas.{folds-on, run-items}
+use Rattle.rustc_literal_escaper.specs.{means.Elements.{front_by}, laws.Elements.{nothing}}
+use Rattle.rustc_literal_escaper.proofs.{ItemLemmas.{first-raw, part-items}, RunLemmas.{folds-on, run-items}}
 use Rattle.rustc_literal_escaper.proofs.strings.each_raw_unit_in.Goals as goal
 
 pub items-preserved : goal.items-preserved

@@ -1,6 +1,5 @@
 use Rattle.std.proofs.Common.{◌≤◌, true, length}
-use Rattle.std.specs.List.{FoldsTo}
-use Rattle.std.specs.Str.{chars}
+use Rattle.std.specs.{List.{FoldsTo}, Str.{chars}}
 use denote.Text.{Utf8}
 use denote.Shadow.{shadow}
 use Rattle.rustc_literal_escaper.specs.means.Elements.{front_by, items_from}

@@ -1,5 +1,4 @@
-use Rattle.std.proofs.Common.{refl}
-use Rattle.std.proofs.lemmas.List.{nil_from_length}
+use Rattle.std.proofs.{Common.{refl}, lemmas.List.{nil_from_length}}
 use Rattle.rustc_literal_escaper.proofs.strings.each_simple.Goals as goal
 
 pub returns-clause-calls : goal.returns-clause-calls

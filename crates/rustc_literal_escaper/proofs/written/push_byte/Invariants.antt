@@ -1,6 +1,4 @@
-use Rattle.std.specs.Char.Escape.{escape_ascii}
-use Rattle.std.specs.Char.Iter.{escape_byte_rest}
-use Rattle.std.specs.Str.{encode_utf8_all}
+use Rattle.std.specs.{Char.{Escape.{escape_ascii}, Iter.{escape_byte_rest}}, Str.{encode_utf8_all}}
 use Rattle.std.specs.String.{string_bytes}
 use Rattle.rustc_literal_escaper.proofs.WrittenLemmas.{Writing}
 use Rattle.rustc_literal_escaper.proofs.written.push_byte.Given as goal

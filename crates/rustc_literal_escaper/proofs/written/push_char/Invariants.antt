@@ -1,7 +1,4 @@
-use Rattle.std.specs.Char.Escape.{escape_default}
-use Rattle.std.specs.Char.Iter.{escape_rest}
-use Rattle.std.specs.Str.{encode_utf8_all}
-use Rattle.std.specs.String.{string_bytes}
+use Rattle.std.specs.{Char.{Escape.{escape_default}, Iter.{escape_rest}}, Str.{encode_utf8_all}, String.{string_bytes}}
 use Rattle.rustc_literal_escaper.proofs.WrittenLemmas.{Writing}
 use Rattle.rustc_literal_escaper.proofs.written.push_char.Given as goal
 

@@ -1,5 +1,4 @@
-use Rattle.std.proofs.Common.{ap}
-use Rattle.std.proofs.lemmas.List.{drop_more}
+use Rattle.std.proofs.{Common.{ap}, lemmas.List.{drop_more}}
 use Rattle.std.specs.List.{flat_map}
 use Rattle.lexdump_run.proofs.PushLemmas.{pushing_first, pushing_stopped}
 use Rattle.lexdump_run.proofs.output.BlockWriter.push_all.Goals as goal

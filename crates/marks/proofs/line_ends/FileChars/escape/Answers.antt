@@ -1,8 +1,7 @@
 use Rattle.std.proofs.Common.{◌≡◌, List, ℕ, ap, ◌∙◌}
 use Rattle.std.specs.Str.{chars}
 use Rattle.rustc_literal_escaper.specs.means.Escape.{escape}
-use Rattle.marks.specs.LineEnds.{unix}
-use Rattle.marks.specs.means.LineEnds.{IsLeft}
+use Rattle.marks.specs.{LineEnds.{unix}, means.LineEnds.{IsLeft}}
 use Rattle.marks.proofs.LineEndLemmas.{escape_line, escape_read, left_left}
 use Rattle.marks.proofs.line_ends.FileChars.escape.Goals as goal
 use Rattle.marks.proofs.line_ends.FileChars.escape.Goals.{in-Some, in-None}

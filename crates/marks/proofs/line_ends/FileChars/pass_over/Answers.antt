@@ -1,8 +1,6 @@
 use Rattle.std.proofs.Common.{List, ℕ, sym, ap, ◌∙◌}
-use Rattle.std.specs.List.{list_any}
-use Rattle.std.specs.Str.{chars}
-use Rattle.rustc_literal_escaper.specs.Grammar.{is_newline, is_passed_over}
-use Rattle.rustc_literal_escaper.specs.means.Escape.{front_run, past_run}
+use Rattle.std.specs.{List.{list_any}, Str.{chars}}
+use Rattle.rustc_literal_escaper.specs.{Grammar.{is_newline, is_passed_over}, means.Escape.{front_run, past_run}}
 use Rattle.marks.specs.LineEnds.{unix}
 use Rattle.marks.proofs.LineEndLemmas.{left_left, passed_left, passed_same}
 use Rattle.marks.proofs.line_ends.FileChars.pass_over.Goals as goal

@@ -1,7 +1,5 @@
-use Rattle.std.proofs.Common.{rules, ◌∙◌}
-use Rattle.std.proofs.lemmas.Fn.{always_returns_same}
-use Rattle.rustc_lexer.specs.means.Emoji.{side}
-use Rattle.rustc_lexer.specs.Tables.{emoji_ranges}
+use Rattle.std.proofs.{Common.{rules, ◌∙◌}, lemmas.Fn.{always_returns_same}}
+use Rattle.rustc_lexer.specs.{means.Emoji.{side}, Tables.{emoji_ranges}}
 use Rattle.rustc_lexer.proofs.lemmas.tokens.Emoji.{past_ascii}
 use Rattle.rustc_lexer.proofs.classes.emoji.is_emoji.Goals as goal
 

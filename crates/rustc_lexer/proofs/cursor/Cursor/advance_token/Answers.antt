@@ -1,7 +1,5 @@
 use Rattle.std.proofs.Common.{refl, sym, ap, ◌∙◌, arith}
-use Rattle.rustc_lexer.specs.{Token}
-use Rattle.rustc_lexer.specs.State.{State}
-use Rattle.rustc_lexer.specs.laws.State.{state}
+use Rattle.rustc_lexer.specs.{Token, State.{State}, laws.State.{state}}
 use Rattle.rustc_lexer.proofs.lemmas.tokens.Advance.{advances, advances_alone, ends, none_left, still_cursor, suffix_within, whole_fits}
 use Rattle.rustc_lexer.proofs.cursor.Cursor.advance_token.Goals as goal
 

@@ -1,9 +1,6 @@
 use Rattle.std.proofs.Common.{Option, ap, sym, ◌∙◌, ◌+◌, arith}
-use Rattle.rustc_lexer.specs.{GuardedStr}
-use Rattle.rustc_lexer.specs.State.{State}
-use Rattle.rustc_lexer.specs.laws.State.{state}
-use Rattle.rustc_lexer.proofs.lemmas.tokens.Advance.{passed}
-use Rattle.rustc_lexer.proofs.lemmas.tokens.Guarded.{none_here, some_here}
+use Rattle.rustc_lexer.specs.{GuardedStr, State.{State}, laws.State.{state}}
+use Rattle.rustc_lexer.proofs.lemmas.tokens.{Advance.{passed}, Guarded.{none_here, some_here}}
 use Rattle.rustc_lexer.proofs.cursor.Cursor.guarded_double_quoted_string.Goals as goal
 
 pub returns-in_default : goal.returns-in_default

@@ -1,6 +1,5 @@
 use Rattle.std.proofs.Common.{arith}
-use Rattle.rustc_lexer.proofs.lemmas.tokens.Guarded.{string_boundary, string_here}
-use Rattle.rustc_lexer.proofs.lemmas.tokens.Raw.{hash_boundary}
+use Rattle.rustc_lexer.proofs.lemmas.tokens.{Guarded.{string_boundary, string_here}, Raw.{hash_boundary}}
 use Rattle.rustc_lexer.proofs.cursor.guarded.string_past.Goals as goal
 
 pub range_from-requires : goal.range_from-requires

@@ -1,6 +1,4 @@
-use Rattle.std.proofs.lemmas.Grind.{common_steps}
-use Rattle.std.proofs.Common.{rules}
-use Rattle.std.proofs.Common.{◌-◌, arith}
+use Rattle.std.proofs.{lemmas.Grind.{common_steps}, Common.{rules, ◌-◌, arith}}
 use Rattle.rustc_lexer.proofs.lemmas.tokens.BlockCommentLoop.{start, open_at_end, closed, closed_one, opened_one, star_alone, slash_alone}
 use Rattle.rustc_lexer.proofs.lexemes.block_comment.past_comment.Goals as goal
 

@@ -1,9 +1,5 @@
-use Rattle.std.proofs.lemmas.Grind.{common_steps}
-use Rattle.std.proofs.Common.{arith, rules}
-use Rattle.std.proofs.Common.{Bool, if◌then◌else◌, sym, ap, ◌∙◌}
-use Rattle.rustc_lexer.specs.{TokenKind, Ident, UnknownPrefix}
-use Rattle.rustc_lexer.specs.Tables.{is_emoji}
-use Rattle.rustc_lexer.specs.Classes.{ends_prefix}
+use Rattle.std.proofs.{lemmas.Grind.{common_steps}, Common.{arith, rules, Bool, if◌then◌else◌, sym, ap, ◌∙◌}}
+use Rattle.rustc_lexer.specs.{TokenKind, Ident, UnknownPrefix, Tables.{is_emoji}, Classes.{ends_prefix}}
 use Rattle.rustc_lexer.proofs.lemmas.tokens.Identifiers.{ident_or_unknown_prefix-invalid, ident_or_unknown_prefix-valid}
 use Rattle.rustc_lexer.proofs.lemmas.tokens.Quick.{ident_or_unknown_prefix_ends}
 use Rattle.rustc_lexer.proofs.lexemes.ident.ident_or_unknown_prefix.Goals as goal

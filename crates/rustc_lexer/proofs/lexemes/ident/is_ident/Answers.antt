@@ -1,9 +1,6 @@
-use Rattle.std.proofs.Common.{rules, arith, ◌≡◌}
-use Rattle.std.proofs.lemmas.Grind.{common_steps}
-use Rattle.std.proofs.lemmas.Iterator.{YieldsList-from_chars}
+use Rattle.std.proofs.{Common.{rules, arith, ◌≡◌}, lemmas.{Grind.{common_steps}, Iterator.{YieldsList-from_chars}}}
 use Rattle.std.proofs.lemmas.Iterator.Search.{all_from_yields_List}
-use Rattle.std.specs.Str.{chars}
-use Rattle.std.specs.List.{list_all}
+use Rattle.std.specs.{Str.{chars}, List.{list_all}}
 use Rattle.rustc_lexer.specs.Classes.{is_id_continue}
 use Rattle.rustc_lexer.proofs.lexemes.ident.is_ident.Goals as goal
 

@@ -1,5 +1,4 @@
-use Rattle.std.proofs.lemmas.Grind.{common_steps}
-use Rattle.std.proofs.Common.{arith, rules}
+use Rattle.std.proofs.{lemmas.Grind.{common_steps}, Common.{arith, rules}}
 use Rattle.rustc_lexer.proofs.lemmas.tokens.Lifetimes.{plain_lifetime-quoted, plain_lifetime-unquoted_name}
 use Rattle.rustc_lexer.proofs.lexemes.lifetime.plain_lifetime.Goals as goal
 

@@ -1,5 +1,4 @@
-use Rattle.std.proofs.Common.{arith, rules}
-use Rattle.std.proofs.lemmas.Grind.{common_steps}
+use Rattle.std.proofs.{Common.{arith, rules}, lemmas.Grind.{common_steps}}
 use Rattle.rustc_lexer.proofs.lemmas.tokens.QuotedLoop.{stop-read, at_backslash, quoted_lemmas}
 use Rattle.rustc_lexer.proofs.lexemes.quoted.double_quoted_string.Goals as goal
 

@@ -1,6 +1,4 @@
-use Rattle.std.proofs.lemmas.Grind.{common_steps}
-use Rattle.std.proofs.Common.{rules}
-use Rattle.std.proofs.Common.{arith}
+use Rattle.std.proofs.{lemmas.Grind.{common_steps}, Common.{rules, arith}}
 use Rattle.rustc_lexer.proofs.lemmas.tokens.Raw.{search_start, search_on, search_more, may_cut, closed_here, never_closed}
 use Rattle.rustc_lexer.proofs.lexemes.raw.raw_text.Goals as goal
 

@@ -1,5 +1,4 @@
-use Rattle.std.proofs.Common.{arith, length, ◌-◌, ◌/◌, IsCharBoundary}
-use Rattle.std.proofs.lemmas.Grind.{common_steps}
+use Rattle.std.proofs.{Common.{arith, length, ◌-◌, ◌/◌, IsCharBoundary}, lemmas.Grind.{common_steps}}
 use Rattle.std.proofs.lemmas.Slice.Eq.{bytes_eq-Decides}
 use Rattle.rustc_lexer.proofs.lemmas.edits.InCommon.{back_differs, back_less, back_more, shorter}
 use Rattle.rustc_lexer.proofs.relex.common.common_back.Goals as goal

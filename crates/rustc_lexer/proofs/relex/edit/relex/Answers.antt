@@ -1,13 +1,7 @@
 use Rattle.std.proofs.Common.{◌≡◌, ◌∷◌, ◌++◌, List, ℕ, length, map, drop, take, refl, sym, ap, ◌∙◌, subst, arith, length-append, length-take-le, []}
-use Rattle.rustc_lexer.specs.declared.relex.front.TokenStart.{TokenStart}
-use Rattle.rustc_lexer.specs.declared.relex.relexing.Relexing.{Relexing}
-use Rattle.rustc_lexer.specs.{Token}
-use Rattle.rustc_lexer.specs.Classes.{IsText}
-use Rattle.rustc_lexer.specs.Tokens.{tokens_by}
-use Rattle.rustc_lexer.specs.Offsets.{IsBound}
-use Rattle.rustc_lexer.specs.Relexing.{GoesOn}
-use Rattle.rustc_lexer.proofs.lemmas.edits.FrontAndBack.{IfErr-always}
-use Rattle.rustc_lexer.proofs.lemmas.edits.ManyTokens.{block_count, front_of, more_lexed}
+use Rattle.rustc_lexer.specs.{declared.{relex.{front.TokenStart.{TokenStart}, relexing.Relexing.{Relexing}}}, Token}
+use Rattle.rustc_lexer.specs.{Classes.{IsText}, Tokens.{tokens_by}, Offsets.{IsBound}, Relexing.{GoesOn}}
+use Rattle.rustc_lexer.proofs.lemmas.edits.{FrontAndBack.{IfErr-always}, ManyTokens.{block_count, front_of, more_lexed}}
 use Rattle.rustc_lexer.proofs.lemmas.edits.UnderWay.{few_lexed}
 use Rattle.rustc_lexer.proofs.relex.edit.relex.Goals as goal
 

@@ -1,5 +1,4 @@
-use Rattle.std.proofs.Common.{arith, eqb-true, eq-eqb}
-use Rattle.std.proofs.lemmas.Grind.{common_steps}
+use Rattle.std.proofs.{Common.{arith, eqb-true, eq-eqb}, lemmas.Grind.{common_steps}}
 use Rattle.rustc_lexer.proofs.lemmas.edits.ByLengths.{as_many}
 use Rattle.rustc_lexer.proofs.relex.front.follow.Goals as goal
 

@@ -1,6 +1,5 @@
 use Rattle.std.proofs.Common.{◌≤◌, length, sym, ◌∙◌, arith}
-use Rattle.rustc_lexer.proofs.lemmas.edits.KeptFront.{kept_is}
-use Rattle.rustc_lexer.proofs.lemmas.edits.ByLengths.{as_many, next_stands, stood_before}
+use Rattle.rustc_lexer.proofs.lemmas.edits.{KeptFront.{kept_is}, ByLengths.{as_many, next_stands, stood_before}}
 use Rattle.rustc_lexer.proofs.relex.front.kept_front.Goals as goal
 
 pub loop-at-preserved : goal.loop-at-preserved

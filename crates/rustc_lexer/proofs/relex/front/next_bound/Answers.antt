@@ -1,7 +1,6 @@
 use Rattle.std.proofs.Common.{below_more, arith, ◌≡◌, ◌<◌, length}
 use Rattle.rustc_lexer.specs.Tokens.{bound}
-use Rattle.rustc_lexer.proofs.lemmas.edits.KeptFront.{bound-next}
-use Rattle.rustc_lexer.proofs.lemmas.edits.ByLengths.{as_many, as_long, no_token}
+use Rattle.rustc_lexer.proofs.lemmas.edits.{KeptFront.{bound-next}, ByLengths.{as_many, as_long, no_token}}
 use Rattle.rustc_lexer.proofs.relex.front.next_bound.Goals as goal
 
 pub loop-at-preserved : goal.loop-at-preserved

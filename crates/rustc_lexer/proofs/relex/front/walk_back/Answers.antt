@@ -1,7 +1,5 @@
-use Rattle.std.proofs.Common.{sym, ◌∙◌, arith, ◌-◌, ◌<◌, length}
-use Rattle.std.proofs.lemmas.Str.{IsCharBoundary-from_drop}
-use Rattle.rustc_lexer.proofs.lemmas.edits.Offsets.{back_is}
-use Rattle.rustc_lexer.proofs.lemmas.edits.ByLengths.{as_long, no_token, stand_alike}
+use Rattle.std.proofs.{Common.{sym, ◌∙◌, arith, ◌-◌, ◌<◌, length}, lemmas.Str.{IsCharBoundary-from_drop}}
+use Rattle.rustc_lexer.proofs.lemmas.edits.{Offsets.{back_is}, ByLengths.{as_long, no_token, stand_alike}}
 use Rattle.rustc_lexer.proofs.relex.front.walk_back.Goals as goal
 
 pub returns-then-from-tokens-clause-boundary : goal.returns-then-from-tokens-clause-boundary

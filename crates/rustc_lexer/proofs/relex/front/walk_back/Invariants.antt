@@ -1,7 +1,5 @@
 use Rattle.std.proofs.Common.{length, map, List, ℕ, ◌≤◌}
-use Rattle.rustc_lexer.specs.{Token}
-use Rattle.rustc_lexer.specs.Offsets.{IsBound}
-use Rattle.rustc_lexer.specs.means.Relexing.{IsFront}
+use Rattle.rustc_lexer.specs.{Token, Offsets.{IsBound}, means.Relexing.{IsFront}}
 use Rattle.rustc_lexer.proofs.relex.front.walk_back.Given as goal
 
 abbrev pub invariant-loop-at : goal.invariant-loop-at

@@ -1,6 +1,4 @@
-use Rattle.std.proofs.Common.{arith, ◌++◌}
-use Rattle.std.proofs.lemmas.Grind.{common_steps}
-use Rattle.std.proofs.lemmas.Str.{IsCharBoundary-at_seam, IsUtf8-append}
+use Rattle.std.proofs.{Common.{arith, ◌++◌}, lemmas.{Grind.{common_steps}, Str.{IsCharBoundary-at_seam, IsUtf8-append}}}
 use Rattle.rustc_lexer.proofs.relex.joined.append.Goals as goal
 
 pub parts-stay-requires-clause-boundary : goal.parts-stay-requires-clause-boundary

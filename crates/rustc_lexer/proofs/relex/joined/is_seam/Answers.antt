@@ -1,5 +1,4 @@
-use Rattle.std.proofs.Common.{true≢false, arith, not, sym, ap, refl, ◌∙◌}
-use Rattle.std.proofs.lemmas.Bool.{not-false}
+use Rattle.std.proofs.{Common.{true≢false, arith, not, sym, ap, refl, ◌∙◌}, lemmas.Bool.{not-false}}
 use Rattle.rustc_lexer.specs.laws.Same.{same_token, token_same}
 use Rattle.rustc_lexer.proofs.lemmas.joined.Joined.{seam_start, seam_end, seam_rises, seam_more, seam_differs}
 use Rattle.rustc_lexer.proofs.relex.joined.is_seam.Goals as goal

@@ -1,6 +1,4 @@
-use Rattle.std.proofs.Common.{arith}
-use Rattle.std.proofs.lemmas.Grind.{common_steps}
-use Rattle.std.proofs.Math.Seq.{drop-append_seam}
+use Rattle.std.proofs.{Common.{arith}, lemmas.Grind.{common_steps}, Math.Seq.{drop-append_seam}}
 use Rattle.rustc_lexer.proofs.relex.kept.lex_body.Goals as goal
 
 pub returns-clause-checkpoints : goal.returns-clause-checkpoints

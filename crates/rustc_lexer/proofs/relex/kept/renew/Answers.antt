@@ -1,14 +1,10 @@
 use Rattle.std.proofs.Common.{◌≡◌, ◌-◌, take, List, length, drop, refl, sym, ap, ap₂, ◌∙◌, arith, rules, string_bytes}
 use Rattle.std.proofs.lemmas.List.{length-map, take_rest}
-use Rattle.rustc_lexer.specs.declared.relex.relexing.Relexed.{Relexed}
-use Rattle.rustc_lexer.specs.{Token}
-use Rattle.rustc_lexer.specs.Kept.{layout_in}
+use Rattle.rustc_lexer.specs.{declared.relex.relexing.Relexed.{Relexed}, Token, Kept.{layout_in}}
 use Rattle.rustc_lexer.specs.Partition.{tokens_by, tokens_in}
 use Rattle.rustc_lexer.proofs.lemmas.edits.DocumentEdits.{bounds_move, counted_are, counted_few, made_here, made_read, near_behind, new_are, new_behind, old_behind, left_back, refused}
-use Rattle.rustc_lexer.proofs.lemmas.edits.FrontAndBack.{edited}
-use Rattle.rustc_lexer.proofs.lemmas.edits.WholeEdits.{few_by, relexed_as, steps_by}
-use Rattle.rustc_lexer.proofs.lemmas.edits.ByLengths.{made_change}
-use Rattle.rustc_lexer.proofs.lemmas.edits.UnderWay.{few_lexed}
+use Rattle.rustc_lexer.proofs.lemmas.edits.{FrontAndBack.{edited}, WholeEdits.{few_by, relexed_as, steps_by}}
+use Rattle.rustc_lexer.proofs.lemmas.edits.{ByLengths.{made_change}, UnderWay.{few_lexed}}
 use Rattle.rustc_lexer.proofs.relex.kept.renew.Goals as goal
 
 pub relex-requires-clause-change : goal.relex-requires-clause-change

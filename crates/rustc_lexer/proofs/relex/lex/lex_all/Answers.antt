@@ -1,9 +1,6 @@
 use Rattle.std.proofs.Common.{◌≡◌, ◌+◌, ◌-◌, ◌≤◌, List, [], ◌++◌, length, length-append, length-drop, drop, take, refl, sym, ap, ◌∙◌, subst, arith, rules, append_assoc}
-use Rattle.std.proofs.lemmas.Grind.{common_steps}
-use Rattle.std.proofs.lemmas.List.{append-nil, drop-append-le, drop_all}
-use Rattle.rustc_lexer.specs.{Token}
-use Rattle.rustc_lexer.specs.Tokens.{bound, tokens_by}
-use Rattle.rustc_lexer.specs.Classes.{IsText}
+use Rattle.std.proofs.lemmas.{Grind.{common_steps}, List.{append-nil, drop-append-le, drop_all}}
+use Rattle.rustc_lexer.specs.{Token, Tokens.{bound, tokens_by}, Classes.{IsText}}
 use Rattle.rustc_lexer.proofs.lemmas.edits.ManyTokens.{block_more}
 use Rattle.rustc_lexer.proofs.lemmas.tokens.Progress.{IsLexedTo, lexed_offset, lexed_whole}
 use Rattle.rustc_lexer.proofs.relex.lex.lex_all.Goals as goal

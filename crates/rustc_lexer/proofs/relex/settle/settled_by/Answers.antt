@@ -1,6 +1,4 @@
-use Rattle.std.proofs.Common.{sym, ◌∙◌, refl, arith}
-use Rattle.std.proofs.Common.{rules}
-use Rattle.std.proofs.lemmas.Grind.{common_steps}
+use Rattle.std.proofs.{Common.{sym, ◌∙◌, refl, arith, rules}, lemmas.Grind.{common_steps}}
 use Rattle.rustc_lexer.specs.Classes.{IsText}
 use Rattle.rustc_lexer.proofs.lemmas.tokens.Progress.{lexed_offset, stepped}
 use Rattle.rustc_lexer.proofs.lemmas.edits.Settled.{sure_next, sure_stop, next_boundary}

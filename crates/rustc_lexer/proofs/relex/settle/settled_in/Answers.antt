@@ -1,8 +1,5 @@
 use Rattle.std.proofs.Common.{List, ℕ, ap, subst}
-use Rattle.rustc_lexer.specs.{Token}
-use Rattle.rustc_lexer.specs.Locality.{IsSettled}
-use Rattle.rustc_lexer.specs.Tokens.{tokens_by}
-use Rattle.rustc_lexer.specs.laws.Edition.{edition_grammar}
+use Rattle.rustc_lexer.specs.{Token, Locality.{IsSettled}, Tokens.{tokens_by}, laws.Edition.{edition_grammar}}
 use Rattle.rustc_lexer.proofs.lemmas.edits.Settled.{stays}
 use Rattle.rustc_lexer.proofs.relex.settle.settled_in.Goals as goal
 

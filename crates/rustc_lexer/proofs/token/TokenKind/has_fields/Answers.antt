@@ -1,8 +1,5 @@
-use Rattle.std.proofs.Common.{◌≡◌, ◌<◌, ◌/◌, ◌^◌, ℕ, nat_eq, bit_and, arith, ap, ◌∙◌}
-use Rattle.std.proofs.lemmas.Grind.{common_steps}
-use Rattle.rustc_lexer.specs.{TokenKind}
-use Rattle.rustc_lexer.specs.declared.token.TheConstants.{WITH_FIELDS}
-use Rattle.rustc_lexer.specs.Kinds.{has_fields, kind_entry}
+use Rattle.std.proofs.{Common.{◌≡◌, ◌<◌, ◌/◌, ◌^◌, ℕ, nat_eq, bit_and, arith, ap, ◌∙◌}, lemmas.Grind.{common_steps}}
+use Rattle.rustc_lexer.specs.{TokenKind, declared.token.TheConstants.{WITH_FIELDS}, Kinds.{has_fields, kind_entry}}
 use Rattle.rustc_lexer.proofs.token.TokenKind.has_fields.Goals as goal
 
 small : (kind : TokenKind) → (kind_entry kind).0 < 64

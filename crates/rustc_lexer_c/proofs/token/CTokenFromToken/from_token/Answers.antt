@@ -1,7 +1,5 @@
-use Rattle.std.proofs.Common.{◌≡◌, ◌∙◌, ℕ, false, arith, sym}
-use Rattle.std.proofs.lemmas.Grind.{common_steps}
-use Rattle.rustc_lexer.specs.declared.token.TokenKind.{TokenKind}
-use Rattle.rustc_lexer.specs.Kinds.{has_fields, kind_entry}
+use Rattle.std.proofs.{Common.{◌≡◌, ◌∙◌, ℕ, false, arith, sym}, lemmas.Grind.{common_steps}}
+use Rattle.rustc_lexer.specs.{declared.token.TokenKind.{TokenKind}, Kinds.{has_fields, kind_entry}}
 use Rattle.rustc_lexer_c.specs.declared.token.CToken.{CToken}
 use Rattle.rustc_lexer_c.specs.Numbers.{first_of as first_byte, second_of, third_of, token_numbers}
 use Rattle.rustc_lexer_c.proofs.token.CTokenFromToken.from_token.Goals as goal

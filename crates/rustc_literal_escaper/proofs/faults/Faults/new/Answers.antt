@@ -1,10 +1,6 @@
-use Rattle.std.proofs.Common.{sym, List, arith, ◌++◌, ap, ◌∙◌}
-use Rattle.std.proofs.lemmas.Bool.{cond-true}
-use Rattle.std.proofs.lemmas.List.{append-nil}
+use Rattle.std.proofs.{Common.{sym, List, arith, ◌++◌, ap, ◌∙◌}, lemmas.{Bool.{cond-true}, List.{append-nil}}}
 use Rattle.std.specs.Str.{chars}
-use Rattle.rustc_literal_escaper.specs.means.Elements.{items_from}
-use Rattle.rustc_literal_escaper.specs.Grammar.{Item}
-use Rattle.rustc_literal_escaper.specs.Meaning.{errors_in, is_single}
+use Rattle.rustc_literal_escaper.specs.{means.Elements.{items_from}, Grammar.{Item}, Meaning.{errors_in, is_single}}
 use Rattle.rustc_literal_escaper.proofs.AnswerLemmas.{errors_of-read}
 use Rattle.rustc_literal_escaper.proofs.faults.Faults.new.Goals as goal
 use Rattle.std.specs.Option.{option_to_list}

@@ -1,7 +1,5 @@
 use Rattle.std.proofs.Common.{◌≡◌, ◌+◌, ◌<◌, List, ℕ, length, drop, ap, ◌∙◌, arith}
-use Rattle.rustc_lexer.specs.{Token}
-use Rattle.rustc_lexer.specs.Classes.{IsText}
-use Rattle.rustc_lexer.specs.Tokens.{tokens_by}
+use Rattle.rustc_lexer.specs.{Token, Classes.{IsText}, Tokens.{tokens_by}}
 use Rattle.rustc_lexer.proofs.lemmas.tokens.Buffers.{begun_more, one_written, stands, next_token, next_offset}
 use Rattle.rustc_lexer.proofs.lemmas.tokens.Progress.{stepped}
 use Rattle.rustc_lexer.proofs.entry.stepper.Stepper.fill.Goals as goal

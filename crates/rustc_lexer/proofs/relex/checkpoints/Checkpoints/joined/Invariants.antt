@@ -1,6 +1,5 @@
 use Rattle.std.proofs.Common.{List}
-use Rattle.rustc_lexer.specs.{Token}
-use Rattle.rustc_lexer.specs.means.Checkpoints.{AreBounds}
+use Rattle.rustc_lexer.specs.{Token, means.Checkpoints.{AreBounds}}
 use Rattle.rustc_lexer.proofs.relex.checkpoints.Checkpoints.joined.Given as goal
 
 abbrev pub invariant-loop-bound : goal.invariant-loop-bound

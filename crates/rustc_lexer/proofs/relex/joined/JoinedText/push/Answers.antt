@@ -1,12 +1,8 @@
-use Rattle.std.proofs.Common.{◌≡◌, arith, subst, string_bytes, chars, List, ℕ}
-use Rattle.std.proofs.lemmas.Grind.{common_steps}
+use Rattle.std.proofs.{Common.{arith, subst, string_bytes, chars, List, ℕ}, lemmas.Grind.{common_steps}}
 use Rattle.std.proofs.lemmas.Str.{IsUtf8-string_bytes}
-use Rattle.rustc_lexer.specs.Answers.{first_in, tokens_of}
-use Rattle.rustc_lexer.specs.Joined.{AreClosed, AreInseparable, Joined, RunsOn}
-use Rattle.rustc_lexer.specs.LanguageText.{part}
-use Rattle.rustc_lexer.specs.means.Joined.{IsSure}
-use Rattle.rustc_lexer.proofs.lemmas.joined.Sure.{grown, joined-only}
-use Rattle.rustc_lexer.proofs.lemmas.joined.Separators.{runs-on}
+use Rattle.rustc_lexer.specs.{Answers.{first_in, tokens_of}, Joined.{AreClosed, AreInseparable, Joined, RunsOn}}
+use Rattle.rustc_lexer.specs.{LanguageText.{part}, means.Joined.{IsSure}}
+use Rattle.rustc_lexer.proofs.lemmas.joined.{Sure.{grown, joined-only}, Separators.{runs-on}}
 use Rattle.rustc_lexer.proofs.relex.joined.JoinedText.push.Goals as goal
 
 pub returns-then-not-append_separated-clause-closed : goal.returns-then-not-append_separated-clause-closed

@@ -1,6 +1,4 @@
-use Rattle.std.proofs.Common.{arith, length-take}
-use Rattle.std.proofs.lemmas.Grind.{common_steps}
-use Rattle.std.proofs.lemmas.Str.{IsUtf8-string_bytes}
+use Rattle.std.proofs.{Common.{arith, length-take}, lemmas.{Grind.{common_steps}, Str.{IsUtf8-string_bytes}}}
 use Rattle.rustc_lexer.proofs.relex.joined.JoinedText.truncate.Goals as goal
 
 pub invariant_of-self : goal.invariant_of-self

@@ -1,6 +1,5 @@
 use Rattle.std.proofs.Common.{◌-◌, length, ap, arith, refl, string_bytes}
-use Rattle.rustc_lexer.proofs.lemmas.edits.Bounds.{bound_mono}
-use Rattle.rustc_lexer.proofs.lemmas.edits.KeptBounds.{end_seen, none_past, start_seen}
+use Rattle.rustc_lexer.proofs.lemmas.edits.{Bounds.{bound_mono}, KeptBounds.{end_seen, none_past, start_seen}}
 use Rattle.rustc_lexer.proofs.lemmas.edits.Offsets.{begun, not_begun}
 use Rattle.rustc_lexer.proofs.relex.lexed.Lexed.begun_before.Goals as goal
 

@@ -1,12 +1,8 @@
-use Rattle.std.proofs.Common.{◌≡◌, List, ℕ, slice_range, string_bytes, refl, sym, ◌∙◌, subst, arith, Err}
-use Rattle.std.proofs.Common.{rules}
+use Rattle.std.proofs.Common.{◌≡◌, List, ℕ, slice_range, string_bytes, refl, sym, ◌∙◌, subst, arith, Err, rules}
 use Rattle.std.proofs.lemmas.Grind.{common_steps}
-use Rattle.rustc_lexer.specs.declared.relex.relexing.Change.{Change}
-use Rattle.rustc_lexer.specs.Relexing.{IsEditOf}
-use Rattle.rustc_lexer.specs.Edits.{IsEdit, apply}
+use Rattle.rustc_lexer.specs.{declared.relex.relexing.Change.{Change}, Relexing.{IsEditOf}, Edits.{IsEdit, apply}}
 use Rattle.rustc_lexer.specs.Kept.{IsEdited, layout_in}
-use Rattle.rustc_lexer.proofs.lemmas.edits.FrontAndBack.{edited, put_back}
-use Rattle.rustc_lexer.proofs.lemmas.edits.DocumentEdits.{few_none, put_by, refused}
+use Rattle.rustc_lexer.proofs.lemmas.edits.{FrontAndBack.{edited, put_back}, DocumentEdits.{few_none, put_by, refused}}
 use Rattle.rustc_lexer.proofs.lemmas.edits.ByLengths.{made_change}
 use Rattle.rustc_lexer.proofs.relex.lexed.Lexed.edit.Goals as goal
 

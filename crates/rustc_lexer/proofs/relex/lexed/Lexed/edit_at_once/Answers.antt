@@ -1,9 +1,7 @@
 use Rattle.std.proofs.Common.{◌≡◌, ◌-◌, [], Ok, Err, length, rules, string_bytes, arith, refl, sym, ap, ◌∙◌, subst}
 use Rattle.std.proofs.lemmas.Grind.{common_steps}
-use Rattle.rustc_lexer.specs.declared.relex.edit_list.EditStop.{EditStop}
-use Rattle.rustc_lexer.specs.declared.relex.edit_list.EditStop.TheVariants.{Memory}
-use Rattle.rustc_lexer.specs.Edits.{start_of_first, stop_of_last, with_all}
-use Rattle.rustc_lexer.specs.Kept.{IsEdited, layout_in}
+use Rattle.rustc_lexer.specs.declared.relex.edit_list.EditStop.{EditStop, TheVariants.{Memory}}
+use Rattle.rustc_lexer.specs.{Edits.{start_of_first, stop_of_last, with_all}, Kept.{IsEdited, layout_in}}
 use Rattle.rustc_lexer.proofs.lemmas.edits.AtOnce.{at_once_none, none_by_one, one_by_one, put_at_once}
 use Rattle.rustc_lexer.proofs.lemmas.edits.DocumentEdits.{few_none, made_as, refused}
 use Rattle.rustc_lexer.proofs.relex.lexed.Lexed.edit_at_once.Goals as goal

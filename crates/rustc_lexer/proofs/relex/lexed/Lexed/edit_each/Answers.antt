@@ -1,5 +1,4 @@
-use Rattle.std.proofs.Common.{arith, take_all}
-use Rattle.std.proofs.lemmas.Grind.{common_steps}
+use Rattle.std.proofs.{Common.{arith, take_all}, lemmas.Grind.{common_steps}}
 use Rattle.rustc_lexer.proofs.lemmas.edits.Lists.{kept_through}
 use Rattle.rustc_lexer.proofs.relex.lexed.Lexed.edit_each.Goals as goal
 

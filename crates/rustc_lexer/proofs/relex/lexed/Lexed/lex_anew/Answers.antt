@@ -1,5 +1,4 @@
-use Rattle.std.proofs.Common.{rules, arith}
-use Rattle.std.proofs.lemmas.Grind.{common_steps}
+use Rattle.std.proofs.{Common.{rules, arith}, lemmas.Grind.{common_steps}}
 use Rattle.rustc_lexer.proofs.lemmas.edits.Heads.{all_are}
 use Rattle.rustc_lexer.proofs.relex.lexed.Lexed.lex_anew.Goals as goal
 

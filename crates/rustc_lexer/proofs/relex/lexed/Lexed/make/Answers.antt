@@ -1,8 +1,5 @@
-use Rattle.std.proofs.Common.{rules, List, ℕ, refl, subst, get_or}
-use Rattle.std.proofs.Common.{arith}
-use Rattle.std.proofs.lemmas.Grind.{common_steps}
-use Rattle.rustc_lexer.specs.declared.relex.edit_list.EditStop.TheVariants.{Range, TooLong}
-use Rattle.rustc_lexer.specs.Edits.{IsRefusedOn}
+use Rattle.std.proofs.{Common.{rules, List, ℕ, refl, subst, get_or, arith}, lemmas.Grind.{common_steps}}
+use Rattle.rustc_lexer.specs.{declared.relex.edit_list.EditStop.TheVariants.{Range, TooLong}, Edits.{IsRefusedOn}}
 use Rattle.rustc_lexer.proofs.lemmas.edits.Lists.{none, kept_more, kept_none, kept_refused, made_more, made_none, made_refused, made_stop}
 use Rattle.rustc_lexer.proofs.relex.lexed.Lexed.make.Goals as goal
 

@@ -1,6 +1,5 @@
 use Rattle.std.proofs.Common.{length, ◌-◌}
-use Rattle.rustc_lexer.specs.Kept.{layout_in}
-use Rattle.rustc_lexer.specs.means.EditList.{AreKeptTo, AreMadeTo}
+use Rattle.rustc_lexer.specs.{Kept.{layout_in}, means.EditList.{AreKeptTo, AreMadeTo}}
 use Rattle.rustc_lexer.proofs.relex.lexed.Lexed.make.Given as goal
 
 abbrev pub invariant-list : goal.invariant-list

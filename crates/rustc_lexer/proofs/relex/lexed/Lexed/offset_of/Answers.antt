@@ -1,9 +1,6 @@
-use Rattle.std.proofs.Common.{◌≡◌, List, slice_range, refl, ap, ◌∙◌, arith, string_bytes}
-use Rattle.std.proofs.Common.{rules}
-use Rattle.rustc_lexer.specs.{Token}
-use Rattle.rustc_lexer.specs.Tokens.{bound}
-use Rattle.rustc_lexer.proofs.lemmas.edits.KeptBounds.{fits_seen}
-use Rattle.rustc_lexer.proofs.lemmas.edits.Pieces.{bound-part}
+use Rattle.std.proofs.Common.{◌≡◌, List, slice_range, refl, ap, ◌∙◌, arith, string_bytes, rules}
+use Rattle.rustc_lexer.specs.{Token, Tokens.{bound}}
+use Rattle.rustc_lexer.proofs.lemmas.edits.{KeptBounds.{fits_seen}, Pieces.{bound-part}}
 use Rattle.rustc_lexer.proofs.relex.lexed.Lexed.offset_of.Goals as goal
 
 pub overflow_cast-start : goal.overflow_cast-start

@@ -1,5 +1,4 @@
-use Rattle.std.proofs.Common.{length, refl, ap, ◌∙◌, arith, string_bytes}
-use Rattle.std.proofs.lemmas.Grind.{common_steps}
+use Rattle.std.proofs.{Common.{length, refl, ap, ◌∙◌, arith, string_bytes}, lemmas.Grind.{common_steps}}
 use Rattle.rustc_lexer.proofs.lemmas.edits.KeptBounds.{kept_cuts, cut_seen, fits_seen}
 use Rattle.rustc_lexer.proofs.lemmas.edits.Pieces.{cut_part, piece_is, piece_some}
 use Rattle.rustc_lexer.proofs.relex.lexed.Lexed.piece_at.Goals as goal

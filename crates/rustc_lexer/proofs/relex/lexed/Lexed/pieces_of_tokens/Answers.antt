@@ -1,5 +1,4 @@
-use Rattle.std.proofs.lemmas.Grind.{common_steps}
-use Rattle.std.proofs.Common.{rules}
+use Rattle.std.proofs.{lemmas.Grind.{common_steps}, Common.{rules}}
 use Rattle.std.proofs.Common.{ap, ◌∙◌, arith, length-drop, length-take-le, string_bytes}
 use Rattle.rustc_lexer.proofs.lemmas.edits.KeptBounds.{cut_seen, start_seen}
 use Rattle.rustc_lexer.proofs.lemmas.edits.Pieces.{cut_part, length-pieces, pieces-part}

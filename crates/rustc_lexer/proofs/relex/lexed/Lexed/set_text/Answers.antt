@@ -1,8 +1,6 @@
-use Rattle.std.proofs.Common.{◌-◌, ◌∙◌, List, ℕ, length, subst, rules}
-use Rattle.std.proofs.Math.Seq.{take-length}
+use Rattle.std.proofs.{Common.{◌-◌, ◌∙◌, List, ℕ, length, subst, rules}, Math.Seq.{take-length}}
 use Rattle.rustc_lexer.specs.Edits.{IsNarrowest}
-use Rattle.rustc_lexer.proofs.lemmas.edits.InCommon.{narrowest}
-use Rattle.rustc_lexer.proofs.lemmas.edits.FrontAndBack.{OnOk-map}
+use Rattle.rustc_lexer.proofs.lemmas.edits.{InCommon.{narrowest}, FrontAndBack.{OnOk-map}}
 use Rattle.rustc_lexer.proofs.relex.lexed.Lexed.set_text.Goals as goal
 
 pub returns : goal.returns

@@ -1,7 +1,5 @@
-use Rattle.std.proofs.Common.{length, ap, ◌∙◌, arith, string_bytes}
-use Rattle.std.proofs.lemmas.Grind.{common_steps}
-use Rattle.rustc_lexer.proofs.lemmas.edits.KeptBounds.{end_seen, fits_seen, start_seen}
-use Rattle.rustc_lexer.proofs.lemmas.edits.Offsets.{answered}
+use Rattle.std.proofs.{Common.{length, ap, ◌∙◌, arith, string_bytes}, lemmas.Grind.{common_steps}}
+use Rattle.rustc_lexer.proofs.lemmas.edits.{KeptBounds.{end_seen, fits_seen, start_seen}, Offsets.{answered}}
 use Rattle.rustc_lexer.proofs.relex.lexed.Lexed.token_start_at.Goals as goal
 
 pub token_around-requires-clause-near : goal.token_around-requires-clause-near

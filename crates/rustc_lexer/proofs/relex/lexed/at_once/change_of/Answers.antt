@@ -1,5 +1,4 @@
-use Rattle.std.proofs.Common.{◌≤◌, ◌+◌, List, get_or, take, take_all, arith, refl, sym}
-use Rattle.std.proofs.lemmas.Grind.{common_steps}
+use Rattle.std.proofs.{Common.{◌≤◌, ◌+◌, List, get_or, take, take_all, arith, refl, sym}, lemmas.Grind.{common_steps}}
 use Rattle.std.proofs.lemmas.List.{take_more}
 use Rattle.rustc_lexer.specs.declared.relex.edit.Edit.{Edit}
 use Rattle.std.proofs.lemmas.Str.{IsCharBoundary-start, IsUtf8-nil}

@@ -1,6 +1,4 @@
-use Rattle.std.proofs.Common.{arith}
-use Rattle.std.proofs.lemmas.Grind.{common_steps}
-use Rattle.std.proofs.lemmas.Str.{IsCharBoundary-start}
+use Rattle.std.proofs.{Common.{arith}, lemmas.{Grind.{common_steps}, Str.{IsCharBoundary-start}}}
 use Rattle.rustc_lexer.proofs.relex.lexed.at_once.made.Goals as goal
 
 pub loop-edit-init : goal.loop-edit-init

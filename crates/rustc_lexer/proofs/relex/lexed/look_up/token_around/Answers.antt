@@ -1,5 +1,4 @@
-use Rattle.std.proofs.Common.{◌^◌, arith}
-use Rattle.std.proofs.Common.{rules}
+use Rattle.std.proofs.Common.{◌^◌, arith, rules}
 use Rattle.rustc_lexer.proofs.lemmas.edits.Offsets.{ahead_fits, ahead_is, back_is, back_le, ends_past, some_before}
 use Rattle.rustc_lexer.proofs.relex.lexed.look_up.token_around.Goals as goal
 

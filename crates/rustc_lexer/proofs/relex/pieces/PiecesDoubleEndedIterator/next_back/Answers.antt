@@ -1,5 +1,4 @@
-use Rattle.std.proofs.Common.{sym, ◌∙◌, arith, length-append}
-use Rattle.std.proofs.lemmas.Grind.{common_steps}
+use Rattle.std.proofs.{Common.{sym, ◌∙◌, arith, length-append}, lemmas.Grind.{common_steps}}
 use Rattle.rustc_lexer.proofs.lemmas.edits.Pieces.{cut_edges, cut_front, last_piece}
 use Rattle.rustc_lexer.proofs.relex.pieces.PiecesDoubleEndedIterator.next_back.Goals as goal
 

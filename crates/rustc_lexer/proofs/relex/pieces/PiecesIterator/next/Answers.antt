@@ -1,5 +1,4 @@
-use Rattle.std.proofs.Common.{arith}
-use Rattle.std.proofs.lemmas.Grind.{common_steps}
+use Rattle.std.proofs.{Common.{arith}, lemmas.Grind.{common_steps}}
 use Rattle.rustc_lexer.proofs.lemmas.edits.Pieces.{cut_edges, cut_tail}
 use Rattle.rustc_lexer.proofs.relex.pieces.PiecesIterator.next.Goals as goal
 

@@ -1,5 +1,4 @@
-use Rattle.std.proofs.Common.{◌+◌, ◌<◌, ◌^◌, ◌≡◌, arith, rules}
-use Rattle.std.proofs.lemmas.Grind.{common_steps}
+use Rattle.std.proofs.{Common.{◌+◌, ◌<◌, ◌^◌, ◌≡◌, arith, rules}, lemmas.Grind.{common_steps}}
 use Rattle.rustc_lexer.specs.Edits.{count_after}
 use Rattle.rustc_lexer.proofs.lemmas.edits.Lists.{kept_then}
 use Rattle.rustc_lexer.proofs.relex.relexing.Relexed.then.Goals as goal

@@ -1,6 +1,5 @@
 use Rattle.rustc_lexer.specs.Tokens.{tokens_by}
-use Rattle.rustc_lexer.proofs.lemmas.edits.ByLengths.{follows, made_front}
-use Rattle.rustc_lexer.proofs.lemmas.edits.UnderWay.{begun, front_below}
+use Rattle.rustc_lexer.proofs.lemmas.edits.{ByLengths.{follows, made_front}, UnderWay.{begun, front_below}}
 use Rattle.rustc_lexer.proofs.relex.relexing.Relexing.begin.Goals as goal
 
 pub returns-clause-under_way : goal.returns-clause-under_way

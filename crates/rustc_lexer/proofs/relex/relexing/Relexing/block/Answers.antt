@@ -1,9 +1,6 @@
 use Rattle.std.proofs.Common.{◌≡◌, ◌+◌, ◌-◌, List, ℕ, length, drop, refl, ap, ◌∙◌, subst, arith}
-use Rattle.rustc_lexer.specs.declared.relex.relexing.Relexing.{Relexing}
-use Rattle.rustc_lexer.specs.{Token}
-use Rattle.rustc_lexer.specs.Classes.{IsText}
-use Rattle.rustc_lexer.specs.Tokens.{IsFilledTo, bound, tokens_by}
-use Rattle.rustc_lexer.specs.Relexing.{TakesSteps}
+use Rattle.rustc_lexer.specs.{declared.relex.relexing.Relexing.{Relexing}, Token, Classes.{IsText}}
+use Rattle.rustc_lexer.specs.{Tokens.{IsFilledTo, bound, tokens_by}, Relexing.{TakesSteps}}
 use Rattle.rustc_lexer.proofs.lemmas.edits.ManyTokens.{block_boundary, block_count, block_inside, some_filled}
 use Rattle.rustc_lexer.proofs.lemmas.edits.ByLengths.{follows, not_over}
 use Rattle.rustc_lexer.proofs.lemmas.edits.UnderWay.{below_later, goes_on, left_at, none_between}

@@ -1,8 +1,5 @@
-use Rattle.std.proofs.Common.{ap, subst, sym, ◌-◌, ◌∙◌, List, ℕ, length}
-use Rattle.std.proofs.lemmas.List.{length-map}
-use Rattle.rustc_lexer.specs.declared.relex.relexing.Relexed.{Relexed}
-use Rattle.rustc_lexer.specs.Edits.{IsRelexed, part_by}
-use Rattle.rustc_lexer.specs.Tokens.{tokens_by}
+use Rattle.std.proofs.{Common.{ap, subst, sym, ◌-◌, ◌∙◌, List, ℕ, length}, lemmas.List.{length-map}}
+use Rattle.rustc_lexer.specs.{declared.relex.relexing.Relexed.{Relexed}, Edits.{IsRelexed, part_by}, Tokens.{tokens_by}}
 use Rattle.rustc_lexer.proofs.lemmas.edits.UnderWay.{counts_met}
 use Rattle.rustc_lexer.proofs.relex.relexing.Relexing.counts.Goals as goal
 

@@ -1,14 +1,9 @@
-use Rattle.std.proofs.lemmas.Grind.{common_steps}
-use Rattle.std.proofs.Common.{rules}
-use Rattle.std.proofs.Common.{◌≡◌, List, ℕ, drop, map, inl, inr, sym, ap, subst, ◌∙◌, arith}
-use Rattle.std.proofs.lemmas.Bool.{cases_lt}
-use Rattle.rustc_lexer.specs.{Token}
-use Rattle.rustc_lexer.specs.Classes.{IsText}
-use Rattle.rustc_lexer.specs.Relexing.{IsMadeOf, IsUnderWay, TakesSteps, is_over}
+use Rattle.std.proofs.{lemmas.Grind.{common_steps}, Common.{rules}}
+use Rattle.std.proofs.{Common.{◌≡◌, List, ℕ, drop, map, inl, inr, sym, ap, subst, ◌∙◌, arith}, lemmas.Bool.{cases_lt}}
+use Rattle.rustc_lexer.specs.{Token, Classes.{IsText}, Relexing.{IsMadeOf, IsUnderWay, TakesSteps, is_over}}
 use Rattle.rustc_lexer.specs.Tokens.{tokens_by}
 use Rattle.rustc_lexer.proofs.lemmas.tokens.Buffers.{none_written, one_written}
-use Rattle.rustc_lexer.proofs.lemmas.edits.ManyTokens.{next_left, no_step, step_more}
-use Rattle.rustc_lexer.proofs.lemmas.edits.UnderWay.{left_at}
+use Rattle.rustc_lexer.proofs.lemmas.edits.{ManyTokens.{next_left, no_step, step_more}, UnderWay.{left_at}}
 use Rattle.rustc_lexer.proofs.relex.relexing.Relexing.fill.Goals as goal
 
 pub places-init : goal.places-init

@@ -1,6 +1,5 @@
 use Rattle.std.proofs.Common.{◌≡◌, ◌+◌, ◌-◌, ◌<◌, List, ℕ, drop, false, length, map}
-use Rattle.rustc_lexer.specs.Tokens.{tokens_by}
-use Rattle.rustc_lexer.specs.Relexing.{IsMadeOf, IsUnderWay, MayGoOn, TakesSteps, is_over}
+use Rattle.rustc_lexer.specs.{Tokens.{tokens_by}, Relexing.{IsMadeOf, IsUnderWay, MayGoOn, TakesSteps, is_over}}
 use Rattle.rustc_lexer.proofs.lemmas.tokens.Buffers.{IsWritten}
 use Rattle.rustc_lexer.proofs.relex.relexing.Relexing.fill.Given as goal
 

@@ -1,10 +1,7 @@
-use Rattle.std.proofs.lemmas.Grind.{common_steps}
-use Rattle.std.proofs.Common.{rules}
+use Rattle.std.proofs.{lemmas.Grind.{common_steps}, Common.{rules}}
 use Rattle.std.proofs.Common.{ap, sym, refl, ◌∙◌, arith, ℕ, ◌+◌, length, length-drop}
-use Rattle.rustc_lexer.specs.Tokens.{tokens_by}
-use Rattle.rustc_lexer.specs.Classes.{IsText}
-use Rattle.rustc_lexer.proofs.lemmas.edits.ManyTokens.{one_step}
-use Rattle.rustc_lexer.proofs.lemmas.edits.ByLengths.{follows, not_over, step_offset}
+use Rattle.rustc_lexer.specs.{Tokens.{tokens_by}, Classes.{IsText}}
+use Rattle.rustc_lexer.proofs.lemmas.edits.{ManyTokens.{one_step}, ByLengths.{follows, not_over, step_offset}}
 use Rattle.rustc_lexer.proofs.lemmas.edits.UnderWay.{below_later, gives_next, goes_on}
 use Rattle.rustc_lexer.proofs.relex.relexing.Relexing.next.Goals as goal
 

@@ -1,5 +1,4 @@
-use Rattle.std.proofs.lemmas.Grind.{common_steps}
-use Rattle.std.proofs.Common.{rules, arith}
+use Rattle.std.proofs.{lemmas.Grind.{common_steps}, Common.{rules, arith}}
 use Rattle.rustc_lexer.proofs.lemmas.edits.Heads.{is_page, start_inside}
 use Rattle.rustc_lexer.proofs.relex.lexed.document.Lexed+S+Whole.shebang_len.Goals as goal
 

@@ -1,5 +1,4 @@
-use Rattle.std.proofs.lemmas.Grind.{common_steps}
-use Rattle.std.proofs.Common.{arith}
+use Rattle.std.proofs.{lemmas.Grind.{common_steps}, Common.{arith}}
 use Rattle.rustc_lexer.proofs.lemmas.edits.Heads.{edition_are}
 use Rattle.rustc_lexer.proofs.relex.lexed.in_edition.Lexed+Steps+E.edition.Goals as goal
 

@@ -1,11 +1,7 @@
 use Rattle.std.proofs.Common.{List, ◌≡◌, length, map, refl, sym, ◌∙◌, subst, arith}
-use Rattle.rustc_lexer.specs.{Token}
-use Rattle.rustc_lexer.specs.Classes.{IsText}
-use Rattle.rustc_lexer.specs.Locality.{IsSettled}
-use Rattle.rustc_lexer.specs.Tokens.{tokens_by}
+use Rattle.rustc_lexer.specs.{Token, Classes.{IsText}, Locality.{IsSettled}, Tokens.{tokens_by}}
 use Rattle.rustc_lexer.specs.means.Relexing.{IsFront}
-use Rattle.rustc_lexer.proofs.lemmas.edits.Settled.{settled_at, stays}
-use Rattle.rustc_lexer.proofs.lemmas.edits.Bounds.{bound-last, cuts}
+use Rattle.rustc_lexer.proofs.lemmas.edits.{Settled.{settled_at, stays}, Bounds.{bound-last, cuts}}
 use Rattle.rustc_lexer.proofs.relex.lexed.stream.Lexed+S+Part.settled.Goals as goal
 
 pub returns-clause-settled : goal.returns-clause-settled
