@@ -1,13 +1,13 @@
 -- What is shown of a text after an edit.
 use Rattle.std.proofs.Common.{◌≡◌, ℕ, zero, suc, ◌+◌, ◌-◌, ◌<◌, ◌≤◌, true, List, [], ◌∷◌, ◌++◌, length, map, take, drop, refl, sym, ap, subst, ◌∙◌, arith, drop-drop, take-take, take-append-drop, length-take-le, IsUtf8, Result, Ok, Err, IfOk, OnOk}
 use Rattle.std.proofs.lemmas.{Grind.{common_steps}, List.{drop-take}}
-use Rattle.rustc_lexer.specs.declared.{relex.relexing.Relexed.{Relexed}, token.Token.{Token}}
-use Rattle.rustc_lexer.specs.{Tokens.{bound, tokens_by}, Edits.{IsEdit, IsRelexed, apply, part_by}}
-use Rattle.rustc_lexer.specs.{Kept.{Placed, pieces_from}, means.Relexing.{IsBodyMeeting, kept_front}}
+use Rattle.rustc_lexer.specs.declared.{relex.relexing.{Change.{Change}, Relexed.{Relexed}}, token.Token.{Token}}
+use Rattle.rustc_lexer.specs.{Tokens.{bound, tokens_by}, Edits.{IsEdit, IsMeeting, IsRelexed, apply, part_by}}
+use Rattle.rustc_lexer.specs.{Kept.{Placed, pieces_from}, Relexing.{IsEditOf}, means.Relexing.{kept_front}}
 use Rattle.rustc_lexer.specs.{Locality.{has_two, IsGrammar}, Classes.{IsText}}
-use Rattle.rustc_lexer.proofs.lemmas.edits.FrontAndBack.{IsEdited, edited, has_two-before, bound-take, met_rest, same_rest}
-use Rattle.rustc_lexer.proofs.lemmas.edits.{Layouts.{body_by_part}, Pieces.{drop-pieces, length-pieces, take-pieces}}
-use Rattle.rustc_lexer.proofs.lemmas.edits.OneAnswer.{front_same, kept_two}
+use Rattle.rustc_lexer.proofs.lemmas.edits.FrontAndBack.{edited, has_two-before, bound-take, met_rest, same_rest}
+use Rattle.rustc_lexer.proofs.lemmas.edits.{Bounds.{cuts}, KeptFront.{kept_few, kept_tells}}
+use Rattle.rustc_lexer.proofs.lemmas.edits.{OneAnswer.{front_same}, Pieces.{drop-pieces, length-pieces, take-pieces}}
 use Rattle.examples.specs.Repaint.{changed, moved, shown_after}
 
 -- ---- the pieces of two texts
@@ -50,8 +50,14 @@ module _ {first : List ℕ → Token} (law : IsGrammar first) (text : List ℕ) 
   abbrev kept : ℕ
   kept = kept_front text old start
 
-  ed : IsEdited text start stop insert new_text
-  ed = edited text start stop insert is its edit
+  abbrev change : Change
+  change = record { start = start; old_stop = stop; new_stop = start + length insert }
+
+  of_edit : IsEditOf text change insert new_text
+  of_edit = record { is_text = is; inserted = its; is_edit = edit; made = refl; new_stop = refl }
+
+  few : kept ≤ length old
+  few = kept_few text old start is.utf8 (cuts law text is)
 
   abbrev shown : List Placed
   shown = pieces_from text 0 old
@@ -61,34 +67,35 @@ module _ {first : List ℕ → Token} (law : IsGrammar first) (text : List ℕ) 
 
   front_shown : take kept to_show ≡ take kept shown
   front_shown =
-      let two = kept_two law text is start stop insert its edit in
-      let long : length (take kept old) ≡ kept = length-take-le kept old two.0 in
+      let two = (kept_tells text old start is.utf8 (cuts law text is) kept few).1 (omega arith) in
+      let long : length (take kept old) ≡ kept = length-take-le kept old few in
       let end : bound (take kept old) (length (take kept old)) ≡ bound old kept = ap (bound (take kept old)) long ∙ bound-take kept old in
-      let early : bound old kept ≤ start = kept_before text start old kept two.1 in
-      cc (take-pieces new_text 0 kept new, front_same law text is start stop insert its edit, pieces-within new_text start 0 (take kept old) (omega (arith, end)), ed.front, pieces-within text start 0 (take kept old) (omega (arith, end)), take-pieces text 0 kept old)
+      let early : bound old kept ≤ start = kept_before text start old kept two in
+      let front = (edited of_edit).front in
+      cc (take-pieces new_text 0 kept new, front_same law of_edit, pieces-within new_text start 0 (take kept old) (omega (arith, end)), front, pieces-within text start 0 (take kept old) (omega (arith, end)), take-pieces text 0 kept old)
 
-  back_shown : (met back : ℕ) (at : IsBodyMeeting old new stop (start + length insert) met back) → drop met to_show ≡ map (moved (length insert) (stop - start)) (drop at.old_number shown)
+  back_shown : (met back : ℕ) (at : IsMeeting (part_by first text) (part_by first new_text) stop (start + length insert) met back) → drop met to_show ≡ map (moved (length insert) (stop - start)) (drop at.old_number shown)
   back_shown met back at =
       let i : ℕ = at.old_number in
       let order = edit.inside.start_le_stop in
-      let past : start + length insert ≤ bound new met = at.past_edit in
-      let place = at.same_offset in
+      let past : start + length insert ≤ bound new met = omega (arith, at.past_edit) in
+      let place : bound old i + (start + length insert) ≡ bound new met + stop = omega (arith, at.same_offset) in
       let there : bound old i ≡ bound new met - (start + length insert) + stop = omega arith in
       let a : bound old i ≡ 0 + bound old i = omega arith in
       let b : bound new met ≡ 0 + bound new met = omega arith in
       let same : drop (0 + bound old i) text ≡ drop (0 + bound new met) new_text =
-      ap (λ p. drop p text) (sym a ∙ there) ∙ (sym (same_rest law text start stop insert new_text is edit ed (bound new met) past) ∙ ap (λ p. drop p new_text) b) in
-      let rest : drop met new ≡ drop i old = met_rest law text start stop insert new_text is edit ed met i past there in
+      ap (λ p. drop p text) (sym a ∙ there) ∙ (sym (same_rest law of_edit (bound new met) past) ∙ ap (λ p. drop p new_text) b) in
+      let rest : drop met new ≡ drop i old = met_rest law of_edit met i past place in
       cc (drop-pieces new_text 0 met new, pieces-moved (length insert) (stop - start) text new_text (0 + bound old i) (0 + bound new met) (drop i old) same (omega arith) (omega arith), drop-pieces text 0 i old)
 
   -- with what is painted, what was shown is what is to be shown
   pub enough : (r : Relexed) → IsRelexed (part_by first) text start stop insert r → to_show ≡ shown_after r (length insert) (stop - start) shown (changed r to_show)
   enough r is =
-      let counts = body_by_part first text start stop insert r is in
-      let at = counts.meeting in
+      let at = is.meeting in
       let back = at.back_is in
+      let kept_is : r.kept_front ≡ kept = omega (arith, is.kept (omega arith, refl, refl)) in
       let number : length shown - r.kept_back ≡ at.old_number = omega (arith, length-pieces text 0 old) in
-      let front : take r.kept_front to_show ≡ take r.kept_front shown = subst (λ n. take n to_show ≡ take n shown) (sym counts.front) front_shown in
+      let front : take r.kept_front to_show ≡ take r.kept_front shown = subst (λ n. take n to_show ≡ take n shown) (sym kept_is) front_shown in
       cc (in_three r.kept_front r.lexed to_show, back_shown (r.kept_front + r.lexed) r.kept_back at)
 
   pub enough_for : {E : Type 0} (result : Result Relexed E) (bytes : List ℕ) (tokens held : List Token) → held ≡ tokens_by first text → tokens ≡ tokens_by first bytes

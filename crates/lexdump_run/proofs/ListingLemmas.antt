@@ -1,11 +1,11 @@
 -- The loops that list tokens.
 use Rattle.std.proofs.Common.{◌≡◌, ℕ, zero, suc, ◌+◌, ◌-◌, ◌<◌, ◌≤◌, ◌^◌, List, [], ◌∷◌, ◌++◌, length, take, drop, refl, ap, ◌∙◌, arith, append_assoc, length-drop, length-take-le, subst}
-use Rattle.std.proofs.lemmas.{Grind.{common_steps}, List.{nil_from_length}}
+use Rattle.std.proofs.{Math.Nat.{min-le_right}, lemmas.{Grind.{common_steps}, List.{nil_from_length}}}
 use Rattle.std.specs.Str.{IsUtf8}
 use Rattle.rustc_lexer.specs.{declared.token.Token.{Token}, Kept.{Placed, pieces_from}, LanguageText.{Mode}}
 use Rattle.rustc_lexer.specs.{State.{State}, Tokens.{bound, tokens_left, tokens_of}, means.Tokens.{IsFilled}}
-use Rattle.rustc_lexer.specs.laws.Tokens.{bounds, tokens-nil}
-use Rattle.rustc_lexer.proofs.lemmas.edits.{Blocks.{filled_front, IsFront}, FrontAndBack.{bound-take}}
+use Rattle.rustc_lexer.specs.laws.Tokens.{partitions, tokens-nil}
+use Rattle.rustc_lexer.proofs.lemmas.edits.{Bounds.{bound_mono}, FrontAndBack.{bound-take}, ManyTokens.{IsFront, front_of}}
 use Rattle.lexdump_run.specs.Listing.{line_text, listing_from}
 
 -- the lines of some tokens, and then those of the others
@@ -20,10 +20,12 @@ module _ (text cut rest : List ℕ) (mode : Mode) (buffer filled : List Token) (
   left = tokens_of mode rest
 
   front : IsFront left filled count
-  front = filled_front left buffer filled count fills
+  front = front_of left buffer filled count (omega (arith, fills.as_many, min-le_right (length buffer) (length left))) fills.tokens
 
   inside : bound left count ≤ length rest
-  inside = (bounds rest mode record { utf8 = subst IsUtf8 cut_is utf8; fits = omega (arith, within, fits) } count).inside
+  inside =
+      let all = partitions rest mode record { utf8 = subst IsUtf8 cut_is utf8; fits = omega (arith, within, fits) } in
+      omega (arith, all.whole, bound_mono left count (length left) front.few)
 
   pub buffer_fits : length text - length cut + bound (take count filled) (length (take count filled)) < 2 ^ 32
   buffer_fits = grind (arith, common_steps, length-take-le, bound-take, inside)

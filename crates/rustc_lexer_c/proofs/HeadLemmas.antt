@@ -1,14 +1,14 @@
 -- The head of a document as numbers, and back.
-use Rattle.std.proofs.Common.{◌≡◌, ℕ, zero, suc, Bool, true, not, List, length, map, drop, nat_eq, refl, sym, ap, ◌∙◌, subst, arith, Option, Some, None}
+use Rattle.std.proofs.Common.{◌≡◌, ℕ, zero, suc, Bool, true, not, List, drop, nat_eq, refl, sym, ap, ◌∙◌, subst, arith, Option, Some, None}
 use Rattle.std.proofs.lemmas.Grind.{common_steps}
 use Rattle.rustc_lexer.specs.declared.{head.Head.{Head}, relex.relexing.Change.{Change}, token.Token.{Token}}
 use Rattle.rustc_lexer.specs.{declared.token.TokenKind.{TokenKind}, Answers.{first_in}, Classes.{IsText}}
 use Rattle.rustc_lexer.specs.{Document.{is_frontmatter}, LanguageText.{newest}, Locality.{IsGrammar}}
-use Rattle.rustc_lexer.specs.{Relexing.{IsChange, IsEditOf, IsMadeOf, IsBodyChange, IsHeadOf}, Tokens.{tokens_by}}
+use Rattle.rustc_lexer.specs.{Relexing.{IsChange, IsEditOf, IsBodyChange, IsHeadOf}}
 use Rattle.rustc_lexer.specs.laws.Edition.{edition_grammar}
 use Rattle.rustc_lexer.proofs.lemmas.{heads.ByTokens.{some_head}, edits.ByLengths.{made_change}}
 use Rattle.rustc_lexer_c.specs.declared.{head.CHead.{CHead}, relex.CEdit.{CEdit}}
-use Rattle.rustc_lexer_c.specs.Head.{FindsHead, frontmatter_of, head_numbers, head_of, numbers_of_head, two_of}
+use Rattle.rustc_lexer_c.specs.Head.{FindsHead, frontmatter_of, head_numbers, head_of, numbers_of_head}
 use Rattle.rustc_lexer_c.specs.{Numbers.{bool_number, first_of, second_of, token_numbers}, Relex.{change_of}}
 
 bool-back : (b : Bool) → not (nat_eq (bool_number b) 0) ≡ b
@@ -43,12 +43,6 @@ module _ (text : List ℕ) (is : IsText text) where
 abbrev first : List ℕ → Token
 first = first_in newest
 
--- an edit that made the text is one that may have made it
-made_fine : (before insert text : List ℕ) (edit : Change) → IsEditOf before edit insert text → IsChange text edit
-made_fine before insert text edit e =
-    let made : IsMadeOf first before (map (λ (t : Token). t.len) (tokens_by first before)) edit insert text = record { edit_of = e; lengths_are = refl } in
-    made_change (edition_grammar newest) made
-
 -- what `change_to` promises of each text before
 abbrev pub Changes : CHead → CEdit → Head → Bool → Change → Type 0
 Changes c edit now keeps change = (first : List ℕ → Token) (before insert text : List ℕ) → IsGrammar first → IsEditOf before (change_of edit) insert text → IsHeadOf before (head_of c) → IsHeadOf text now → IsBodyChange first before (change_of edit) insert text keeps change
@@ -62,13 +56,13 @@ module _ (text : List ℕ) (is : IsText text) (edit : CEdit) (c : CHead) (body :
   refused_with none = grind (arith, common_steps)
 
   pub refused_edit : ¬ (IsChange text (change_of edit)) → FindsHead text edit c c body body kept kept 6
-  refused_edit not = refused_with (λ before insert e same. not (made_fine before insert text (change_of edit) e))
+  refused_edit not = refused_with (λ before insert e same. not (made_change e))
 
   module _ (now : Head) (keeps : Bool) (change : Change) (is_now : IsHeadOf text now) (all : Changes c edit now keeps change) where
     pub refused_body : ¬ (IsChange (drop now.body text) change) → FindsHead text edit c c body body kept kept 6
     refused_body not = refused_with (λ before insert e same.
         let b = all first before insert text (edition_grammar newest) e (of_old before insert e same) is_now in
-        not (subst (λ (n : ℕ). IsChange (drop n text) change) (sym is_now.end_is) (made_change (edition_grammar newest) b.made_of)))
+        not (subst (λ (n : ℕ). IsChange (drop n text) change) (sym is_now.end_is) (made_change b.made_of.edit_of)))
 
     pub found : IsChange text (change_of edit) → IsChange (drop now.body text) change
         → FindsHead text edit c (numbers_of_head now) body (record { start = change.start; old_stop = change.old_stop; new_stop = change.new_stop }) kept (bool_number keeps) 0

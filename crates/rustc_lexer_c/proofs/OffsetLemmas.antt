@@ -3,7 +3,7 @@ use Rattle.std.proofs.Common.{◌≡◌, ℕ, ◌+◌, ◌-◌, ◌<◌, ◌≤�
 use Rattle.std.proofs.lemmas.List.{get_or-map}
 use Rattle.rustc_lexer.specs.declared.{relex.front.TokenStart.{TokenStart}, token.Token.{Token}}
 use Rattle.rustc_lexer.specs.{Offsets.{ContainsByte}, Tokens.{bound}}
-use Rattle.rustc_lexer.proofs.lemmas.edits.{Lengths.{as_many, no_token}, Offsets.{ahead_is, back_is}}
+use Rattle.rustc_lexer.proofs.lemmas.edits.{ByLengths.{as_many, no_token}, Offsets.{ahead_is, back_is}}
 use Rattle.rustc_lexer_c.specs.{declared.token.CToken.{CToken}, Offsets.{ArePlaced}}
 
 module _ (numbers : List CToken) (first : ℕ) (tokens : List Token) (at : TokenStart) (is : ArePlaced numbers first tokens at) where

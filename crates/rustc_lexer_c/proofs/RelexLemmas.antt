@@ -7,7 +7,7 @@ use Rattle.rustc_lexer.specs.{Tokens.{tokens_by, tokens_of}, Answers.{first_in},
 use Rattle.rustc_lexer.specs.{Edits.{IsRelexed, part_by}, Relexing.{known}}
 use Rattle.rustc_lexer.specs.Relexing.{IsMadeOf, IsUnderWay, IsWhole, MayGoOn, TakesSteps, is_over}
 use Rattle.rustc_lexer.specs.{Locality.{IsGrammar}, laws.Edition.{edition_grammar}}
-use Rattle.rustc_lexer.proofs.lemmas.edits.{OneAnswer.{relexed_is}, UnderWay.{over_met, few_lexed, counts_met}}
+use Rattle.rustc_lexer.proofs.lemmas.edits.{OneAnswer.{counts_of, relexed_is}, UnderWay.{over_met, few_lexed, counts_met}}
 use Rattle.rustc_lexer_c.specs.declared.{relex.{CEdit.{CEdit}, CRelexing.{CRelexing}}, token.CToken.{CToken}}
 use Rattle.rustc_lexer_c.specs.Numbers.{token_numbers}
 use Rattle.rustc_lexer_c.specs.Relex.{IsPassed, IsRelexBatch, change_of, front_of, lexed_before, numbers_of, relexing_of, written}
@@ -58,8 +58,8 @@ module _ (edition : Edition) (text : List ℕ) (old : List CToken) (change : CEd
     relexed = λ before insert is passed.
         let law = edition_grammar edition in
         let so = stands before insert is (begun first before insert law is passed) in
-        let e = is.edit_of in
-        let found = relexed_is law before e.is_text change.start change.old_stop insert e.inserted e.is_edit in
+        let found = relexed_is law is.edit_of in
+        let counted = (counts_of (part_by first) is.edit_of found.0).1 found.1 in
         let met = counts_met law is so.0 in
         let lexed = steps.lexed in
         let over = over_is before insert is so.0 in
@@ -78,7 +78,7 @@ module _ (edition : Edition) (text : List ℕ) (old : List CToken) (change : CEd
           };
           tokens = filled_is;
           more = written_more (tokens_of (part edition) text) at.front.index (lexed_before c) count at.lexed buffer filled (omega arith) so.0.inside filled_is;
-          few = (found.0, found.1, few_lexed law is so.0 found.0 found.1);
+          few = (found.0, counted, few_lexed law is so.0 found.0 counted);
           counts = λ e. subst (λ (n : ℕ). let r : Relexed = record { kept_front = at.front.index; lexed = at.lexed; kept_back = n - at.back.index } in IsRelexed (part_by first) before change.start change.old_stop insert r) all (met (grind (arith, common_steps))).0;
           list = λ e are. list_whole (tokens_by first before) (tokens_by first text) at (length old - (length old - at.back.index)) old back are (met (grind (arith, common_steps))).1;
         };
