@@ -110,6 +110,7 @@ fn characters() {
         ("\\\n", 2, InvalidEscape),
         (r"\v", 2, InvalidEscape),
         (r"\X41", 2, InvalidEscape),
+        (r"\U{41}", 2, InvalidEscape),
         (r"\●a", 4, InvalidEscape),
         ("\\\r", 2, InvalidEscape),
         (r"\xf", 3, TooShortHexEscape),
