@@ -230,13 +230,17 @@ BODIES = [
     ("tests/wrong_bodies ends", [rt("echo logic=not-proved\necho 'fn ends::fault::status: not proved'\n")], "another_order: REFUSED, and it is right"),
     ("tests/wrong_bodies ends", [rt("echo 'fn ends::fault::status: no proof: `search` did not prove `index-at`'\necho logic=not-proved\n")], "ends::fault::status, but at no goal of its answer"),
     ("tests/wrong_bodies ends", [rt("exit 1\n")], "ends is not proved, so none of its bodies was tried"),
-    ("tests/wrong_bodies --proved rustc_literal_escaper", [PROVES_ALL], "NONE IS DRAWN"),
+    ("tests/wrong_bodies --proved ends", [PROVES_ALL, ("tests/wrong_bodies", "min(few, len(known))", "0")], "NONE IS DRAWN"),
     # where the prover takes all, each line is as one that a hand wrote for a right body
     ("tests/wrong_bodies --draw=3 ends", [PROVES_ALL], "0 of 5 refused by name: 1 of those always tried, 0 new or changed, 4 drawn by 3"),
     # bodies are drawn, whether their lines still hold or not
     ("tests/wrong_bodies --linked marks", [HELD, ("tools/over_libraries", None, SHELL + "echo only=1 proved=1\n")], "since their lines are kept; rattle-kit-"),
-    ("tests/wrong_bodies --linked --draw=3", [HELD, ("tools/over_libraries", None, SHELL + "echo only=1 proved=1\n")], "0 of 10 refused by name: 0 of those always tried, 0 new or changed, 10 drawn by 3"),
+    ("tests/wrong_bodies --linked --draw=3", [HELD, ("tools/over_libraries", None, SHELL + "echo only=1 proved=1\n")], "0 of 49 refused by name: 27 of those always tried, 0 new or changed, 22 drawn by 3"),
+    # over the libraries of `rt ci` each is asked for at its function, the others of its crate not
+    ("tests/wrong_bodies --linked ends", [("tools/over_libraries", None, SHELL + "exit 1\n")], "ends is not proved, so none of its bodies was tried"),
+    ("tests/wrong_bodies --linked ends", [("tools/over_libraries", None, SHELL + "echo only=1 proved=1; case $* in *'--only=reading::read_all '*) ;; *) exit 1 ;; esac\n")], "ends/failed_read_is_the_end: NOT REFUSED"),
     ("tests/wrong_bodies planted", [], "planted is no crate with wrong bodies"),
+    ("tests/wrong_bodies --linked -planted", [], "planted is no crate with wrong bodies"),
     ("tests/wrong_bodies --take < said", [("said", None, "marks/mark_is_not_closed: 0 refused at marks::planted, a\n")], "0 lines taken"),
     ("tests/wrong_bodies --changed ends", [PROVES_ALL, ("crates/ends/src/fault.rt", "{ result ≡ status_of fault.now }", "{ result ≡ 0 }")], "ends/closed_pipe_is_a_failure: NOT REFUSED"),
     ("tests/wrong_bodies --changed ends", [PROVES_ALL, ("tests/wrong_bodies.kept", "logic ", "logic 0")], "ends/closed_pipe_is_a_failure: NOT REFUSED"),
@@ -281,6 +285,8 @@ CALLED = [
     ("tests/documents console", WRITES, "prints something else"),
     ("tests/documents calling", [(f"{LEXER}/CALLING.md", "\nrt check\n", "\ntrue\n")], "its program is not checked"),
     ("tests/documents calling", [rt("exit 1\n")], "rt check: failed"),
+    ("tests/documents calling", [(f"{LEXER}/out/rlib/planted", None, ""), ("tools/over_libraries", None, SHELL + "exit 1\n")], "rt check: failed"),
+    ("tests/documents cargo", [("README.md", "rt run < FILE)", "rt try < FILE)")], "README.md: not one command"),
     ("tests/prove 1 ends", [rt("exit 1\n")], "Error 1"),
     ("tests/must_not_compile", [rt("")], "nothing is refused"),
     ("tests/must_not_compile", [rt("exit 1\n")], "EOF on"),
@@ -349,19 +355,19 @@ def of_gate(top):
     scripts = [f"tests/{it.name}" for it in top.glob("tests/*") if it.is_file() and os.access(it, os.X_OK)]
     crates = [line.split(":")[0].split()[0] for line in (top / "crates.txt").read_text().splitlines() if ":" in line]
     proved = "".join(f"echo 'rt: {it} proved'\n" for it in crates)
-    built = '[ "$1" != run ] || { mkdir -p out; echo > out/lexdump; }\n'
     gate = [
         *((it, "", None) for it in ("rust", "page", "patch", "docs", *(f"crates/{it}" for it in crates))),
         *((f"crates/{it}/{file}", None, "") for it in crates for file in ("stdin", f"out/{it}")),
         *((it, None, SHELL) for it in [*scripts, "tools/erase", "tools/over_libraries"]),
         ("tests/judges", None, SHELL + "[ \"$1\" != --blind ] || { echo 'judges: 0 of 7 faults are found'; exit 1; }\n"),
-        stand_in("rt", proved + built),
+        stand_in("rt", proved),
     ]
     planted = SHELL + "echo planted\nexit 1\n"
-    for it in ("layers", "planted", "prove", "judges"):
+    for it in ("layers", "planted", "judges"):
         yield ".ci/run", [*gate, (f"tests/{it}", None, planted)], f"failed with status 1: {it}"
-    yield ".ci/run", [*gate, ("tests/wrong_bodies", None, SHELL + '[ "$1" != --proved ]\n')], "failed with status 1: wrong_bodies"
-    yield ".ci/run", [*gate, stand_in("rt", f"{proved}{built}[ $1 != ci ]\n")], "failed with status 1: rt_ci"
+    yield ".ci/run", [*gate, ("tests/wrong_bodies", None, SHELL + '[ "$2" != rustc_lexer ]\n')], "failed with status 1: wrong_bodies"
+    yield ".ci/run", [*gate, ("tests/wrong_bodies", None, SHELL + '[ "$2" != -rustc_lexer ]\n')], "failed with status 1: wrong_bodies_above"
+    yield ".ci/run", [*gate, stand_in("rt", f"{proved}[ $1 != ci ]\n")], "failed with status 1: rt_ci"
     yield ".ci/run", [*gate, ("tools/erase", None, planted)], "failed with status 1: erase_--check"
     # judges that pass, whatever the scripts do, or that say so
     for text in ("", "echo 'judges: 7 of 7 faults are found'\n", "[ \"$1\" != --blind ] || { echo 'judges: 7 of 7 faults are found'; exit 1; }\n"):

@@ -329,6 +329,8 @@ fn a_string_is_not_copied() {
             let refused = given(0, || $Kept::try_from_string_in(string, Edition::E2024));
             let refused = refused.unwrap_err();
             assert_eq!(refused.error(), EditError::Memory);
+            let other = refused.clone();
+            assert!(other == refused && EditError::from(other) == EditError::Memory);
             let given_back = refused.into_string();
             assert_eq!((given_back.as_ptr(), given_back.capacity()), (at, room));
             assert_eq!(given_back, text);
