@@ -1,5 +1,5 @@
 -- The keywords of each edition, as the chapter Keywords of the Rust Reference lists them.
-use Rattle.std.specs.Prelude.{ℕ, Bool, ◌||◌, if◌then◌else◌, List, [], ◌∷◌, codes, Option, Some, None}
+use Rattle.std.specs.Prelude.{ℕ, Bool, false, ◌||◌, if◌then◌else◌, List, [], ◌∷◌, codes, Option, Some, None}
 use Rattle.std.specs.List.{list_any}
 use Rattle.std.specs.Str.{bytes_eq}
 use Rattle.rustc_lexer.specs.declared.edition.Edition.{Edition}
@@ -32,13 +32,15 @@ made sort edition = []
 abbrev pub is_in : List (List ℕ) → List ℕ → Bool
 is_in words word = list_any (λ keyword. bytes_eq keyword word) words
 
--- whether the word is a keyword of a sort in an edition: this one made it, or one before. That of
--- 2021 made none
+-- whether an edition after that of 2015 made the word a keyword of a sort: this one, or one before.
+-- That of 2021 made none
+abbrev pub is_later : KeywordKind → Edition → List ℕ → Bool
+is_later sort E2015 word = false
+is_later sort E2024 word = is_in (made sort E2018) word || is_in (made sort E2024) word
+is_later sort edition word = is_in (made sort E2018) word
+
 abbrev pub has : KeywordKind → Edition → List ℕ → Bool
-has sort E2015 word = is_in (made sort E2015) word
-has sort E2024 word = is_in (made sort E2015) word || is_in (made sort E2018) word
-    || is_in (made sort E2024) word
-has sort edition word = is_in (made sort E2015) word || is_in (made sort E2018) word
+has sort edition word = is_in (made sort E2015) word || is_later sort edition word
 
 -- a word that is a keyword of two sorts, as `dyn` is from 2018 on, is of the stricter one
 abbrev pub keyword_kind : List ℕ → Edition → Option KeywordKind

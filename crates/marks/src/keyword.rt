@@ -90,7 +90,6 @@ pub(crate) fn is_strict(word: &str, edition: Edition) -> bool
 }
 
 /// Returns whether a word is a reserved keyword.
-#[tactic(auto, using(crate::proofs::KeywordLemmas::has_not))]
 fn is_reserved(word: &str, edition: Edition) -> bool
     ensures { result ≡ spec.has KeywordKind.Reserved edition word.now }
 {
