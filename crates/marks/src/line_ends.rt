@@ -150,7 +150,8 @@ impl<'a> FileChars<'a> {
         self.text.len() - self.rest.len()
     }
 
-    /// Reads the escape after a backslash.
+    /// Reads the escape after a backslash. A newline behind it goes with a carriage return that is its last character,
+    /// since the two are one line end.
     pub fn escape(&mut self) -> Element
         ensures text { self.new.0 ≡ self.old.0 }
         ensures read { (result, self.new.1) ≡ escapes.escape self.old.1 }

@@ -89,7 +89,8 @@ impl<'a> FileChars<'a> {
         self.text.len() - self.rest.len()
     }
 
-    /// Reads the escape after a backslash.
+    /// Reads the escape after a backslash. A newline behind it goes with a carriage return that is its last character,
+    /// since the two are one line end.
     pub fn escape(&mut self) -> Element {
         let (element, left) = read_escape(self.rest);
         self.rest = match past_line(ends_in_return(self.rest, left), left) {
