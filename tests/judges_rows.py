@@ -238,7 +238,7 @@ BODIES = [
     ("tests/wrong_bodies --linked --draw=3", [HELD, ("tools/over_libraries", None, SHELL + "echo only=1 proved=1\n")], "0 of 43 refused by name: 27 of those always tried, 0 new or changed, 16 drawn by 3"),
     # over the libraries of `rt ci` each is asked for at its function, the others of its crate not
     ("tests/wrong_bodies --linked ends", [("tools/over_libraries", None, SHELL + "exit 1\n")], "ends is not proved, so none of its bodies was tried"),
-    ("tests/wrong_bodies --linked ends", [("tools/over_libraries", None, SHELL + "echo only=1 proved=1; case $* in *'--only=reading::read_all '*) ;; *) exit 1 ;; esac\n")], "ends/failed_read_is_the_end: NOT REFUSED"),
+    ("tests/wrong_bodies --linked ends", [("tools/over_libraries", None, SHELL + "echo only=1 proved=1; case \"$* \" in *'--only=reading::read_all '*) ;; *) exit 1 ;; esac\n")], "ends/failed_read_is_the_end: NOT REFUSED"),
     ("tests/wrong_bodies planted", [], "planted is no crate with wrong bodies"),
     ("tests/wrong_bodies --linked -planted", [], "planted is no crate with wrong bodies"),
     ("tests/wrong_bodies --take < said", [("said", None, "marks/mark_is_not_closed: 0 refused at marks::planted, a\n")], "0 lines taken"),
