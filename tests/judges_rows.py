@@ -230,14 +230,14 @@ BODIES = [
     ("tests/wrong_bodies ends", [rt("echo logic=not-proved\necho 'fn ends::fault::status: not proved'\n")], "another_order: REFUSED, and it is right"),
     ("tests/wrong_bodies ends", [rt("echo 'fn ends::fault::status: no proof: `search` did not prove `index-at`'\necho logic=not-proved\n")], "ends::fault::status, but at no goal of its answer"),
     ("tests/wrong_bodies ends", [rt("exit 1\n")], "ends is not proved, so none of its bodies was tried"),
-    ("tests/wrong_bodies --proved ends", [PROVES_ALL, ("tests/wrong_bodies", "min(few, len(known))", "0")], "NONE IS DRAWN"),
+    ("tests/wrong_bodies --proved ends", [PROVES_ALL, ("tests/wrong_bodies", "min(FEW, len(known[name]))", "0")], "NONE IS DRAWN"),
     # where the prover takes all, each line is as one that a hand wrote for a right body
     ("tests/wrong_bodies --draw=3 ends", [PROVES_ALL], "0 of 5 refused by name: 1 of those always tried, 0 new or changed, 4 drawn by 3"),
     # bodies are drawn, whether their lines still hold or not
     ("tests/wrong_bodies --linked marks", [HELD, ("tools/over_libraries", None, SHELL + "echo only=1 proved=1\n")], "since their lines are kept; rattle-kit-"),
-    ("tests/wrong_bodies --linked --draw=3", [HELD, ("tools/over_libraries", None, SHELL + "echo only=1 proved=1\n")], "0 of 43 refused by name: 27 of those always tried, 0 new or changed, 16 drawn by 3"),
+    ("tests/wrong_bodies --linked --draw=3", [HELD, ("tools/over_libraries", None, SHELL + "echo only=1 proved=1\n")], "0 of 31 refused by name: 27 of those always tried, 0 new or changed, 4 drawn by 3"),
     # over the libraries of `rt ci` each is asked for at its function, the others of its crate not
-    ("tests/wrong_bodies --linked ends", [("tools/over_libraries", None, SHELL + "exit 1\n")], "ends is not proved, so none of its bodies was tried"),
+    ("tests/wrong_bodies --linked ends", [("tools/over_libraries", None, SHELL + "echo planted; exit 1\n")], "ends/failed_read_is_the_end: BAD EDIT: planted"),
     ("tests/wrong_bodies --linked ends", [("tools/over_libraries", None, SHELL + "echo only=1 proved=1; case \"$* \" in *'--only=reading::read_all '*) ;; *) exit 1 ;; esac\n")], "ends/failed_read_is_the_end: NOT REFUSED"),
     ("tests/wrong_bodies planted", [], "planted is no crate with wrong bodies"),
     ("tests/wrong_bodies --linked -planted", [], "planted is no crate with wrong bodies"),
@@ -257,6 +257,7 @@ ROWS = [
     ("tests/wrong_rows ends/failed_read_is_the_end", [stand_in("cargo", EDITED), ("tests/program", None, SHELL)], "FAILS ANOTHER ROW: planted"),
     ("tests/wrong_rows ends/failed_read_is_the_end", [NO_CARGO], "with no edit this fails"),
     ("tests/wrong_rows planted", [], "no wrong body is of that name"),
+    ("tests/wrong_rows --draw=3 ends/failed_read_is_the_end", [stand_in("cargo", ""), ("tests/program", None, SHELL)], "a third of 1, drawn by 3"),
 ]
 # What a key has to have.
 KEYS = [
@@ -376,7 +377,7 @@ def of_gate(top):
         ("begin tests/c_library tests/trusted", "begin tests/c_library", "tests/trusted"),
         (" 'tools/erase --check'", "", "tools/erase --check"),
         (" 'tests/documents names'", "", "tests/documents names"),
-        ("'tests/wrong_rows always'", "tests/wrong_rows", "tests/wrong_rows always"),
+        ("'tests/wrong_rows --draw always'", "tests/wrong_rows", "tests/wrong_rows --draw always"),
         ("manual='", "manual='numbers ", "tests/numbers"),
         ("later='", "later='erase ", "tests/erase"),
         ("for it in tests/*", "for it in tests/[!e]*", "tests/erased"),

@@ -4,7 +4,6 @@ ghost use Rattle.rustc_lexer.specs.Classes.{Fits};
 use anyhow::Result;
 use lex_vectors::steppers::Counting;
 use rustc_lexer::{LexedText, Stepper};
-use std::time::Instant;
 
 /// Where the edits are.
 #[derive(Clone, Copy)]
@@ -19,45 +18,18 @@ pub(crate) enum Place {
 
 /// The work of some edits.
 #[derive(Clone, Copy, Default)]
-pub(crate) struct EditWork {
-    pub(crate) edits: u64,
+struct EditWork {
+    edits: u64,
     /// How many tokens were lexed for them.
-    pub(crate) lexed: u64,
+    lexed: u64,
     /// A sum over what each of them kept, which depends on their order.
-    pub(crate) sum: u64,
+    sum: u64,
     /// How many tokens moved: those after an edit, if their number changed.
     moved: u64,
 }
 
-/// Types and deletes so many letters, and prints how long one edit takes, and lexing the whole text.
-pub(crate) fn time_edits(rt: &HostRuntime, text: &str, place: Place, times: u32) -> Result<()>
-    requires { Fits text.now }
-{
-    let mut least_whole = u128::MAX;
-    for _ in 0..9 {
-        let start = Instant::now(rt)?;
-        let held = LexedText::new(rt.alloc(), text)?;
-        least_whole = least_whole.min(start.elapsed(rt)?.as_nanos());
-        drop(held);
-    }
-    let mut held = LexedText::new(rt.alloc(), text)?;
-    let start = Instant::now(rt)?;
-    let work = edit_letters(&mut held, place, times)?;
-    let one_edit = start.elapsed(rt)?.as_nanos() / (work.edits as u128).max(1);
-    println!(rt;
-        "edits {}, tokens lexed {}, sum {}",
-        work.edits, work.lexed, work.sum
-    )?;
-    println!(rt; "one edit {one_edit} ns, lexing the whole {least_whole} ns")?;
-    Ok(())
-}
-
 /// Types a letter and deletes it again, so many times.
-pub(crate) fn edit_letters<S: Stepper>(
-    held: &mut LexedText<S>,
-    place: Place,
-    times: u32,
-) -> Result<EditWork> {
+fn edit_letters<S: Stepper>(held: &mut LexedText<S>, place: Place, times: u32) -> Result<EditWork> {
     let mut work = EditWork::default();
     let mut random = 1u64;
     for _ in 0..times {
@@ -80,6 +52,19 @@ pub(crate) fn edit_letters<S: Stepper>(
         }
     }
     Ok(work)
+}
+
+/// Types a letter and deletes it, and prints what the two edits lex and keep.
+pub(crate) fn print_edits(rt: &HostRuntime, text: &str, place: Place, name: &str) -> Result<()>
+    requires { Fits text.now }
+{
+    let mut held = LexedText::new(rt.alloc(), text)?;
+    let work = edit_letters(&mut held, place, 1)?;
+    println!(rt;
+        "{name}: edits {}, tokens lexed {}, sum {}",
+        work.edits, work.lexed, work.sum
+    )?;
+    Ok(())
 }
 
 /// Types and deletes so many letters, and prints the work: the edits, the steps that they took, the bytes of the

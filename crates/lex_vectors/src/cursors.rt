@@ -72,6 +72,28 @@ static ROWS: &[Entry<Option<Call>>] = calls! {
     ["#" * 300, "\"abc\"", "#" * 301, "x"] => Found(300, true, 605), Rest("#x");
 };
 
+/// Whether the call has this answer.
+fn answers(cursor: &mut Cursor<'_>, call: Call) -> bool {
+    match call {
+        Advance((kind, len)) => {
+            let token = cursor.advance_token();
+            token.kind == kind && token.len == len
+        }
+        Found(n_hashes, terminated, token_len) => {
+            let string = GuardedStr {
+                n_hashes,
+                terminated,
+                token_len,
+            };
+            cursor.guarded_double_quoted_string() == Some(string)
+        }
+        Missing => cursor.guarded_double_quoted_string().is_none(),
+        Rest(rest) => cursor.as_str() == rest,
+        First(c) => cursor.first() == c,
+        Third(c) => cursor.third() == c,
+    }
+}
+
 /// Whether the calls have these answers.
 fn goes(text: &str, allowed: FrontmatterAllowed, calls: &[Call]) -> bool {
     if !fits(text) {
@@ -79,29 +101,16 @@ fn goes(text: &str, allowed: FrontmatterAllowed, calls: &[Call]) -> bool {
     }
     let mut cursor = Cursor::new(text, allowed);
     for call in calls {
-        let holds = match call {
-            Advance((kind, len)) => {
-                let token = cursor.advance_token();
-                token.kind == *kind && token.len == *len
-            }
-            Found(n_hashes, terminated, token_len) => {
-                let string = GuardedStr {
-                    n_hashes: *n_hashes,
-                    terminated: *terminated,
-                    token_len: *token_len,
-                };
-                cursor.guarded_double_quoted_string() == Some(string)
-            }
-            Missing => cursor.guarded_double_quoted_string().is_none(),
-            Rest(rest) => cursor.as_str() == *rest,
-            First(c) => cursor.first() == *c,
-            Third(c) => cursor.third() == *c,
-        };
-        if !holds {
+        if !answers(&mut cursor, *call) {
             return false;
         }
     }
     true
+}
+
+/// The same, whether a frontmatter is allowed or not.
+fn goes_in_both(text: &str, calls: &[Call]) -> bool {
+    goes(text, FrontmatterAllowed::No, calls) && goes(text, FrontmatterAllowed::Yes, calls)
 }
 
 #[test]
@@ -112,10 +121,11 @@ fn rows(rt: HostRuntime) -> Result<(), AllocError> {
         match made.add(entry)? {
             Some(Some(call)) => calls.push(call)?,
             Some(None) => {
-                let text = made.text.as_str();
-                let holds = goes(text, FrontmatterAllowed::No, calls.as_slice())
-                    && goes(text, FrontmatterAllowed::Yes, calls.as_slice());
-                assert!(rt; holds, "in {text}");
+                assert!(rt;
+                    goes_in_both(made.text.as_str(), calls.as_slice()),
+                    "in {}",
+                    made.text
+                );
                 calls.clear();
             }
             None => {}

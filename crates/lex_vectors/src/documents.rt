@@ -1,8 +1,7 @@
 //! Whole documents that are kept with their tokens.
-use crate::edits::{EditRow, Keeps, is_edited, is_listed, lexed_by};
+use crate::edits::{EditRow, Keeps, goes, is_edited, lexed_by};
 use crate::steppers::{Characters, Counting};
 use crate::tables::documents::{FRONTS, HEADS, KEPT, SPACED};
-use crate::tables::edits::{CHARACTERS, LONG, SHORT};
 use rustc_lexer::{Edit, EditStop, LexedDocument, Relexed, Stepper, Token, TokenStart, fits};
 use std::alloc::{AllocError, Global};
 
@@ -41,19 +40,17 @@ impl<S: Stepper> Keeps for LexedDocument<S> {
 
 /// Returns whether the row holds for a document in its edition, one edit after another and as a list. The
 /// stepper is called once for each token that is lexed, except for so many tokens of heads.
-fn holds(alloc: Global, row: &EditRow, heads: u64) -> Result<bool, AllocError> {
+pub(crate) fn holds(alloc: Global, row: &EditRow, heads: u64) -> Result<bool, AllocError> {
     let text = row.text.as_str();
     if !fits(text) {
         return Ok(false);
     }
     let mut kept = LexedDocument::new_in(alloc, text, row.edition)?;
+    if !is_edited(&mut kept, row)? || kept.edition() != row.edition {
+        return Ok(false);
+    }
     let lexed = lexed_by(row).saturating_sub(heads);
-    Ok(
-        is_edited(&mut kept, row)?
-            && kept.edition() == row.edition
-            && is_counted(alloc, row, lexed, false)?
-            && is_counted(alloc, row, lexed, true)?,
-    )
+    Ok(is_counted(alloc, row, lexed, false)? && is_counted(alloc, row, lexed, true)?)
 }
 
 /// Returns whether the row holds, and the stepper is called so many times.
@@ -64,23 +61,16 @@ fn is_counted(alloc: Global, row: &EditRow, lexed: u64, as_list: bool) -> Result
     }
     let mut held = LexedDocument::with(alloc, text, Counting::new_in(row.edition))?;
     let calls = held.stepper().calls.saturating_add(lexed);
-    let holds = if as_list {
-        is_listed(alloc, &mut held, row)?
-    } else {
-        is_edited(&mut held, row)?
-    };
-    Ok(holds && held.stepper().calls == calls)
+    Ok(goes(alloc, &mut held, row, as_list)? && held.stepper().calls == calls)
 }
 
-/// Texts with a head, and texts without one: an edit of them keeps the same.
+/// Texts with a head.
 #[test]
 fn rows(rt: HostRuntime) -> Result<(), AllocError> {
     for (name, heads, entries) in [
         ("KEPT", 0, KEPT),
         ("FRONTS", 1, FRONTS),
         ("SPACED", 2, SPACED),
-        ("SHORT", 0, SHORT),
-        ("LONG", 0, LONG),
     ] {
         let mut row = EditRow::new(rt.alloc());
         for (number, entry) in entries.iter().enumerate() {
@@ -96,7 +86,7 @@ fn rows(rt: HostRuntime) -> Result<(), AllocError> {
 }
 
 /// Returns whether the row holds if each character is one token.
-fn holds_by_characters(alloc: Global, row: &EditRow) -> Result<bool, AllocError> {
+pub(crate) fn holds_by_characters(alloc: Global, row: &EditRow) -> Result<bool, AllocError> {
     let text = row.text.as_str();
     if !fits(text) {
         return Ok(false);
@@ -105,30 +95,28 @@ fn holds_by_characters(alloc: Global, row: &EditRow) -> Result<bool, AllocError>
     is_edited(&mut held, row)
 }
 
-#[test]
-fn one_character_a_token(rt: HostRuntime) -> Result<(), AllocError> {
-    let mut row = EditRow::new(rt.alloc());
-    for entry in CHARACTERS {
-        if row.add(entry)? {
-            assert!(rt; holds_by_characters(rt.alloc(), &row)?);
-        }
+/// Returns whether the document has a shebang line of this length, and its body starts there.
+fn has_head(
+    alloc: Global,
+    text: &str,
+    shebang: usize,
+    body: TokenStart,
+) -> Result<bool, AllocError> {
+    if !fits(text) {
+        return Ok(false);
     }
-    Ok(())
+    let lexed = LexedDocument::new(alloc, text)?;
+    Ok(lexed.shebang_len() == shebang && lexed.body_start() == body)
 }
 
 #[test]
 fn heads(rt: HostRuntime) -> Result<(), AllocError> {
     for (text, shebang, number, place) in HEADS {
-        assert!(rt; fits(text));
-        let lexed = LexedDocument::new(rt.alloc(), text)?;
         let body = TokenStart {
             index: *number,
             offset: *place,
         };
-        assert!(rt;
-            lexed.shebang_len() == *shebang && lexed.body_start() == body,
-            "{text}"
-        );
+        assert!(rt; has_head(rt.alloc(), text, *shebang, body)?, "{text}");
     }
     Ok(())
 }

@@ -1,4 +1,5 @@
 //! Edits of a text that is kept with its tokens, one by one and as a list.
+use crate::documents;
 use crate::rows::Made;
 use crate::steppers::{Characters, Counting};
 use crate::tables::edits::{CHARACTERS, LONG, Role, SHORT};
@@ -52,6 +53,14 @@ impl EditRow {
             None => {}
         }
         Ok(false)
+    }
+
+    /// What the edits as a list end with.
+    fn end(&self) -> Result<(), EditStop> {
+        match self.steps.iter().position(|step| step.counts.is_none()) {
+            Some(at) => Err(EditStop::Range { at }),
+            None => Ok(()),
+        }
     }
 }
 
@@ -123,11 +132,7 @@ pub(crate) fn is_edited<K: Keeps>(lexed: &mut K, row: &EditRow) -> Result<bool, 
 }
 
 /// Returns whether the edits as a list give the same, and an empty list after them changes nothing.
-pub(crate) fn is_listed<K: Keeps>(
-    alloc: Global,
-    lexed: &mut K,
-    row: &EditRow,
-) -> Result<bool, AllocError> {
+fn is_listed<K: Keeps>(alloc: Global, lexed: &mut K, row: &EditRow) -> Result<bool, AllocError> {
     let mut edits = Vec::new(alloc);
     for step in row.steps.as_slice() {
         edits.push(Edit {
@@ -136,22 +141,32 @@ pub(crate) fn is_listed<K: Keeps>(
             insert: step.insert.as_str(),
         })?;
     }
-    let end = match row.steps.iter().position(|step| step.counts.is_none()) {
-        Some(at) => Err(EditStop::Range { at }),
-        None => Ok(()),
-    };
+    let end = lexed.try_edits(edits.as_slice());
+    Ok(end == row.end() && is_left(lexed, &row.made) && is_kept(lexed, &row.made))
+}
+
+/// Returns whether an empty list of edits keeps all of these.
+fn is_kept<K: Keeps>(lexed: &mut K, made: &Made) -> bool {
     let all_kept = Relexed {
-        kept_front: row.made.tokens.len(),
+        kept_front: made.tokens.len(),
         lexed: 0,
         kept_back: 0,
     };
-    Ok(
-        lexed.try_edits(edits.as_slice()) == end
-            && is_left(lexed, &row.made)
-            && lexed.try_edits(&[]) == Ok(())
-            && lexed.try_each(&[]) == Ok(all_kept)
-            && is_left(lexed, &row.made),
-    )
+    lexed.try_edits(&[]) == Ok(()) && lexed.try_each(&[]) == Ok(all_kept) && is_left(lexed, made)
+}
+
+/// Returns whether the edits are as the row says, one by one or as a list.
+pub(crate) fn goes<K: Keeps>(
+    alloc: Global,
+    lexed: &mut K,
+    row: &EditRow,
+    as_list: bool,
+) -> Result<bool, AllocError> {
+    if as_list {
+        is_listed(alloc, lexed, row)
+    } else {
+        is_edited(lexed, row)
+    }
 }
 
 /// Returns how many tokens the edits of the row lex.
@@ -176,12 +191,10 @@ fn holds(alloc: Global, row: &EditRow) -> Result<bool, AllocError> {
     } else {
         LexedText::new_in(alloc, text, row.edition)?
     };
-    Ok(
-        is_edited(&mut kept, row)?
-            && kept.edition() == row.edition
-            && is_counted(alloc, row, false)?
-            && is_counted(alloc, row, true)?,
-    )
+    if !is_edited(&mut kept, row)? || kept.edition() != row.edition {
+        return Ok(false);
+    }
+    Ok(is_counted(alloc, row, false)? && is_counted(alloc, row, true)?)
 }
 
 /// Returns whether the row holds, and the stepper is called once for each token that is lexed.
@@ -192,21 +205,18 @@ fn is_counted(alloc: Global, row: &EditRow, as_list: bool) -> Result<bool, Alloc
     }
     let mut lexed = LexedText::with(alloc, text, Counting::new_in(row.edition))?;
     let calls = lexed.stepper().calls.saturating_add(lexed_by(row));
-    let holds = if as_list {
-        is_listed(alloc, &mut lexed, row)?
-    } else {
-        is_edited(&mut lexed, row)?
-    };
-    Ok(holds && lexed.stepper().calls == calls)
+    Ok(goes(alloc, &mut lexed, row, as_list)? && lexed.stepper().calls == calls)
 }
 
+/// Texts with no head: an edit of one that is kept as a document keeps the same.
 #[test]
 fn rows(rt: HostRuntime) -> Result<(), AllocError> {
     for (name, entries) in [("SHORT", SHORT), ("LONG", LONG)] {
         let mut row = EditRow::new(rt.alloc());
         for (number, entry) in entries.iter().enumerate() {
             if row.add(entry)? {
-                assert!(rt; holds(rt.alloc(), &row)?, "{name}, up to entry {number}");
+                let holds = holds(rt.alloc(), &row)? && documents::holds(rt.alloc(), &row, 0)?;
+                assert!(rt; holds, "{name}, up to entry {number}");
             }
         }
     }
@@ -228,7 +238,9 @@ fn one_character_a_token(rt: HostRuntime) -> Result<(), AllocError> {
     let mut row = EditRow::new(rt.alloc());
     for entry in CHARACTERS {
         if row.add(entry)? {
-            assert!(rt; holds_by_characters(rt.alloc(), &row)?);
+            let holds = holds_by_characters(rt.alloc(), &row)?
+                && documents::holds_by_characters(rt.alloc(), &row)?;
+            assert!(rt; holds);
         }
     }
     Ok(())
