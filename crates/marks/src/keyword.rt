@@ -1,5 +1,5 @@
 //! The keywords of each edition.
-ghost use Rattle.std.specs.Prelude.{◌≡◌};
+ghost use Rattle.std.specs.Prelude.{◌≡◌, take, drop};
 ghost use Rattle.marks.specs.Keyword as spec;
 
 use rustc_lexer::Edition;
@@ -48,6 +48,16 @@ pub(crate) fn is_strict(word: &str, edition: Edition) -> bool
     ensures { result ≡ spec.has KeywordKind.Strict edition word.now }
 {
     match word {
+        "async" | "await" | "dyn" => !matches!(edition, Edition::E2015),
+        _ => is_strict_to_for(word) || is_strict_to_return(word) || is_strict_to_while(word),
+    }
+}
+
+/// Returns whether a word is one of the first twelve strict keywords of 2015. The prover takes long for more at once.
+fn is_strict_to_for(word: &str) -> bool
+    ensures { result ≡ spec.is_in (take 12 (spec.made KeywordKind.Strict Edition.E2015)) word.now }
+{
+    match word {
         "_"
         | "as"
         | "break"
@@ -59,8 +69,17 @@ pub(crate) fn is_strict(word: &str, edition: Edition) -> bool
         | "extern"
         | "false"
         | "fn"
-        | "for"
-        | "if"
+        | "for" => true,
+        _ => false,
+    }
+}
+
+/// Returns whether a word is one of the next twelve.
+fn is_strict_to_return(word: &str) -> bool
+    ensures { result ≡ spec.is_in (take 12 (drop 12 (spec.made KeywordKind.Strict Edition.E2015))) word.now }
+{
+    match word {
+        "if"
         | "impl"
         | "in"
         | "let"
@@ -71,8 +90,17 @@ pub(crate) fn is_strict(word: &str, edition: Edition) -> bool
         | "mut"
         | "pub"
         | "ref"
-        | "return"
-        | "self"
+        | "return" => true,
+        _ => false,
+    }
+}
+
+/// Returns whether a word is one of the last twelve.
+fn is_strict_to_while(word: &str) -> bool
+    ensures { result ≡ spec.is_in (drop 24 (spec.made KeywordKind.Strict Edition.E2015)) word.now }
+{
+    match word {
+        "self"
         | "Self"
         | "static"
         | "struct"
@@ -84,7 +112,6 @@ pub(crate) fn is_strict(word: &str, edition: Edition) -> bool
         | "use"
         | "where"
         | "while" => true,
-        "async" | "await" | "dyn" => !matches!(edition, Edition::E2015),
         _ => false,
     }
 }

@@ -44,11 +44,34 @@ pub fn keyword_kind(word: &str, edition: Edition) -> Option<KeywordKind> {
 /// Returns whether a word is a strict keyword.
 pub(crate) fn is_strict(word: &str, edition: Edition) -> bool {
     match word {
-        "_" | "as" | "break" | "const" | "continue" | "crate" | "else" | "enum" | "extern"
-        | "false" | "fn" | "for" | "if" | "impl" | "in" | "let" | "loop" | "match" | "mod"
-        | "move" | "mut" | "pub" | "ref" | "return" | "self" | "Self" | "static" | "struct"
-        | "super" | "trait" | "true" | "type" | "unsafe" | "use" | "where" | "while" => true,
         "async" | "await" | "dyn" => !matches!(edition, Edition::E2015),
+        _ => is_strict_to_for(word) || is_strict_to_return(word) || is_strict_to_while(word),
+    }
+}
+
+/// Returns whether a word is one of the first twelve strict keywords of 2015. The prover takes long for more at once.
+fn is_strict_to_for(word: &str) -> bool {
+    match word {
+        "_" | "as" | "break" | "const" | "continue" | "crate" | "else" | "enum" | "extern"
+        | "false" | "fn" | "for" => true,
+        _ => false,
+    }
+}
+
+/// Returns whether a word is one of the next twelve.
+fn is_strict_to_return(word: &str) -> bool {
+    match word {
+        "if" | "impl" | "in" | "let" | "loop" | "match" | "mod" | "move" | "mut" | "pub"
+        | "ref" | "return" => true,
+        _ => false,
+    }
+}
+
+/// Returns whether a word is one of the last twelve.
+fn is_strict_to_while(word: &str) -> bool {
+    match word {
+        "self" | "Self" | "static" | "struct" | "super" | "trait" | "true" | "type" | "unsafe"
+        | "use" | "where" | "while" => true,
         _ => false,
     }
 }
