@@ -3,7 +3,7 @@ ghost use Rattle.rustc_lexer.specs.Classes.{Fits};
 
 use anyhow::Result;
 use lex_vectors::steppers::Counting;
-use rustc_lexer::{LexedText, Stepper};
+use rustc_lexer::{Edition, LexedText, Stepper};
 
 /// Where the edits are.
 #[derive(Clone, Copy)]
@@ -72,7 +72,7 @@ pub(crate) fn print_edits(rt: &HostRuntime, text: &str, place: Place, name: &str
 pub(crate) fn print_work(rt: &HostRuntime, text: &str, place: Place, times: u32) -> Result<()>
     requires { Fits text.now }
 {
-    let mut held = LexedText::with(rt.alloc(), text, Counting::new())?;
+    let mut held = LexedText::with(rt.alloc(), text, Counting::new_in(Edition::NEWEST))?;
     let whole = held.stepper().calls;
     let whole_bytes = held.stepper().bytes;
     let work = edit_letters(&mut held, place, times)?;

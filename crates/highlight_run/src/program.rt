@@ -3,8 +3,7 @@ ghost use Rattle.std.specs.Prelude.{◌≡◌, ◌≢◌, [], false, List, ℕ, 
 ghost use Rattle.ends.specs.Fault.{fault_line, IsReported};
 ghost use Rattle.ends.specs.Run.{Leaves};
 ghost use Rattle.ends.specs.Watch.{has_failed, is_closed};
-ghost use Rattle.ends.specs.declared.fault.Fault.{Fault as TheFault};
-ghost use Rattle.ends.specs.declared.fault.Fault.TheVariants.{Arguments, Memory};
+ghost use Rattle.ends.specs.declared.fault.Fault.{Fault as TheFault, TheVariants.{Arguments, Memory}};
 ghost use Rattle.highlight_run.specs.Page.{foot, head};
 ghost use Rattle.highlight_run.specs.Program.{asked, colours_of, is_dumb, is_unset, refusal as refusal_of, Does, Ran};
 ghost use Rattle.highlight_run.specs.Texts.{IsFrame, NamesArguments};

@@ -94,23 +94,20 @@ fn answers(cursor: &mut Cursor<'_>, call: Call) -> bool {
     }
 }
 
-/// Whether the calls have these answers.
-fn goes(text: &str, allowed: FrontmatterAllowed, calls: &[Call]) -> bool {
+/// Whether the calls have these answers, be a frontmatter allowed or not.
+fn goes(text: &str, calls: &[Call]) -> bool {
     if !fits(text) {
         return false;
     }
-    let mut cursor = Cursor::new(text, allowed);
-    for call in calls {
-        if !answers(&mut cursor, *call) {
-            return false;
+    for allowed in [FrontmatterAllowed::No, FrontmatterAllowed::Yes] {
+        let mut cursor = Cursor::new(text, allowed);
+        for call in calls {
+            if !answers(&mut cursor, *call) {
+                return false;
+            }
         }
     }
     true
-}
-
-/// The same, whether a frontmatter is allowed or not.
-fn goes_in_both(text: &str, calls: &[Call]) -> bool {
-    goes(text, FrontmatterAllowed::No, calls) && goes(text, FrontmatterAllowed::Yes, calls)
 }
 
 #[test]
@@ -122,7 +119,7 @@ fn rows(rt: HostRuntime) -> Result<(), AllocError> {
             Some(Some(call)) => calls.push(call)?,
             Some(None) => {
                 assert!(rt;
-                    goes_in_both(made.text.as_str(), calls.as_slice()),
+                    goes(made.text.as_str(), calls.as_slice()),
                     "in {}",
                     made.text
                 );

@@ -1,10 +1,11 @@
 //! Edits of a text that is kept with its tokens, one by one and as a list.
-use crate::documents;
 use crate::rows::Made;
 use crate::steppers::{Characters, Counting};
 use crate::tables::edits::{CHARACTERS, LONG, Role, SHORT};
 use crate::tables::row::Entry;
-use rustc_lexer::{Edit, EditStop, Edition, LexedText, Relexed, Stepper, Token, fits};
+use rustc_lexer::{
+    Edit, EditStop, Edition, LexedDocument, LexedText, Relexed, Stepper, Token, fits,
+};
 use std::alloc::{AllocError, Global};
 
 /// An edit and its counts, or no counts if it is refused.
@@ -19,8 +20,8 @@ pub(crate) struct Step {
 /// A text, its edits, and the text and the tokens after them.
 #[derive(Drop)]
 pub(crate) struct EditRow {
-    pub(crate) edition: Edition,
-    pub(crate) text: String,
+    edition: Edition,
+    text: String,
     steps: Vec<Step>,
     made: Made,
 }
@@ -65,7 +66,7 @@ impl EditRow {
 }
 
 /// A type that keeps a text with its tokens.
-pub(crate) trait Keeps {
+trait Keeps {
     fn text(&self) -> &str;
 
     fn tokens(&self) -> &[Token];
@@ -83,46 +84,13 @@ pub(crate) trait Keeps {
     fn try_each(&mut self, edits: &[Edit<'_>]) -> Result<Relexed, EditStop>;
 }
 
-impl<S: Stepper> Keeps for LexedText<S> {
-    fn text(&self) -> &str {
-        self.text()
-    }
-
-    fn tokens(&self) -> &[Token] {
-        self.tokens()
-    }
-
-    fn try_edit(
-        &mut self,
-        start: usize,
-        stop: usize,
-        insert: &str,
-    ) -> Result<Option<Relexed>, AllocError> {
-        if !self.accepts(start, stop, insert) {
-            return Ok(None);
-        }
-        Ok(Some(self.edit(start, stop, insert)?))
-    }
-
-    fn try_edits(&mut self, edits: &[Edit<'_>]) -> Result<(), EditStop> {
-        self.edit_all(edits)
-    }
-
-    fn try_each(&mut self, edits: &[Edit<'_>]) -> Result<Relexed, EditStop> {
-        match self.edit_each(edits) {
-            Ok(relexed) => Ok(relexed),
-            Err(stopped) => Err(stopped.stop),
-        }
-    }
-}
-
 /// Returns whether the text and the tokens are these.
 fn is_left<K: Keeps>(lexed: &K, made: &Made) -> bool {
     lexed.text() == made.text.as_str() && lexed.tokens() == made.tokens.as_slice()
 }
 
 /// Makes the edits one by one. Returns whether each is as the row says, and the text and tokens after them.
-pub(crate) fn is_edited<K: Keeps>(lexed: &mut K, row: &EditRow) -> Result<bool, AllocError> {
+fn is_edited<K: Keeps>(lexed: &mut K, row: &EditRow) -> Result<bool, AllocError> {
     for step in row.steps.as_slice() {
         if lexed.try_edit(step.start, step.stop, step.insert.as_str())? != step.counts {
             return Ok(false);
@@ -155,22 +123,8 @@ fn is_kept<K: Keeps>(lexed: &mut K, made: &Made) -> bool {
     lexed.try_edits(&[]) == Ok(()) && lexed.try_each(&[]) == Ok(all_kept) && is_left(lexed, made)
 }
 
-/// Returns whether the edits are as the row says, one by one or as a list.
-pub(crate) fn goes<K: Keeps>(
-    alloc: Global,
-    lexed: &mut K,
-    row: &EditRow,
-    as_list: bool,
-) -> Result<bool, AllocError> {
-    if as_list {
-        is_listed(alloc, lexed, row)
-    } else {
-        is_edited(lexed, row)
-    }
-}
-
 /// Returns how many tokens the edits of the row lex.
-pub(crate) fn lexed_by(row: &EditRow) -> u64 {
+fn lexed_by(row: &EditRow) -> u64 {
     let mut lexed = 0u64;
     for step in row.steps.as_slice() {
         if let Some(counts) = step.counts {
@@ -180,33 +134,87 @@ pub(crate) fn lexed_by(row: &EditRow) -> u64 {
     lexed
 }
 
-/// Returns whether the row holds for a text in its edition, one edit after another and as a list.
-fn holds(alloc: Global, row: &EditRow) -> Result<bool, AllocError> {
-    let text = row.text.as_str();
-    if !fits(text) {
-        return Ok(false);
-    }
-    let mut kept = if row.edition == Edition::NEWEST {
-        LexedText::new(alloc, text)?
-    } else {
-        LexedText::new_in(alloc, text, row.edition)?
-    };
-    if !is_edited(&mut kept, row)? || kept.edition() != row.edition {
-        return Ok(false);
-    }
-    Ok(is_counted(alloc, row, false)? && is_counted(alloc, row, true)?)
+/// The rows of texts that are kept with their tokens.
+pub(crate) struct Texts;
+
+/// Those of whole documents.
+pub(crate) struct Documents;
+
+macro_rules! kept_as {
+    ($($name:ident: $kept:ident),*) => {$(
+        impl<S: Stepper> Keeps for $kept<S> {
+            fn text(&self) -> &str {
+                self.text()
+            }
+
+            fn tokens(&self) -> &[Token] {
+                self.tokens()
+            }
+
+            fn try_edit(&mut self, start: usize, stop: usize, insert: &str) -> Result<Option<Relexed>, AllocError> {
+                if !self.accepts(start, stop, insert) {
+                    return Ok(None);
+                }
+                Ok(Some(self.edit(start, stop, insert)?))
+            }
+
+            fn try_edits(&mut self, edits: &[Edit<'_>]) -> Result<(), EditStop> {
+                self.edit_all(edits)
+            }
+
+            fn try_each(&mut self, edits: &[Edit<'_>]) -> Result<Relexed, EditStop> {
+                match self.edit_each(edits) {
+                    Ok(relexed) => Ok(relexed),
+                    Err(stopped) => Err(stopped.stop),
+                }
+            }
+        }
+
+        impl $name {
+            /// Returns whether the row holds in its edition, one edit after another and as a list. The stepper is
+            /// called once for each token that is lexed, except for so many tokens of heads.
+            pub(crate) fn hold(alloc: Global, row: &EditRow, heads: u64) -> Result<bool, AllocError> {
+                let text = row.text.as_str();
+                if !fits(text) {
+                    return Ok(false);
+                }
+                let mut kept = if row.edition == Edition::NEWEST {
+                    $kept::new(alloc, text)?
+                } else {
+                    $kept::new_in(alloc, text, row.edition)?
+                };
+                if !is_edited(&mut kept, row)? || kept.edition() != row.edition {
+                    return Ok(false);
+                }
+                let lexed = lexed_by(row).saturating_sub(heads);
+                Ok($name::count(alloc, row, lexed, false)? && $name::count(alloc, row, lexed, true)?)
+            }
+
+            /// Returns whether the row holds, and the stepper is called so many times.
+            fn count(alloc: Global, row: &EditRow, lexed: u64, as_list: bool) -> Result<bool, AllocError> {
+                let text = row.text.as_str();
+                if !fits(text) {
+                    return Ok(false);
+                }
+                let mut kept = $kept::with(alloc, text, Counting::new_in(row.edition))?;
+                let calls = kept.stepper().calls.saturating_add(lexed);
+                let holds = if as_list { is_listed(alloc, &mut kept, row)? } else { is_edited(&mut kept, row)? };
+                Ok(holds && kept.stepper().calls == calls)
+            }
+
+            /// Returns whether the row holds if each character is one token.
+            fn hold_by_characters(alloc: Global, row: &EditRow) -> Result<bool, AllocError> {
+                let text = row.text.as_str();
+                if !fits(text) {
+                    return Ok(false);
+                }
+                is_edited(&mut $kept::with(alloc, text, Characters::new())?, row)
+            }
+        }
+    )*};
 }
 
-/// Returns whether the row holds, and the stepper is called once for each token that is lexed.
-fn is_counted(alloc: Global, row: &EditRow, as_list: bool) -> Result<bool, AllocError> {
-    let text = row.text.as_str();
-    if !fits(text) {
-        return Ok(false);
-    }
-    let mut lexed = LexedText::with(alloc, text, Counting::new_in(row.edition))?;
-    let calls = lexed.stepper().calls.saturating_add(lexed_by(row));
-    Ok(goes(alloc, &mut lexed, row, as_list)? && lexed.stepper().calls == calls)
-}
+kept_as!(Texts: LexedText, Documents: LexedDocument);
 
 /// Texts with no head: an edit of one that is kept as a document keeps the same.
 #[test]
@@ -215,7 +223,8 @@ fn rows(rt: HostRuntime) -> Result<(), AllocError> {
         let mut row = EditRow::new(rt.alloc());
         for (number, entry) in entries.iter().enumerate() {
             if row.add(entry)? {
-                let holds = holds(rt.alloc(), &row)? && documents::holds(rt.alloc(), &row, 0)?;
+                let holds = Texts::hold(rt.alloc(), &row, 0)?
+                    && Documents::hold(rt.alloc(), &row, 0)?;
                 assert!(rt; holds, "{name}, up to entry {number}");
             }
         }
@@ -223,24 +232,13 @@ fn rows(rt: HostRuntime) -> Result<(), AllocError> {
     Ok(())
 }
 
-/// Returns whether the row holds if each character is one token.
-fn holds_by_characters(alloc: Global, row: &EditRow) -> Result<bool, AllocError> {
-    let text = row.text.as_str();
-    if !fits(text) {
-        return Ok(false);
-    }
-    let mut lexed = LexedText::with(alloc, text, Characters::new())?;
-    is_edited(&mut lexed, row)
-}
-
 #[test]
 fn one_character_a_token(rt: HostRuntime) -> Result<(), AllocError> {
     let mut row = EditRow::new(rt.alloc());
     for entry in CHARACTERS {
         if row.add(entry)? {
-            let holds = holds_by_characters(rt.alloc(), &row)?
-                && documents::holds_by_characters(rt.alloc(), &row)?;
-            assert!(rt; holds);
+            let texts_hold = Texts::hold_by_characters(rt.alloc(), &row)?;
+            assert!(rt; texts_hold && Documents::hold_by_characters(rt.alloc(), &row)?);
         }
     }
     Ok(())

@@ -13,12 +13,6 @@ pub struct Counting {
 }
 
 impl Counting {
-    pub fn new() -> Counting
-        ensures { result.calls ≡ 0 }
-    {
-        Counting::new_in(Edition::E2024)
-    }
-
     /// One of an edition, which has counted no call.
     pub fn new_in(edition: Edition) -> Counting
         ensures { result.calls ≡ 0 }

@@ -12,6 +12,10 @@ infixr 20 ◌&◌
 pub ◌&◌ : {A B : Type 0} → A → B → A × B
 ◌&◌ a b = (a, b)
 
+-- twelve strict keywords of 2015
+abbrev pub strict_from : ℕ → List (List ℕ)
+strict_from at = take 12 (drop at (made Strict E2015))
+
 abbrev pub IsNoneOf : List ℕ → List (List ℕ) → Type 0
 IsNoneOf word words = AllByRecursion (λ keyword. word ≡ keyword → ⊥) words
 
@@ -31,13 +35,9 @@ none_later : (edition : Edition) (word : List ℕ) → IsNoneOf word (made Stric
     → in_2015 ≡ (in_2015 || is_later Strict edition word)
 none_later edition word later in_2015 = grind (arith, common_steps, is_out)
 
-abbrev strict_words : List (List ℕ)
-strict_words = made Strict E2015
-
 -- a word that is not among the first 24 strict ones, and none that a later edition made
-pub is_among_last : (edition : Edition) (word : List ℕ) → is_in (take 12 strict_words) word ≡ false
-    → is_in (take 12 (drop 12 strict_words)) word ≡ false → IsNoneOf word (made Strict E2018)
-    → is_in (drop 24 strict_words) word ≡ has Strict edition word
+pub is_among_last : (edition : Edition) (word : List ℕ) → is_in (strict_from 0) word ≡ false → is_in (strict_from 12) word ≡ false
+    → IsNoneOf word (made Strict E2018) → is_in (strict_from 24) word ≡ has Strict edition word
 is_among_last edition word first second later =
-    sym (last_of (λ keyword. bytes_eq keyword word) (take 12 strict_words) (take 12 (drop 12 strict_words)) (drop 24 strict_words)
-      first second) ∙ none_later edition word later (is_in strict_words word)
+    sym (last_of (λ keyword. bytes_eq keyword word) (strict_from 0) (strict_from 12) (strict_from 24) first second)
+    ∙ none_later edition word later (is_in (made Strict E2015) word)

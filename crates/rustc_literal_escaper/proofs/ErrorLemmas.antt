@@ -1,10 +1,10 @@
 -- The errors of a list of items, one item at a time.
-use Rattle.std.proofs.Common.{◌≡◌, Bool, false, if◌then◌else◌, subst, ℕ, ◌-◌, length, List, [], ◌∷◌, ◌++◌, Option, Some, None, refl, ap, ◌∙◌, arith}
-use Rattle.std.specs.{List.{FoldsTo}, Option.{option_to_list}, Str.{chars, IsUtf8}}
+use Rattle.std.proofs.Common.{◌≡◌, false, sym, ℕ, ◌-◌, length, List, [], ◌∷◌, ◌++◌, Option, Some, None, refl, ap, ◌∙◌, arith}
+use Rattle.std.specs.{List.{FoldsTo}, Str.{chars, IsUtf8}}
 use Rattle.std.proofs.lemmas.{Str.{encodes-chars}, Grind.{common_steps}}
 use Rattle.rustc_literal_escaper.specs.declared.error.EscapeError.{TheVariants.{MoreThanOneChar}, EscapeError}
 use Rattle.rustc_literal_escaper.specs.{declared.mode.Mode.{Mode}, Grammar.{Error, Item}, Answers.{items_of}}
-use Rattle.rustc_literal_escaper.specs.{means.Single.{alone_error, read_errors, single_error}, Meaning.{errors_in, is_raw, is_single}}
+use Rattle.rustc_literal_escaper.specs.{means.Single.{alone_error, read_errors}, Meaning.{errors_in, is_raw, is_single}}
 use Rattle.rustc_literal_escaper.proofs.RunLemmas.{folds-on}
 
 -- what is wrong between single quotes, by what is wrong with the element, or by what is left
@@ -18,9 +18,7 @@ alone_error-more total wrong left more d none reads is = grind (arith, common_st
 
 -- a literal between double quotes has the errors of its elements
 pub read_errors-strings : (mode : Mode) (text : List ℕ) (items : List Item) → false ≡ is_single mode → items ≡ items_of (is_raw mode) text → errors_in mode items ≡ read_errors mode text
-read_errors-strings mode text items double are =
-    subst (λ (single : Bool). errors_in mode items ≡ (if single then option_to_list (single_error (length text) mode (chars text)) else errors_in mode (items_of (is_raw mode) text))) double
-      (ap (errors_in mode) are)
+read_errors-strings mode text items double are = rw (sym double) (ap (errors_in mode) are)
 
 -- the errors of some items and then others
 pub errors-append : (mode : Mode) (xs ys : List Item) → errors_in mode (xs ++ ys) ≡ errors_in mode xs ++ errors_in mode ys
