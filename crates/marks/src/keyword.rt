@@ -57,63 +57,61 @@ pub(crate) fn is_strict(word: &str, edition: Edition) -> bool
 fn is_strict_to_for(word: &str) -> bool
     ensures { result ≡ spec.is_in (take 12 (spec.made KeywordKind.Strict Edition.E2015)) word.now }
 {
-    match word {
-        "_"
-        | "as"
-        | "break"
-        | "const"
-        | "continue"
-        | "crate"
-        | "else"
-        | "enum"
-        | "extern"
-        | "false"
-        | "fn"
-        | "for" => true,
-        _ => false,
-    }
+    matches!(
+        word,
+        "_" | "as"
+            | "break"
+            | "const"
+            | "continue"
+            | "crate"
+            | "else"
+            | "enum"
+            | "extern"
+            | "false"
+            | "fn"
+            | "for"
+    )
 }
 
 /// Returns whether a word is one of the next twelve.
 fn is_strict_to_return(word: &str) -> bool
     ensures { result ≡ spec.is_in (take 12 (drop 12 (spec.made KeywordKind.Strict Edition.E2015))) word.now }
 {
-    match word {
-        "if"
-        | "impl"
-        | "in"
-        | "let"
-        | "loop"
-        | "match"
-        | "mod"
-        | "move"
-        | "mut"
-        | "pub"
-        | "ref"
-        | "return" => true,
-        _ => false,
-    }
+    matches!(
+        word,
+        "if" | "impl"
+            | "in"
+            | "let"
+            | "loop"
+            | "match"
+            | "mod"
+            | "move"
+            | "mut"
+            | "pub"
+            | "ref"
+            | "return"
+    )
 }
 
 /// Returns whether a word is one of the last twelve.
 fn is_strict_to_while(word: &str) -> bool
     ensures { result ≡ spec.is_in (drop 24 (spec.made KeywordKind.Strict Edition.E2015)) word.now }
 {
-    match word {
+    matches!(
+        word,
         "self"
-        | "Self"
-        | "static"
-        | "struct"
-        | "super"
-        | "trait"
-        | "true"
-        | "type"
-        | "unsafe"
-        | "use"
-        | "where"
-        | "while" => true,
-        _ => false,
-    }
+            | "Self"
+            | "static"
+            | "struct"
+            | "super"
+            | "trait"
+            | "true"
+            | "type"
+            | "unsafe"
+            | "use"
+            | "where"
+            | "while"
+    )
 }
 
 /// Returns whether a word is a reserved keyword.

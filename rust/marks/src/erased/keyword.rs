@@ -51,29 +51,57 @@ pub(crate) fn is_strict(word: &str, edition: Edition) -> bool {
 
 /// Returns whether a word is one of the first twelve strict keywords of 2015. The prover takes long for more at once.
 fn is_strict_to_for(word: &str) -> bool {
-    match word {
-        "_" | "as" | "break" | "const" | "continue" | "crate" | "else" | "enum" | "extern"
-        | "false" | "fn" | "for" => true,
-        _ => false,
-    }
+    matches!(
+        word,
+        "_" | "as"
+            | "break"
+            | "const"
+            | "continue"
+            | "crate"
+            | "else"
+            | "enum"
+            | "extern"
+            | "false"
+            | "fn"
+            | "for"
+    )
 }
 
 /// Returns whether a word is one of the next twelve.
 fn is_strict_to_return(word: &str) -> bool {
-    match word {
-        "if" | "impl" | "in" | "let" | "loop" | "match" | "mod" | "move" | "mut" | "pub"
-        | "ref" | "return" => true,
-        _ => false,
-    }
+    matches!(
+        word,
+        "if" | "impl"
+            | "in"
+            | "let"
+            | "loop"
+            | "match"
+            | "mod"
+            | "move"
+            | "mut"
+            | "pub"
+            | "ref"
+            | "return"
+    )
 }
 
 /// Returns whether a word is one of the last twelve.
 fn is_strict_to_while(word: &str) -> bool {
-    match word {
-        "self" | "Self" | "static" | "struct" | "super" | "trait" | "true" | "type" | "unsafe"
-        | "use" | "where" | "while" => true,
-        _ => false,
-    }
+    matches!(
+        word,
+        "self"
+            | "Self"
+            | "static"
+            | "struct"
+            | "super"
+            | "trait"
+            | "true"
+            | "type"
+            | "unsafe"
+            | "use"
+            | "where"
+            | "while"
+    )
 }
 
 /// Returns whether a word is a reserved keyword.
