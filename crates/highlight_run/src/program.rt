@@ -1,11 +1,11 @@
 //! The whole program, for any reader and writers.
-ghost use Rattle.std.specs.Prelude.{◌≡◌, ◌≢◌, [], false, List, ℕ, codes, string_bytes, Result, IfOk, IfErr, Err};
+ghost use Rattle.std.specs.Prelude.{◌≡◌, [], false, List, ℕ, codes, string_bytes, Result};
 ghost use Rattle.ends.specs.Fault.{fault_line, IsReported};
 ghost use Rattle.ends.specs.Run.{Leaves};
 ghost use Rattle.ends.specs.Watch.{has_failed, is_closed};
-ghost use Rattle.ends.specs.declared.fault.Fault.{Fault as TheFault, TheVariants.{Arguments, Memory}};
+ghost use Rattle.ends.specs.declared.fault.Fault.{Fault as TheFault};
 ghost use Rattle.highlight_run.specs.Page.{foot, head};
-ghost use Rattle.highlight_run.specs.Program.{asked, colours_of, is_dumb, is_unset, refusal as refusal_of, Does, Ran};
+ghost use Rattle.highlight_run.specs.Program.{asked, colours_of, is_dumb, is_unset, Ran};
 ghost use Rattle.highlight_run.specs.Texts.{IsFrame, NamesArguments};
 ghost use Rattle.highlight_run.specs.declared.program.TheConstants.{HELP};
 ghost use Rattle.marks.specs.declared.format.Format.TheVariants.{Html};
@@ -114,34 +114,7 @@ fn show<R: Read, W: Write>(
         }
         Err(_) => return Err(Fault::Memory),
     };
-    do_job(
-        alloc,
-        read_job(words.as_slice(), colours),
-        input,
-        output,
-        refusal,
-    )
-}
-
-/// Does the job. If a word is refused instead, `refusal` says which.
-fn do_job<R: Read, W: Write>(
-    alloc: Global,
-    job: Result<Job, &str>,
-    input: &mut Watched<R>,
-    output: &mut Watched<W>,
-    refusal: &mut String,
-) -> Result<(), Fault>
-    requires reads { has_failed input.old ≡ false }
-    requires writes { has_failed output.old ≡ false }
-    requires empty { string_bytes refusal.old ≡ [] }
-    ensures leaves { Leaves input.new output.new (W.contents output.old.inner)
-        (W.contents output.new.inner) result }
-    ensures does { IfOk job.entry (λ it. result ≢ Err Memory → Does (R.remaining input.old.inner)
-        (W.contents output.old.inner) (W.contents output.new.inner) it result) }
-    ensures refuses { IfErr job.entry (λ word. result ≢ Err Memory → (result ≡ Err Arguments)
-        × (string_bytes refusal.new ≡ refusal_of word.now)) }
-{
-    match job {
+    match read_job(words.as_slice(), colours) {
         Ok(Job::Show { format, edition }) => run(alloc, format, edition, input, output),
         Ok(Job::Help) => put(output, HELP),
         Ok(Job::Version) => put(output, VERSION),

@@ -1,8 +1,67 @@
 //! Whole documents that are kept with their tokens.
-use crate::edits::{Documents, EditRow};
+use crate::edits::{EditRow, Keeps, is_edited, is_listed, lexed_by};
+use crate::steppers::{Characters, Counting};
 use crate::tables::documents::{FRONTS, HEADS, KEPT, SPACED};
-use rustc_lexer::{LexedDocument, TokenStart, fits};
+use rustc_lexer::{
+    Edit, EditStop, LexedDocument, Relexed, Stepper, Stopped, Token, TokenStart, fits,
+};
 use std::alloc::{AllocError, Global};
+
+impl<S: Stepper> Keeps for LexedDocument<S> {
+    fn text(&self) -> &str {
+        self.text()
+    }
+
+    fn tokens(&self) -> &[Token] {
+        self.tokens()
+    }
+
+    fn try_edit(&mut self, edit: Edit<'_>) -> Result<Option<Relexed>, AllocError> {
+        if !self.accepts(edit.start, edit.stop, edit.insert) {
+            return Ok(None);
+        }
+        Ok(Some(self.edit(edit.start, edit.stop, edit.insert)?))
+    }
+
+    fn try_edits(&mut self, edits: &[Edit<'_>]) -> Result<(), EditStop> {
+        self.edit_all(edits)
+    }
+
+    fn try_each(&mut self, edits: &[Edit<'_>]) -> Result<Relexed, Stopped> {
+        self.edit_each(edits)
+    }
+}
+
+/// Returns whether the row holds for a document in its edition, one edit after another and as a list. The
+/// stepper is called once for each token that is lexed, except for so many tokens of heads.
+pub(crate) fn holds(alloc: Global, row: &EditRow, heads: u64) -> Result<bool, AllocError> {
+    let text = row.text.as_str();
+    if !fits(text) {
+        return Ok(false);
+    }
+    let mut kept = LexedDocument::new_in(alloc, text, row.edition)?;
+    if !is_edited(&mut kept, row)? || kept.edition() != row.edition {
+        return Ok(false);
+    }
+    let lexed = lexed_by(row).saturating_sub(heads);
+    Ok(is_counted(alloc, row, lexed, false)? && is_counted(alloc, row, lexed, true)?)
+}
+
+/// Returns whether the row holds, and the stepper is called so many times.
+fn is_counted(alloc: Global, row: &EditRow, lexed: u64, as_list: bool) -> Result<bool, AllocError> {
+    let text = row.text.as_str();
+    if !fits(text) {
+        return Ok(false);
+    }
+    let mut held = LexedDocument::with(alloc, text, Counting::new_in(row.edition))?;
+    let calls = held.stepper().calls.saturating_add(lexed);
+    let holds = if as_list {
+        is_listed(alloc, &mut held, row)?
+    } else {
+        is_edited(&mut held, row)?
+    };
+    Ok(holds && held.stepper().calls == calls)
+}
 
 /// Texts with a head.
 #[test]
@@ -15,7 +74,7 @@ fn rows(rt: HostRuntime) -> Result<(), AllocError> {
         let mut row = EditRow::new(rt.alloc());
         for (number, entry) in entries.iter().enumerate() {
             if row.add(entry)? {
-                let holds = Documents::hold(rt.alloc(), &row, heads)?;
+                let holds = holds(rt.alloc(), &row, heads)?;
                 assert!(rt; holds, "{name}, up to entry {number}");
             }
         }
@@ -23,28 +82,29 @@ fn rows(rt: HostRuntime) -> Result<(), AllocError> {
     Ok(())
 }
 
-/// Returns whether the document has a shebang line of this length, and its body starts there.
-fn has_head(
-    alloc: Global,
-    text: &str,
-    shebang: usize,
-    body: TokenStart,
-) -> Result<bool, AllocError> {
+/// Returns whether the row holds if each character is one token.
+pub(crate) fn holds_by_characters(alloc: Global, row: &EditRow) -> Result<bool, AllocError> {
+    let text = row.text.as_str();
     if !fits(text) {
         return Ok(false);
     }
-    let lexed = LexedDocument::new(alloc, text)?;
-    Ok(lexed.shebang_len() == shebang && lexed.body_start() == body)
+    let mut held = LexedDocument::with(alloc, text, Characters::new())?;
+    is_edited(&mut held, row)
 }
 
 #[test]
 fn heads(rt: HostRuntime) -> Result<(), AllocError> {
     for (text, shebang, number, place) in HEADS {
+        assert!(rt; fits(text));
+        let lexed = LexedDocument::new(rt.alloc(), text)?;
         let body = TokenStart {
             index: *number,
             offset: *place,
         };
-        assert!(rt; has_head(rt.alloc(), text, *shebang, body)?, "{text}");
+        assert!(rt;
+            lexed.shebang_len() == *shebang && lexed.body_start() == body,
+            "{text}"
+        );
     }
     Ok(())
 }

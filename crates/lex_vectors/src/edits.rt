@@ -1,11 +1,10 @@
 //! Edits of a text that is kept with its tokens, one by one and as a list.
+use crate::documents;
 use crate::rows::Made;
 use crate::steppers::{Characters, Counting};
 use crate::tables::edits::{CHARACTERS, LONG, Role, SHORT};
 use crate::tables::row::Entry;
-use rustc_lexer::{
-    Edit, EditStop, Edition, LexedDocument, LexedText, Relexed, Stepper, Token, fits,
-};
+use rustc_lexer::{Edit, EditStop, Edition, LexedText, Relexed, Stepper, Stopped, Token, fits};
 use std::alloc::{AllocError, Global};
 
 /// An edit and its counts, or no counts if it is refused.
@@ -17,11 +16,21 @@ pub(crate) struct Step {
     counts: Option<Relexed>,
 }
 
+impl Step {
+    fn edit(&self) -> Edit<'_> {
+        Edit {
+            start: self.start,
+            stop: self.stop,
+            insert: self.insert.as_str(),
+        }
+    }
+}
+
 /// A text, its edits, and the text and the tokens after them.
 #[derive(Drop)]
 pub(crate) struct EditRow {
-    edition: Edition,
-    text: String,
+    pub(crate) edition: Edition,
+    pub(crate) text: String,
     steps: Vec<Step>,
     made: Made,
 }
@@ -66,22 +75,42 @@ impl EditRow {
 }
 
 /// A type that keeps a text with its tokens.
-trait Keeps {
+pub(crate) trait Keeps {
     fn text(&self) -> &str;
 
     fn tokens(&self) -> &[Token];
 
     /// Makes the edit, or returns `None` if it is not accepted.
-    fn try_edit(
-        &mut self,
-        start: usize,
-        stop: usize,
-        insert: &str,
-    ) -> Result<Option<Relexed>, AllocError>;
+    fn try_edit(&mut self, edit: Edit<'_>) -> Result<Option<Relexed>, AllocError>;
 
     fn try_edits(&mut self, edits: &[Edit<'_>]) -> Result<(), EditStop>;
 
-    fn try_each(&mut self, edits: &[Edit<'_>]) -> Result<Relexed, EditStop>;
+    fn try_each(&mut self, edits: &[Edit<'_>]) -> Result<Relexed, Stopped>;
+}
+
+impl<S: Stepper> Keeps for LexedText<S> {
+    fn text(&self) -> &str {
+        self.text()
+    }
+
+    fn tokens(&self) -> &[Token] {
+        self.tokens()
+    }
+
+    fn try_edit(&mut self, edit: Edit<'_>) -> Result<Option<Relexed>, AllocError> {
+        if !self.accepts(edit.start, edit.stop, edit.insert) {
+            return Ok(None);
+        }
+        Ok(Some(self.edit(edit.start, edit.stop, edit.insert)?))
+    }
+
+    fn try_edits(&mut self, edits: &[Edit<'_>]) -> Result<(), EditStop> {
+        self.edit_all(edits)
+    }
+
+    fn try_each(&mut self, edits: &[Edit<'_>]) -> Result<Relexed, Stopped> {
+        self.edit_each(edits)
+    }
 }
 
 /// Returns whether the text and the tokens are these.
@@ -90,9 +119,9 @@ fn is_left<K: Keeps>(lexed: &K, made: &Made) -> bool {
 }
 
 /// Makes the edits one by one. Returns whether each is as the row says, and the text and tokens after them.
-fn is_edited<K: Keeps>(lexed: &mut K, row: &EditRow) -> Result<bool, AllocError> {
+pub(crate) fn is_edited<K: Keeps>(lexed: &mut K, row: &EditRow) -> Result<bool, AllocError> {
     for step in row.steps.as_slice() {
-        if lexed.try_edit(step.start, step.stop, step.insert.as_str())? != step.counts {
+        if lexed.try_edit(step.edit())? != step.counts {
             return Ok(false);
         }
     }
@@ -100,17 +129,13 @@ fn is_edited<K: Keeps>(lexed: &mut K, row: &EditRow) -> Result<bool, AllocError>
 }
 
 /// Returns whether the edits as a list give the same, and an empty list after them changes nothing.
-fn is_listed<K: Keeps>(alloc: Global, lexed: &mut K, row: &EditRow) -> Result<bool, AllocError> {
+pub fn is_listed<K: Keeps>(alloc: Global, kept: &mut K, row: &EditRow) -> Result<bool, AllocError> {
     let mut edits = Vec::new(alloc);
     for step in row.steps.as_slice() {
-        edits.push(Edit {
-            start: step.start,
-            stop: step.stop,
-            insert: step.insert.as_str(),
-        })?;
+        edits.push(step.edit())?;
     }
-    let end = lexed.try_edits(edits.as_slice());
-    Ok(end == row.end() && is_left(lexed, &row.made) && is_kept(lexed, &row.made))
+    let end = kept.try_edits(edits.as_slice());
+    Ok(end == row.end() && is_left(kept, &row.made) && is_kept(kept, &row.made))
 }
 
 /// Returns whether an empty list of edits keeps all of these.
@@ -124,7 +149,7 @@ fn is_kept<K: Keeps>(lexed: &mut K, made: &Made) -> bool {
 }
 
 /// Returns how many tokens the edits of the row lex.
-fn lexed_by(row: &EditRow) -> u64 {
+pub(crate) fn lexed_by(row: &EditRow) -> u64 {
     let mut lexed = 0u64;
     for step in row.steps.as_slice() {
         if let Some(counts) = step.counts {
@@ -134,87 +159,38 @@ fn lexed_by(row: &EditRow) -> u64 {
     lexed
 }
 
-/// The rows of texts that are kept with their tokens.
-pub(crate) struct Texts;
-
-/// Those of whole documents.
-pub(crate) struct Documents;
-
-macro_rules! kept_as {
-    ($($name:ident: $kept:ident),*) => {$(
-        impl<S: Stepper> Keeps for $kept<S> {
-            fn text(&self) -> &str {
-                self.text()
-            }
-
-            fn tokens(&self) -> &[Token] {
-                self.tokens()
-            }
-
-            fn try_edit(&mut self, start: usize, stop: usize, insert: &str) -> Result<Option<Relexed>, AllocError> {
-                if !self.accepts(start, stop, insert) {
-                    return Ok(None);
-                }
-                Ok(Some(self.edit(start, stop, insert)?))
-            }
-
-            fn try_edits(&mut self, edits: &[Edit<'_>]) -> Result<(), EditStop> {
-                self.edit_all(edits)
-            }
-
-            fn try_each(&mut self, edits: &[Edit<'_>]) -> Result<Relexed, EditStop> {
-                match self.edit_each(edits) {
-                    Ok(relexed) => Ok(relexed),
-                    Err(stopped) => Err(stopped.stop),
-                }
-            }
-        }
-
-        impl $name {
-            /// Returns whether the row holds in its edition, one edit after another and as a list. The stepper is
-            /// called once for each token that is lexed, except for so many tokens of heads.
-            pub(crate) fn hold(alloc: Global, row: &EditRow, heads: u64) -> Result<bool, AllocError> {
-                let text = row.text.as_str();
-                if !fits(text) {
-                    return Ok(false);
-                }
-                let mut kept = if row.edition == Edition::NEWEST {
-                    $kept::new(alloc, text)?
-                } else {
-                    $kept::new_in(alloc, text, row.edition)?
-                };
-                if !is_edited(&mut kept, row)? || kept.edition() != row.edition {
-                    return Ok(false);
-                }
-                let lexed = lexed_by(row).saturating_sub(heads);
-                Ok($name::count(alloc, row, lexed, false)? && $name::count(alloc, row, lexed, true)?)
-            }
-
-            /// Returns whether the row holds, and the stepper is called so many times.
-            fn count(alloc: Global, row: &EditRow, lexed: u64, as_list: bool) -> Result<bool, AllocError> {
-                let text = row.text.as_str();
-                if !fits(text) {
-                    return Ok(false);
-                }
-                let mut kept = $kept::with(alloc, text, Counting::new_in(row.edition))?;
-                let calls = kept.stepper().calls.saturating_add(lexed);
-                let holds = if as_list { is_listed(alloc, &mut kept, row)? } else { is_edited(&mut kept, row)? };
-                Ok(holds && kept.stepper().calls == calls)
-            }
-
-            /// Returns whether the row holds if each character is one token.
-            fn hold_by_characters(alloc: Global, row: &EditRow) -> Result<bool, AllocError> {
-                let text = row.text.as_str();
-                if !fits(text) {
-                    return Ok(false);
-                }
-                is_edited(&mut $kept::with(alloc, text, Characters::new())?, row)
-            }
-        }
-    )*};
+/// Returns whether the row holds for a text in its edition, one edit after another and as a list.
+fn holds(alloc: Global, row: &EditRow) -> Result<bool, AllocError> {
+    let text = row.text.as_str();
+    if !fits(text) {
+        return Ok(false);
+    }
+    let mut kept = if row.edition == Edition::NEWEST {
+        LexedText::new(alloc, text)?
+    } else {
+        LexedText::new_in(alloc, text, row.edition)?
+    };
+    if !is_edited(&mut kept, row)? || kept.edition() != row.edition {
+        return Ok(false);
+    }
+    Ok(is_counted(alloc, row, false)? && is_counted(alloc, row, true)?)
 }
 
-kept_as!(Texts: LexedText, Documents: LexedDocument);
+/// Returns whether the row holds, and the stepper is called once for each token that is lexed.
+fn is_counted(alloc: Global, row: &EditRow, as_list: bool) -> Result<bool, AllocError> {
+    let text = row.text.as_str();
+    if !fits(text) {
+        return Ok(false);
+    }
+    let mut lexed = LexedText::with(alloc, text, Counting::new_in(row.edition))?;
+    let calls = lexed.stepper().calls.saturating_add(lexed_by(row));
+    let holds = if as_list {
+        is_listed(alloc, &mut lexed, row)?
+    } else {
+        is_edited(&mut lexed, row)?
+    };
+    Ok(holds && lexed.stepper().calls == calls)
+}
 
 /// Texts with no head: an edit of one that is kept as a document keeps the same.
 #[test]
@@ -223,8 +199,7 @@ fn rows(rt: HostRuntime) -> Result<(), AllocError> {
         let mut row = EditRow::new(rt.alloc());
         for (number, entry) in entries.iter().enumerate() {
             if row.add(entry)? {
-                let holds = Texts::hold(rt.alloc(), &row, 0)?
-                    && Documents::hold(rt.alloc(), &row, 0)?;
+                let holds = holds(rt.alloc(), &row)? && documents::holds(rt.alloc(), &row, 0)?;
                 assert!(rt; holds, "{name}, up to entry {number}");
             }
         }
@@ -232,13 +207,24 @@ fn rows(rt: HostRuntime) -> Result<(), AllocError> {
     Ok(())
 }
 
+/// Returns whether the row holds if each character is one token.
+fn holds_by_characters(alloc: Global, row: &EditRow) -> Result<bool, AllocError> {
+    let text = row.text.as_str();
+    if !fits(text) {
+        return Ok(false);
+    }
+    let mut lexed = LexedText::with(alloc, text, Characters::new())?;
+    is_edited(&mut lexed, row)
+}
+
 #[test]
 fn one_character_a_token(rt: HostRuntime) -> Result<(), AllocError> {
     let mut row = EditRow::new(rt.alloc());
     for entry in CHARACTERS {
         if row.add(entry)? {
-            let texts_hold = Texts::hold_by_characters(rt.alloc(), &row)?;
-            assert!(rt; texts_hold && Documents::hold_by_characters(rt.alloc(), &row)?);
+            let holds = holds_by_characters(rt.alloc(), &row)?
+                && documents::holds_by_characters(rt.alloc(), &row)?;
+            assert!(rt; holds);
         }
     }
     Ok(())

@@ -82,24 +82,7 @@ fn show<R: Read, W: Write>(
         }
         Err(_) => return Err(Fault::Memory),
     };
-    do_job(
-        alloc,
-        read_job(words.as_slice(), colours),
-        input,
-        output,
-        refusal,
-    )
-}
-
-/// Does the job. If a word is refused instead, `refusal` says which.
-fn do_job<R: Read, W: Write>(
-    alloc: Global,
-    job: Result<Job, &str>,
-    input: &mut Watched<R>,
-    output: &mut Watched<W>,
-    refusal: &mut String,
-) -> Result<(), Fault> {
-    match job {
+    match read_job(words.as_slice(), colours) {
         Ok(Job::Show { format, edition }) => run(alloc, format, edition, input, output),
         Ok(Job::Help) => put(output, HELP),
         Ok(Job::Version) => put(output, VERSION),
