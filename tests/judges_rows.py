@@ -257,7 +257,6 @@ ROWS = [
     ("tests/wrong_rows ends/failed_read_is_the_end", [stand_in("cargo", EDITED), ("tests/program", None, SHELL)], "FAILS ANOTHER ROW: planted"),
     ("tests/wrong_rows ends/failed_read_is_the_end", [NO_CARGO], "with no edit this fails"),
     ("tests/wrong_rows planted", [], "no wrong body is of that name"),
-    ("tests/wrong_rows --draw=3 ends/failed_read_is_the_end", [stand_in("cargo", ""), ("tests/program", None, SHELL)], "a third of 1, drawn by 3"),
 ]
 # What a key has to have.
 KEYS = [
@@ -377,7 +376,7 @@ def of_gate(top):
         ("begin tests/c_library tests/trusted", "begin tests/c_library", "tests/trusted"),
         (" 'tools/erase --check'", "", "tools/erase --check"),
         (" 'tests/documents names'", "", "tests/documents names"),
-        ("'tests/wrong_rows --draw always'", "tests/wrong_rows", "tests/wrong_rows --draw always"),
+        ("'tests/wrong_rows always'", "tests/wrong_rows", "tests/wrong_rows always"),
         ("manual='", "manual='numbers ", "tests/numbers"),
         ("later='", "later='erase ", "tests/erase"),
         ("for it in tests/*", "for it in tests/[!e]*", "tests/erased"),

@@ -34,7 +34,7 @@ impl<S: Stepper> Keeps for LexedDocument<S> {
 
 /// Returns whether the row holds for a document in its edition, one edit after another and as a list. The
 /// stepper is called once for each token that is lexed, except for so many tokens of heads.
-pub(crate) fn holds(alloc: Global, row: &EditRow, heads: u64) -> Result<bool, AllocError> {
+pub fn holds(alloc: Global, row: &EditRow, heads: u64) -> Result<bool, AllocError> {
     let text = row.text.as_str();
     if !fits(text) {
         return Ok(false);
@@ -83,7 +83,7 @@ fn rows(rt: HostRuntime) -> Result<(), AllocError> {
 }
 
 /// Returns whether the row holds if each character is one token.
-pub(crate) fn holds_by_characters(alloc: Global, row: &EditRow) -> Result<bool, AllocError> {
+pub fn holds_by_characters(alloc: Global, row: &EditRow) -> Result<bool, AllocError> {
     let text = row.text.as_str();
     if !fits(text) {
         return Ok(false);

@@ -9,7 +9,7 @@ use std::alloc::{AllocError, Global};
 
 /// An edit and its counts, or no counts if it is refused.
 #[derive(Drop)]
-pub(crate) struct Step {
+pub struct Step {
     start: usize,
     stop: usize,
     insert: String,
@@ -28,15 +28,15 @@ impl Step {
 
 /// A text, its edits, and the text and the tokens after them.
 #[derive(Drop)]
-pub(crate) struct EditRow {
-    pub(crate) edition: Edition,
-    pub(crate) text: String,
+pub struct EditRow {
+    pub edition: Edition,
+    pub text: String,
     steps: Vec<Step>,
     made: Made,
 }
 
 impl EditRow {
-    pub(crate) fn new(alloc: Global) -> EditRow {
+    pub fn new(alloc: Global) -> EditRow {
         EditRow {
             edition: Edition::E2024,
             text: String::new(alloc),
@@ -46,7 +46,7 @@ impl EditRow {
     }
 
     /// Adds an entry of a table. Returns whether the row is whole.
-    pub(crate) fn add(&mut self, entry: &Entry<Role>) -> Result<bool, AllocError> {
+    pub fn add(&mut self, entry: &Entry<Role>) -> Result<bool, AllocError> {
         match self.made.add(entry)? {
             Some(Role::Before(edition)) => {
                 self.edition = edition;
@@ -75,7 +75,7 @@ impl EditRow {
 }
 
 /// A type that keeps a text with its tokens.
-pub(crate) trait Keeps {
+pub trait Keeps {
     fn text(&self) -> &str;
 
     fn tokens(&self) -> &[Token];
@@ -119,7 +119,7 @@ fn is_left<K: Keeps>(lexed: &K, made: &Made) -> bool {
 }
 
 /// Makes the edits one by one. Returns whether each is as the row says, and the text and tokens after them.
-pub(crate) fn is_edited<K: Keeps>(lexed: &mut K, row: &EditRow) -> Result<bool, AllocError> {
+pub fn is_edited<K: Keeps>(lexed: &mut K, row: &EditRow) -> Result<bool, AllocError> {
     for step in row.steps.as_slice() {
         if lexed.try_edit(step.edit())? != step.counts {
             return Ok(false);
@@ -149,7 +149,7 @@ fn is_kept<K: Keeps>(lexed: &mut K, made: &Made) -> bool {
 }
 
 /// Returns how many tokens the edits of the row lex.
-pub(crate) fn lexed_by(row: &EditRow) -> u64 {
+pub fn lexed_by(row: &EditRow) -> u64 {
     let mut lexed = 0u64;
     for step in row.steps.as_slice() {
         if let Some(counts) = step.counts {
