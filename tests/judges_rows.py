@@ -28,9 +28,16 @@ WRITES = [(f"crates/{name}/out/{name}", None, SHELL + "echo planted\n") for name
 FAILS = [(f"crates/{name}/out/{name}", None, SHELL + "exit 1\n") for name in ("lexdump", "highlight")]
 NO_CARGO = stand_in("cargo", "echo planted\nexit 1\n")
 HELD = ("tests/wrong_bodies", "if it.label in valid]", "if it.label in kept]")
+PROVED = "echo only=1 proved=1"
+OF_ENDS = "crates/ends/src"
 FIRST_LINE = "// Made by tools/erase from crates/ends/src/fault.rt: edit that file.\n"
 # A line that a carriage return takes into the comment before it.
 TO_COMMENT = ("rust/rustc_lexer/src/erased/relex/edit.rs", "allocate.\n    debug", "allocate.\r    debug")
+
+
+def over_libraries(text):
+    """What stands in for the checks over the libraries of `rt ci`."""
+    return ("tools/over_libraries", None, f"{SHELL}{text}\n")
 
 
 def documented(sentence, found="caret incremental position reparse spanned"):
@@ -234,11 +241,19 @@ BODIES = [
     # where the prover takes all, each line is as one that a hand wrote for a right body
     ("tests/wrong_bodies --draw=3 ends", [PROVES_ALL], "0 of 5 refused by name: 1 of those always tried, 0 new or changed, 4 drawn by 3"),
     # bodies are drawn, whether their lines still hold or not
-    ("tests/wrong_bodies --linked marks", [HELD, ("tools/over_libraries", None, SHELL + "echo only=1 proved=1\n")], "since their lines are kept; rattle-kit-"),
-    ("tests/wrong_bodies --linked --draw=3", [HELD, ("tools/over_libraries", None, SHELL + "echo only=1 proved=1\n")], "0 of 31 refused by name: 27 of those always tried, 0 new or changed, 4 drawn by 3"),
-    # over the libraries of `rt ci` each is asked for at its function, the others of its crate not
-    ("tests/wrong_bodies --linked ends", [("tools/over_libraries", None, SHELL + "echo planted; exit 1\n")], "ends/failed_read_is_the_end: BAD EDIT: planted"),
-    ("tests/wrong_bodies --linked ends", [("tools/over_libraries", None, SHELL + "echo only=1 proved=1; case \"$* \" in *'--only=reading::read_all '*) ;; *) exit 1 ;; esac\n")], "ends/failed_read_is_the_end: NOT REFUSED"),
+    ("tests/wrong_bodies --linked marks", [HELD, over_libraries(PROVED)], "since their lines are kept; rattle-kit-"),
+    ("tests/wrong_bodies --linked --draw=3", [HELD, over_libraries(PROVED)], "0 of 31 refused by name: 27 of those always tried, 0 new or changed, 4 drawn by 3"),
+    # over the libraries of `rt ci` each is asked for at its function, the others of its crate not: they have no bodies. First comes
+    # a check with no edit, at which no goal may be open
+    ("tests/wrong_bodies --linked ends", [over_libraries("echo planted; exit 1")], "ends is not proved, so none of its bodies was tried"),
+    ("tests/wrong_bodies --linked ends", [over_libraries(f"echo 'fn ends::reading::read_all: no proof: `search` did not prove `returns`'; {PROVED}")], "ends is not proved, so none of its bodies was tried"),
+    ("tests/wrong_bodies --linked ends", [over_libraries(f"grep -q 'Err(Fault::Read)' {OF_ENDS}/reading.rt && {PROVED} || echo planted")], "ends/failed_read_is_the_end: BAD EDIT: planted"),
+    # of a right body that calls a function without one, no goal is open
+    ("tests/wrong_bodies --linked ends", [over_libraries(f"echo 'fn ends::reading::read_all: no proof: it calls `ends::planted`, which is not proved'; {PROVED}")], "ends/failed_read_is_the_end: NOT REFUSED"),
+    ("tests/wrong_bodies --linked ends", [over_libraries(f"case \"$* \" in *'--only=reading::read_all '*) {PROVED} ;; esac")], "ends/failed_read_is_the_end: NOT REFUSED"),
+    ("tests/wrong_bodies --linked ends", [over_libraries(f"grep -q 'unreachable!()' {OF_ENDS}/reading.rt || ! grep -rq 'unreachable!()' {OF_ENDS} || {PROVED}")], "ends/failed_read_is_the_end: NOT REFUSED"),
+    # an empty body is one that is taken
+    ("tests/wrong_bodies --linked ends", [("crates/ends/src/lib.rt", "//! ", "fn planted() {}\n//! "), over_libraries(f"grep -rq '{{}}' {OF_ENDS} || {PROVED}")], "ends/failed_read_is_the_end: NOT REFUSED"),
     ("tests/wrong_bodies planted", [], "planted is no crate with wrong bodies"),
     ("tests/wrong_bodies --linked -planted", [], "planted is no crate with wrong bodies"),
     ("tests/wrong_bodies --take < said", [("said", None, "marks/mark_is_not_closed: 0 refused at marks::planted, a\n")], "0 lines taken"),
@@ -256,6 +271,8 @@ ROWS = [
     ("tests/wrong_rows ends/failed_read_is_the_end", [stand_in("cargo", ""), ("tests/program", None, SHELL)], "FAILS NO ROW"),
     ("tests/wrong_rows ends/failed_read_is_the_end", [stand_in("cargo", EDITED), ("tests/program", None, SHELL)], "FAILS ANOTHER ROW: planted"),
     ("tests/wrong_rows ends/failed_read_is_the_end", [NO_CARGO], "with no edit this fails"),
+    # where a row has its file before it, only that file runs
+    ("tests/wrong_rows rustc_lexer/edit_lexes_the_whole_text", [stand_in("cargo", "case \"$*\" in *'--test counted') ;; *) exit 1 ;; esac\n")], "edit_lexes_the_whole_text: FAILS NO ROW"),
     ("tests/wrong_rows planted", [], "no wrong body is of that name"),
 ]
 # What a key has to have.
