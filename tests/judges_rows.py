@@ -201,7 +201,7 @@ NAMES = [
     ("README.md", "\n", "\n" + 500 * "planted ", "README.md: more than 900 words"),
     ("README.md", "\n```rust\n", "\n```text\n", "README.md: not one program in Rust"),
     ("README.md", "logic ", "logic 0", "README.md: does not name the toolchain"),
-    ("docs/PROVED.md", "`logic ", "`rattle-kit-0 logic ", "docs/PROVED.md: does not name the toolchain"),
+    ("docs/PROVED.md", "`logic ", "\n  `rattle-kit-0 logic ", "docs/PROVED.md: does not name the toolchain"),
     *(("docs/SPEED.md", "# Speed\n", f"# Speed\n\n{it}\n", "is in no table of docs/SPEED.md") for it in ("0.987", "987 µs")),
     ("docs/SPEED.md", "|---|---|---|\n", "|---|---|---|\n| planted | planted | 0.01 to 9.99 |\n", "the programs that lex take 0.01 to 9.99"),
     ("SUPPORT.md", "\n", "\n" + 121 * "a", "SUPPORT.md: a line of more than 120 characters"),
