@@ -247,6 +247,7 @@ BODIES = [
     # a check with no edit, at which no goal may be open
     ("tests/wrong_bodies --linked ends", [over_libraries("echo planted; exit 1")], "ends is not proved, so none of its bodies was tried"),
     ("tests/wrong_bodies --linked ends", [over_libraries(f"echo 'fn ends::reading::read_all: no proof: `search` did not prove `returns`'; {PROVED}")], "ends is not proved, so none of its bodies was tried"),
+    ("tests/wrong_bodies --linked ends", [over_libraries(f"echo 'fn ends::reading::read_all: no proof: expected answers in ./a; `#[tactic(none)]` leaves `b`'; {PROVED}")], "ends is not proved, so none of its bodies was tried"),
     ("tests/wrong_bodies --linked ends", [over_libraries(f"grep -q 'Err(Fault::Read)' {OF_ENDS}/reading.rt && {PROVED} || echo planted")], "ends/failed_read_is_the_end: BAD EDIT: planted"),
     # of a right body that calls a function without one, no goal is open
     ("tests/wrong_bodies --linked ends", [over_libraries(f"echo 'fn ends::reading::read_all: no proof: it calls `ends::planted`, which is not proved'; {PROVED}")], "ends/failed_read_is_the_end: NOT REFUSED"),
