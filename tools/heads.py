@@ -56,6 +56,22 @@ def owner(line):
     return name[1], len(words) == 3
 
 
+def paths_of(tree, before=""):
+    """The paths of an import, each whole: `a.{b, c as d}` has `a.b` and `a.c as d`."""
+    depth, part = 0, ""
+    for sign in f"{tree},":
+        depth += {"{": 1, "}": -1}.get(sign, 0)
+        if sign != "," or depth:
+            part += sign
+            continue
+        head, opened, inside = part.strip().partition("{")
+        if opened:
+            yield from paths_of(inside.rpartition("}")[0], before + head)
+        elif head:
+            yield before + head
+        part = ""
+
+
 def passed_on(text):
     """The names that a library passes on, and its public modules."""
     names, modules, at = set(), set(), 0
