@@ -1,5 +1,5 @@
 // What page.js draws of an answer, and when, with no browser: plain objects stand in for the page and for its lexer.
-// tests/programs_by_cargo calls it; tests/page has the page itself.
+// The gate calls it; tests/page has the page itself.
 //
 // usage: node tests/page_alone.mjs
 import { deepStrictEqual as same } from 'node:assert';

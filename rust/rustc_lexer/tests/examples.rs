@@ -1,0 +1,223 @@
+//! Each example as a process: what it prints for an input. `cargo test` builds the examples, and `--test examples` alone does
+//! not: say `cargo build --examples` before it.
+#![cfg(feature = "alloc")]
+
+use std::io::Write;
+use std::path::PathBuf;
+use std::process::{Command, Output, Stdio};
+use std::{env, fs, thread};
+
+/// Where Cargo puts examples: beside the folder of the tests.
+fn example(name: &str) -> Command {
+    let test = env::current_exe().unwrap();
+    let folder = test.parent().unwrap().parent().unwrap().join("examples");
+    Command::new(folder.join(name).with_extension(env::consts::EXE_EXTENSION))
+}
+
+/// What an example comes to over this input, which it need not read to the end.
+fn run(name: &str, args: &[&str], input: &str) -> Output {
+    let pipe = Stdio::piped;
+    let mut process = example(name)
+        .args(args)
+        .stdin(pipe())
+        .stdout(pipe())
+        .stderr(pipe())
+        .spawn()
+        .expect("the examples are built: see the head of this file");
+    let (mut to, input) = (process.stdin.take().unwrap(), input.to_owned());
+    let writes = thread::spawn(move || to.write_all(input.as_bytes()));
+    let output = process.wait_with_output().unwrap();
+    let _ = writes.join().unwrap();
+    output
+}
+
+/// What an example prints, which ends well and says nothing else.
+fn prints(name: &str, args: &[&str], input: &str) -> String {
+    let ended = run(name, args, input);
+    let said = String::from_utf8(ended.stderr).unwrap();
+    assert!(
+        ended.status.success() && said.is_empty(),
+        "{name} {args:?}: {said}"
+    );
+    String::from_utf8(ended.stdout).unwrap()
+}
+
+/// What an example says that fails and prints nothing.
+fn refuses(name: &str, args: &[&str], input: &str) -> String {
+    let ended = run(name, args, input);
+    assert!(
+        !ended.status.success() && ended.stdout.is_empty(),
+        "{name} {args:?}"
+    );
+    String::from_utf8(ended.stderr).unwrap()
+}
+
+/// A file of this text, by its path.
+fn file(name: &str, text: &str) -> String {
+    let path = PathBuf::from(env!("CARGO_TARGET_TMPDIR")).join(name);
+    fs::write(&path, text).unwrap();
+    path.into_os_string().into_string().unwrap()
+}
+
+#[test]
+fn tokens_of_a_file_and_of_a_part() {
+    let path = file("shebang", "#!/a\nb \"");
+    let wanted = r#"4 1 Whitespace "\n"
+5 1 Ident "b"
+6 1 Whitespace " "
+7 1 Literal { kind: Str { terminated: false }, suffix_start: 1 } "\""
+"#;
+    assert_eq!(prints("tokens", &[&path], ""), wanted);
+    let part = prints("tokens", &["--part"], "#!/a");
+    let kinds: Vec<&str> = part
+        .lines()
+        .map(|line| line.split(' ').nth(2).unwrap())
+        .collect();
+    assert_eq!(kinds, ["Pound", "Bang", "Slash", "Ident"]);
+    for (year, kind) in [("2018", "Lifetime"), ("2021", "RawLifetime")] {
+        let all = prints("tokens", &["--edition", year], "'r#a");
+        assert_eq!(all.split(' ').nth(2), Some(kind));
+    }
+    assert!(prints("tokens", &["--help"], "").contains("\nusage: tokens "));
+    for args in [
+        &["--planted"][..],
+        &["--edition", "2000"],
+        &[&path, &path],
+        &["not_there"],
+    ] {
+        assert!(
+            refuses("tokens", args, "").starts_with("Error: "),
+            "{args:?}"
+        );
+    }
+}
+
+/// As after `| head -n 1`: nobody reads on, and that is no fault.
+#[test]
+fn tokens_that_nobody_reads() {
+    let mut process = example("tokens")
+        .stdin(Stdio::piped())
+        .stdout(Stdio::piped())
+        .stderr(Stdio::piped())
+        .spawn()
+        .unwrap();
+    drop(process.stdout.take());
+    let _ = process.stdin.take().unwrap().write_all(&[b';'; 1_000_000]);
+    let ended = process.wait_with_output().unwrap();
+    assert!(ended.status.success() && ended.stderr.is_empty());
+}
+
+#[test]
+fn typing_keeps_tokens() {
+    let path = file("typed", "let ab = cd\nfn f() {}\n");
+    let wanted = r#"9 Ident "cde"
+16 kept
+9 Ident "cde"
+12 Whitespace " "
+13 Plus "+"
+14 Whitespace " "
+15 Literal { kind: Int { base: Decimal, empty_int: false }, suffix_start: 1 } "1"
+16 kept
+"#;
+    assert_eq!(prints("typing", &[&path], "e\n + 1\n"), wanted);
+    let path = file("no_line_end", "a");
+    let wanted = "0 Ident \"aé\"\n0 kept\n0 Ident \"aéc\"\n0 kept\n";
+    assert_eq!(prints("typing", &[&path], "é\nc\n"), wanted);
+}
+
+#[test]
+fn kinds_are_counted() {
+    assert_eq!(
+        prints("kinds", &[], "a + \"b\""),
+        "1 Ident\n1 Plus\n1 Str\n2 Whitespace\n"
+    );
+}
+
+/// A shebang line, a frontmatter, comments for documents and not, a raw string that ends with its line, a form feed, a string
+/// over lines, blanks before a carriage return, indentation, and blanks at the end.
+const LINED: &str = "#!/bin/sh \n---\na \n---\n\n// b  \n/// g\n/** h */\nr#\n \ni \x0c \nfn \t\r\n  f() {  \n\n\t\n    \"c  // d\n\n\" /* e \n\n */ } \n \t";
+const TRIMMED: &str = "#!/bin/sh \n---\na \n---\n\n// b  \n/// g\n/** h */\nr#\n\ni \x0c\nfn\r\n  f() {\n\n\n    \"c  // d\n\n\" /* e \n\n */ }\n";
+
+#[test]
+fn lines_are_counted_and_trimmed() {
+    assert_eq!(prints("trim", &[], LINED), TRIMMED);
+    let [lined, empty, trimmed] = [("lined", LINED), ("empty", ""), ("trimmed", TRIMMED)]
+        .map(|(name, text)| file(name, text));
+    let wanted = format!(
+        "    code  comment    blank\n      12        4        5  {lined}\n       0        0        0  {empty}\n      12        4        4  {trimmed}\n      24        8        9  total\n"
+    );
+    assert_eq!(prints("lines", &[&lined, &empty, &trimmed], ""), wanted);
+}
+
+#[test]
+fn squeezing_keeps_tokens() {
+    let long = "#!/bin/sh\n---\na\n---\n\n// b\n//! c\nfn f() {\n    /// d\n    let x = 0..=y; // e\n    r \"g\" /* h */ & & - 1. .max()\n}\n";
+    let wanted = "#!/bin/sh\n---\na\n---\n//! c\nfn f(){/// d\nlet x=0..=y;r \"g\"&&-1. .max()}";
+    assert_eq!(prints("squeeze", &[], long), wanted);
+    // no shebang line, and a comment that nothing closes
+    assert_eq!(prints("squeeze", &[], " fn f ( ) { } /* a"), "fn f(){}/* a");
+}
+
+/// `0.` is a number, and `z"` is reserved.
+#[test]
+fn printing_separates_tokens() {
+    let tokens = "let\nx\n=\n0\n.\n.\n// a\nz\n\"b\"\n&\n&\n";
+    assert_eq!(prints("print", &[], tokens), "let x=0 ..// a\nz \"b\"&&\n");
+    for (tokens, why) in [
+        ("a\nb c\n", r#"line 2: \"b c\" is not one token"#),
+        ("a\n\nb\n", r#"line 2: \"\" is not one token"#),
+        ("a\n\"b\nc\n", "line 3: no separator keeps the tokens"),
+    ] {
+        let said = refuses("print", &[], tokens);
+        assert!(said.contains(why), "{said}");
+    }
+}
+
+/// The rows of how a stream comes are in `streams.rs`.
+#[test]
+fn a_stream_is_printed() {
+    assert_eq!(
+        prints("stream", &[], "let é"),
+        "0 Ident \"let\"\n3 Whitespace \" \"\n4 Ident \"é\"\n"
+    );
+}
+
+/// A key in the code, a place that is not there, words with blanks, the closing fence goes and comes, another shebang line: the
+/// document that is shown at the end is as if painted anew.
+#[test]
+fn colours_follow_edits() {
+    let typed = file("painted", "#!/bin/sh\n---\na\n---\nfn f() {}\n");
+    let made = file(
+        "repainted",
+        "#!/bin/bash\n---\na\n---\nfn fg() {\"a b\"; 1}\n",
+    );
+    let edits = "24 24 g\n99 99 x\n29 29 \"a b\"; 1\n16 19 \n16 16 ---\n7 9 bash\n";
+    let said = prints("highlight", &[&typed], edits);
+    let anew = prints("highlight", &[&made], "");
+    assert!(said.ends_with(&anew), "{said:?}");
+    let first = said.lines().next().unwrap();
+    assert!(
+        first.contains("fg") && first.ends_with("(10 tokens kept)"),
+        "{first:?}"
+    );
+    // green, cyan, magenta, blue, and a raw word in no colour
+    let path = file("colours", "#!/f\n---\n---\n/*a*/\"b\" c r#e//d");
+    let parts = [
+        (32, "#!/f"),
+        (0, "\n"),
+        (36, "---\n---"),
+        (0, "\n"),
+        (32, "/*a*/"),
+        (35, "\"b\""),
+        (0, " "),
+        (34, "c"),
+        (0, " "),
+        (0, "r#e"),
+        (32, "//d"),
+    ];
+    let wanted: String = parts
+        .iter()
+        .map(|(colour, text)| format!("\x1b[{colour}m{text}\x1b[0m"))
+        .collect();
+    assert_eq!(prints("highlight", &[&path], ""), wanted);
+}
