@@ -258,6 +258,8 @@ static void check_others(void) {
     CHECK(error.error == RUSTC_LEXER_NO_TERMINATOR);
     CHECK(error.expected == 2 && error.found == 1 && error.has_offset == 1 && error.possible_terminator_offset == 8);
     CHECK(rustc_lexer_validate_raw_str(raw, 9, 0, &error) == RUSTC_LEXER_NOT_RAW && error.error == 0);
+    CHECK(rustc_lexer_validate_raw_str((const uint8_t *)"r#a", 3, 1, &error) == RUSTC_LEXER_OK);
+    CHECK(error.error == RUSTC_LEXER_INVALID_STARTER);
     CHECK(rustc_lexer_validate_raw_str(raw, 9, 2, &error) == RUSTC_LEXER_NOT_RAW);
     CHECK(rustc_lexer_validate_raw_str_unchecked(raw, 9, 1, &error) == RUSTC_LEXER_OK);
     CHECK(error.error == RUSTC_LEXER_NO_TERMINATOR);
@@ -310,14 +312,19 @@ static void check_symbols(batch_call *tokens) {
         CHECK(whole[i].kind == 15 + i && whole[i].len == 1);
 }
 
-/* Literals have the numbers from 1 to 10. */
+/* Literals have the numbers of the header, from 1 to 10. */
 static void check_literals(batch_call *tokens) {
     static const char text[] = "1 2.5 'a' b'a' \"a\" b\"a\" c\"a\" r\"a\" br\"a\" cr\"a\"";
+    static const uint8_t kinds[] = {RUSTC_LEXER_INT, RUSTC_LEXER_FLOAT, RUSTC_LEXER_CHAR, RUSTC_LEXER_BYTE, RUSTC_LEXER_STR,
+                                    RUSTC_LEXER_BYTE_STR, RUSTC_LEXER_C_STR, RUSTC_LEXER_RAW_STR, RUSTC_LEXER_RAW_BYTE_STR,
+                                    RUSTC_LEXER_RAW_C_STR};
     uint8_t number = 0;
     CHECK(is_lexed(tokens, text, sizeof text - 1, 0, 19));
     for (size_t i = 0; i < 19; i++)
-        if (whole[i].kind == 13)
-            CHECK(whole[i].literal_kind == ++number);
+        if (whole[i].kind == 13) {
+            CHECK(whole[i].literal_kind == kinds[number]);
+            number++;
+        }
     CHECK(number == 10);
 }
 
@@ -463,7 +470,7 @@ static void check_marks(void) {
     }
 }
 
-/* If several statuses apply, the first of these is returned. tests/numbers compares them with the header's sentence. */
+/* If several statuses apply, the first of these is returned. The header's sentence has them, too. */
 static const uint32_t order[] = {
     RUSTC_LEXER_TOO_LONG,     RUSTC_LEXER_NOT_UTF8,    RUSTC_LEXER_BAD_PLACE,
     RUSTC_LEXER_NOT_RAW,      RUSTC_LEXER_BAD_MODE,    RUSTC_LEXER_BAD_EDITION,

@@ -257,3 +257,8 @@ pub fn settled(input: &str) -> usize {
 pub fn settled_in(text: &str, edition: Edition) -> usize {
     erased::settled_in(fitting(text), edition)
 }
+
+// Callers that must not compile.
+#[cfg(all(doctest, feature = "alloc"))]
+#[doc = include_str!("../tests/refused.md")]
+mod refused {}
