@@ -69,7 +69,20 @@ hex-yes c l = grind (arith, nat_tests)
 pub hex-no : (c : ℕ) → (digit_value c < 16 → ⊥) → is_hex c ≡ false
 hex-no c l = grind (arith, nat_tests)
 
-pub ruleset digit_lemmas = (left_at-start, left_at-end, left_at-underscore, left_at-brace, left_at-digit, left_at-other, hex-yes, hex-no)
+-- the first digit is read
+pub left_at-first : (c : ℕ) (s : List ℕ) → is_hex c ≡ true → left_at (digit_value c) 1 s ≡ closed_at_run (c ∷ s)
+left_at-first c s e = grind (arith, common_steps, nat_tests, left_at-digit 0 0 c s e, left_at-start (c ∷ s), zero-add)
+
+-- past too many digits, one more changes nothing
+closed-many : (v n : ℕ) (d : ℕ) (run rest : List ℕ) → 6 < n → closed_past is_hex (with_digit v n d) (n + 1) run rest ≡ closed_past is_hex v n run rest
+closed-many v n d run [] many = refl
+closed-many v n d run (c ∷ s) many = grind (arith, common_steps, nat_tests)
+
+pub left_at-many : (v n c : ℕ) (s : List ℕ) → 6 < n → is_hex c ≡ true → left_at v n s ≡ left_at v n (c ∷ s)
+unfolding left_at
+left_at-many v n c s many e = sym (by_digit is_digit_or_underscore is_hex v n c s (digit-runs c e) e ∙ closed-many v n (digit_value c) (front_run is_digit_or_underscore s) (past_run is_digit_or_underscore s) many)
+
+pub ruleset digit_lemmas = (left_at-start, left_at-end, left_at-underscore, left_at-brace, left_at-digit, left_at-first, left_at-other, left_at-many, hex-yes, hex-no)
 
 -- ---- the tables in ASCII; past it there are none
 

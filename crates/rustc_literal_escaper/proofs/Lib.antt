@@ -2,12 +2,9 @@ pub mod AnswerLemmas
 pub mod DigitLemmas
 pub mod PlaceLemmas
 pub mod ItemLemmas
-pub mod ErrorLemmas
-pub mod LaneLemmas
-pub mod SkipLemmas
+pub mod SinkLemmas
+pub mod TextLemmas
+pub mod FewLemmas
 pub mod PlacedLemmas
 pub mod RoundTripLemmas
 pub mod WrittenLemmas
-pub mod RunLemmas
-pub mod FewLemmas
-pub mod WholeLemmas

@@ -8,7 +8,7 @@ use Rattle.std.proofs.{Math.Seq.{take-append_seam}, lemmas.{List.{Recursion.{and
 use Rattle.std.proofs.lemmas.Str.{chars-IsAscii, encodes-IsAscii, IsCharBoundary-from_take, IsUtf8-string_bytes, scalars-chars}
 use Rattle.std.proofs.lemmas.{Str.Ascii.{IsAscii-from_reads}, Grind.{common_steps}}
 use Rattle.rustc_literal_escaper.specs.declared.{element.Element.{Element}, error.EscapeError.{EscapeError}}
-use Rattle.rustc_literal_escaper.specs.{Grammar.{Item}, means.Elements.{front, items_from, StartsWithOne}}
+use Rattle.rustc_literal_escaper.specs.{Grammar.{Item}, means.Elements.{front, items_from, place, StartsWithOne}}
 use Rattle.rustc_literal_escaper.specs.Meaning.{byte_of, char_of, unit_of, unit_of_byte}
 use Rattle.rustc_literal_escaper.specs.Written.{Grows, StandsFor, written_bytes, written_text}
 use Rattle.rustc_literal_escaper.specs.laws.Elements.{items-cons, nothing}
@@ -38,10 +38,10 @@ module _ {U : Type 0} (meaning : Element → Result U EscapeError) (written : �
   read-first : (total : ℕ) (e : Element) (u : U) (xs s : List ℕ) → StartsWithOne false xs e s → meaning e ≡ Ok u
       → units_in (items_from front total xs) ≡ Ok u ∷ units_in (items_from front total s)
   read-first total e u [] s starts means = absurd starts
-  read-first total e u (c ∷ t) s starts means = grind (arith, common_steps, items-cons false total c t)
+  read-first total e u (c ∷ t) s starts means = grind (arith, common_steps, items-cons false (place total) c t)
 
   read-all : (total : ℕ) (cs : List ℕ) → AreSpelled cs → units_in (items_from front total (flat_map written cs)) ≡ map Ok (map unit cs)
-  read-all total [] all = ap units_in (nothing front total)
+  read-all total [] all = ap units_in (nothing front (place total))
   read-all total (c ∷ cs) all = grind (arith, common_steps, read-first, read-all total cs)
 
   pub stands_for : (cs : List ℕ) → AreSpelled cs → StandsFor meaning (flat_map written cs) (map unit cs)

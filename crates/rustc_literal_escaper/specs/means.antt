@@ -1,4 +1,4 @@
 pub mod Elements
 pub mod Escape
-pub mod Plain
 pub mod Single
+pub mod Sinks

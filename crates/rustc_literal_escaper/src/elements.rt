@@ -1,67 +1,275 @@
 //! The elements of the text between double quotes.
-ghost use Rattle.std.specs.Prelude.{◌≡◌, ◌≤◌, ◌∷◌, ℕ, None, true, false, length, MatchOption};
+ghost use Rattle.std.specs.Prelude.{◌≡◌, ◌∷◌, [], None, true, false, length, map, if◌then◌else◌};
 ghost use Rattle.std.specs.Iterator.{at_most};
+ghost use Rattle.std.specs.List.{list_any};
 ghost use Rattle.rustc_literal_escaper.specs.Answers.{items_of};
+ghost use Rattle.rustc_literal_escaper.specs.Grammar.{is_newline, is_passed_over};
+ghost use Rattle.rustc_literal_escaper.specs.Grammar as grammar;
 ghost use Rattle.rustc_literal_escaper.specs.Items.{ArePlaced, IsRebuilt, StandsForItself, TakesFirst};
-ghost use Rattle.rustc_literal_escaper.specs.Meaning.{error_of, errors_in};
+ghost use Rattle.rustc_literal_escaper.specs.Meaning.{errors_in};
+ghost use Rattle.rustc_literal_escaper.specs.means.Elements as spec;
+ghost use Rattle.rustc_literal_escaper.specs.means.Elements.{all_items, front_by, item_by, items_by};
+ghost use Rattle.rustc_literal_escaper.specs.means.Escape.{front_run, past_run};
+ghost use Rattle.rustc_literal_escaper.specs.means.Sinks.{Runs, Takes};
 
 use crate::element::Element;
 use crate::error::EscapeError;
+use crate::escape::read_escape;
 use crate::mode::Mode;
-use crate::scan::past_plain;
-use crate::simple::{past_last_simple, past_simple};
-use crate::steps::{Found, advance, first_byte, first_item, first_plain};
+use crate::text::{Plain, Text};
 use std::iter::Iterator;
 use std::marker::Model;
 use std::ops::Range;
 
-/// An iterator over the elements of a string, each with its place in bytes.
-///
-/// [`Elements::new`] and [`Elements::new_raw`] return it.
-#[derive(Drop)]
-pub struct Elements<'a> {
-    rest: &'a str,
-    /// How many bytes the text has.
-    total: usize,
-    /// Whether the text is that of a raw string.
-    raw: bool,
-    /// The item that comes before the elements of the rest.
-    waiting: Option<(Range<usize>, Element)>,
-}
-
-impl<'a> Model for Elements<'a> {
-    ghost use Rattle.std.specs.Prelude.{List, ◌++◌, ◌≤◌, length};
-    ghost use Rattle.std.specs.Option.{option_to_list};
-    ghost use Rattle.std.specs.Str.{chars};
+/// What takes elements, one after another.
+pub(crate) trait Sink {
+    ghost use Rattle.std.specs.Prelude.{Bool};
     ghost use Rattle.rustc_literal_escaper.specs.Grammar.{Item};
-    ghost use Rattle.rustc_literal_escaper.specs.means.Elements.{items_from, front_by};
 
-    ghost Value = { List Item };
+    /// Whether it can take an element.
+    ghost ready: { Self → Type 0 };
 
-    ghost view = { λ e. option_to_list e.waiting
-        ++ items_from (front_by e.raw) e.total (chars e.rest.now) };
+    /// What it is after an element, and whether it takes more.
+    ghost took: { Self → Item → Bool → Self → Type 0 };
 
-    ghost invariant = { λ e. length e.rest.now ≤ e.total };
+    /// Takes an element, and returns whether it takes more.
+    fn take(&mut self, range: Range<usize>, element: Element) -> bool
+        requires ready { ready self.old }
+        ensures ready { ready self.new }
+        ensures took { took self.old (range, element) result self.new };
 }
 
-/// Returns an iterator over the elements of a raw string, or of a string that may have escapes.
+/// Passes the elements of a text to `sink`, until it takes no more. Returns the start of a line end whose white space
+/// is still to be warned of, and is given it the next time.
 #[inline(always)]
-#[tactic(auto, using(crate::proofs::PlacedLemmas::are_placed, crate::proofs::ItemLemmas::stands_for_itself, crate::proofs::PlacedLemmas::is_rebuilt))]
-pub(crate) fn elements_of(src: &str, raw: bool) -> Elements<'_>
-    ensures items { result ≡ items_of raw src.now }
-    ensures plain { StandsForItself raw src.now }
-    ensures places { ArePlaced src.now (items_of raw src.now) }
-    ensures rebuilt { IsRebuilt raw src.now }
+pub(crate) fn each<T: Text, S: Sink>(
+    rest: &mut T,
+    raw: bool,
+    line: Option<usize>,
+    sink: &mut S,
+) -> Option<usize>
+    requires ready { S.ready sink.old }
+    ensures same { T.offset_of rest.new ≡ T.offset_of rest.old }
+    ensures runs { Runs S.took sink.old
+        (all_items raw (T.offset_of rest.old) line (T.left rest.old)) sink.new
+        (all_items raw (T.offset_of rest.old) result (T.left rest.new)) }
 {
-    Elements {
-        rest: src,
-        total: src.len(),
-        raw,
-        waiting: None,
+    if !warn_of_line(rest, line, sink) {
+        return None;
+    }
+    if raw {
+        each_raw(rest, sink);
+        return None;
+    }
+    each_escaped(rest, sink)
+}
+
+/// Does what [`each`] does, for a string that may have escapes.
+#[inline(always)]
+fn each_escaped<T: Text, S: Sink>(rest: &mut T, sink: &mut S) -> Option<usize>
+    requires ready { S.ready sink.old }
+    ensures same { T.offset_of rest.new ≡ T.offset_of rest.old }
+    ensures runs { Runs S.took sink.old
+        (items_by (front_by false) (T.offset_of rest.old) (T.left rest.old)) sink.new
+        (all_items false (T.offset_of rest.old) result (T.left rest.new)) }
+{
+    'elements: loop {
+        let start = rest.offset();
+        let Some(c) = rest.next_char() else {
+            return None;
+        };
+        if c != '\\' {
+            if !sink.take(start..rest.offset(), unescaped(c)) {
+                return None;
+            }
+            continue;
+        }
+        if skip_newline(rest) {
+            let lines = pass_over(rest);
+            if !warn_of_lines(rest, start, lines, sink) {
+                return Some(start);
+            }
+            if !warn_of_space(rest, start, sink) {
+                return None;
+            }
+            continue;
+        }
+        let element = read_escape(rest);
+        if !sink.take(start..rest.offset(), element) {
+            return None;
+        }
     }
 }
 
-impl<'a> Elements<'a> {
+/// Does what [`each`] does, for a raw string.
+#[inline(always)]
+fn each_raw<T: Text, S: Sink>(rest: &mut T, sink: &mut S)
+    requires ready { S.ready sink.old }
+    ensures same { T.offset_of rest.new ≡ T.offset_of rest.old }
+    ensures runs { Runs S.took sink.old
+        (items_by (front_by true) (T.offset_of rest.old) (T.left rest.old)) sink.new
+        (items_by (front_by true) (T.offset_of rest.old) (T.left rest.new)) }
+{
+    let mut start = rest.offset();
+    'characters: loop {
+        let Some(c) = rest.next_char() else {
+            return;
+        };
+        let end = rest.offset();
+        if !sink.take(start..end, raw_element(c)) {
+            return;
+        }
+        start = end;
+    }
+}
+
+/// Passes the warning that is still to come past a line end to `sink`, if there is one. Returns whether `sink` takes
+/// more.
+#[inline(always)]
+fn warn_of_line<T: Text, S: Sink>(rest: &T, line: Option<usize>, sink: &mut S) -> bool
+    requires ready { S.ready sink.old }
+    ensures ready { S.ready sink.new }
+    ensures takes { Takes S.took sink.old
+        (spec.line_items (T.offset_of rest.now) line (T.left rest.now)) result sink.new }
+{
+    match line {
+        Some(start) => warn_of_space(rest, start, sink),
+        None => true,
+    }
+}
+
+/// Passes the warning that a newline is in the white space that was skipped to `sink`, if one is. Returns whether
+/// `sink` takes more.
+#[inline(always)]
+fn warn_of_lines<T: Text, S: Sink>(rest: &T, start: usize, lines: bool, sink: &mut S) -> bool
+    requires ready { S.ready sink.old }
+    ensures ready { S.ready sink.new }
+    ensures takes { Takes S.took sink.old (map (item_by (T.offset_of rest.now) start)
+        (if lines then (Element.Fault EscapeError.MultipleSkippedLinesWarning, T.left rest.now)
+        ∷ [] else [])) result sink.new }
+{
+    if !lines {
+        return true;
+    }
+    let warning = Element::Fault(EscapeError::MultipleSkippedLinesWarning);
+    sink.take(start..rest.offset(), warning)
+}
+
+/// Passes the warning that white space comes next to `sink`, if it does. Returns whether `sink` takes more.
+#[inline(always)]
+fn warn_of_space<T: Text, S: Sink>(rest: &T, start: usize, sink: &mut S) -> bool
+    requires ready { S.ready sink.old }
+    ensures ready { S.ready sink.new }
+    ensures takes { Takes S.took sink.old (map (item_by (T.offset_of rest.now) start)
+        (spec.more_space (T.left rest.now))) result sink.new }
+{
+    let mut ahead = rest.copy();
+    let Some(c) = ahead.next_char() else {
+        return true;
+    };
+    if !c.is_whitespace() {
+        return true;
+    }
+    let warning = Element::Fault(EscapeError::UnskippedWhitespaceWarning);
+    sink.take(start..ahead.offset(), warning)
+}
+
+/// Takes a newline, if one comes next. Returns whether it did.
+#[inline(always)]
+fn skip_newline<T: Text>(rest: &mut T) -> bool
+    ensures same { T.offset_of rest.new ≡ T.offset_of rest.old }
+    ensures found { result ≡ true → T.left rest.old ≡ 10 ∷ T.left rest.new }
+    ensures none { result ≡ false
+        → (spec.begins_line (T.left rest.old) ≡ false) × (T.left rest.new ≡ T.left rest.old) }
+{
+    let mut line = rest.copy();
+    let newline = matches!(line.next_char(), Some('\n'));
+    if newline {
+        *rest = line;
+    }
+    newline
+}
+
+/// Skips the white space that a backslash at the end of a line skips. Returns whether a newline is in it.
+#[inline(always)]
+#[tactic(auto, using(crate::proofs::PlaceLemmas::place_lemmas))]
+fn pass_over<T: Text>(rest: &mut T) -> bool
+    ensures same { T.offset_of rest.new ≡ T.offset_of rest.old }
+    ensures newline { result ≡ list_any is_newline (front_run is_passed_over (T.left rest.old)) }
+    ensures left { T.left rest.new ≡ past_run is_passed_over (T.left rest.old) }
+{
+    let mut newline = false;
+    'space: loop {
+        let mut ahead = rest.copy();
+        let Some(c) = ahead.next_char() else {
+            return newline;
+        };
+        if !is_passed_over(c) {
+            return newline;
+        }
+        newline |= c == '\n';
+        *rest = ahead;
+    }
+}
+
+/// Returns whether this is white space that a backslash at the end of a line skips.
+#[inline(always)]
+fn is_passed_over(c: char) -> bool
+    ensures { result ≡ grammar.is_passed_over c }
+{
+    matches!(c, '\n' | '\r' | '\t' | ' ')
+}
+
+/// Returns the element for a character of a raw string.
+#[inline(always)]
+fn raw_element(c: char) -> Element
+    ensures { result ≡ spec.raw_element c }
+{
+    if c == '\r' {
+        Element::Fault(EscapeError::BareCarriageReturnInRawString)
+    } else {
+        Element::Plain(c)
+    }
+}
+
+/// Returns the element for a character that is not escaped, between double quotes.
+#[inline(always)]
+fn unescaped(c: char) -> Element
+    ensures { result ≡ spec.unescaped c }
+{
+    match c {
+        '"' => Element::Fault(EscapeError::EscapeOnlyChar),
+        '\r' => Element::Fault(EscapeError::BareCarriageReturn),
+        _ => Element::Plain(c),
+    }
+}
+
+/// An iterator over the elements of a string, each with its place in bytes.
+///
+/// [`Elements::new`] and [`Elements::new_raw`] return it.
+pub type Elements<'a> = ElementsOf<Plain<'a>>;
+
+/// An iterator over the elements of a string whose characters are read in this way.
+#[derive(Drop)]
+pub struct ElementsOf<T: Text> {
+    rest: T,
+    /// Whether the text is that of a raw string.
+    raw: bool,
+    /// The start of the line end that was skipped just now, if the white space after it is still to be warned of.
+    line: Option<usize>,
+}
+
+impl<T: Text> Model for ElementsOf<T> {
+    ghost use Rattle.std.specs.Prelude.{List};
+    ghost use Rattle.rustc_literal_escaper.specs.Grammar.{Item};
+    ghost use Rattle.rustc_literal_escaper.specs.means.Elements.{all_items};
+
+    ghost Value = { List Item };
+
+    ghost view = { λ e. all_items e.raw (T.offset_of e.rest) e.line (T.left e.rest) };
+}
+
+impl<'a> ElementsOf<Plain<'a>> {
     /// Returns an iterator over the elements of `src`, the text between the quotes of a string, byte string or C
     /// string.
     pub fn new(src: &'a str) -> Elements<'a>
@@ -82,162 +290,49 @@ impl<'a> Elements<'a> {
     {
         elements_of(src, true)
     }
+}
+
+/// Returns an iterator over the elements of a raw string, or of a string that may have escapes.
+#[inline(always)]
+#[tactic(auto, using(crate::proofs::PlacedLemmas::are_placed, crate::proofs::ItemLemmas::stands_for_itself, crate::proofs::PlacedLemmas::is_rebuilt))]
+pub(crate) fn elements_of(src: &str, raw: bool) -> Elements<'_>
+    ensures items { result ≡ items_of raw src.now }
+    ensures plain { StandsForItself raw src.now }
+    ensures places { ArePlaced src.now (items_of raw src.now) }
+    ensures rebuilt { IsRebuilt raw src.now }
+{
+    ElementsOf::of_text(Plain::new(src), raw)
+}
+
+impl<T: Text> ElementsOf<T> {
+    /// Returns an iterator over the elements of a raw string, or of a string that may have escapes.
+    #[inline(always)]
+    pub fn of_text(text: T, raw: bool) -> ElementsOf<T>
+        ensures { result ≡ all_items raw (T.offset_of text) None (T.left text) }
+    {
+        ElementsOf {
+            rest: text,
+            raw,
+            line: None,
+        }
+    }
 
     /// Returns the next error or warning in a literal of this kind, and its place. It skips the elements before.
     ///
     /// Returns `None` if nothing more is wrong.
     #[inline(always)]
-    pub(crate) fn next_error(&mut self, mode: Mode) -> Option<(Range<usize>, EscapeError)>
+    pub fn next_error(&mut self, mode: Mode) -> Option<(Range<usize>, EscapeError)>
         ensures { TakesFirst (errors_in mode self.old) result (errors_in mode self.new) }
     {
-        if let Some((range, element)) = self.next_waiting() {
-            if let Some(error) = element.error_in(mode) {
-                return Some((range, error));
-            }
-        }
-        'elements: loop {
-            self.skip_simple();
-            if let Some((range, c)) = self.next_plain() {
-                if let Some(error) = Element::Plain(c).error_in(mode) {
-                    return Some((range, error));
-                }
-                self.skip_plain(mode);
-                continue;
-            }
-            if let Some((range, byte)) = self.next_byte() {
-                if let Some(error) = Element::Byte(byte).error_in(mode) {
-                    return Some((range, error));
-                }
-                continue;
-            }
-            let (range, element) = self.next_by_steps()?;
-            if let Some(error) = element.error_in(mode) {
-                return Some((range, error));
-            }
-            if let Some((range, element)) = self.next_waiting() {
-                if let Some(error) = element.error_in(mode) {
-                    return Some((range, error));
-                }
-            }
-        }
-    }
-
-    /// Returns the next element if it is a plain character.
-    ///
-    /// A loop over these alone is fast. After `None`, another element may come.
-    #[inline(always)]
-    pub(crate) fn next_plain(&mut self) -> Option<(Range<usize>, char)>
-        ensures { MatchOption result (self.new ≡ self.old)
-            (λ r. self.old ≡ (r.0, Element.Plain r.1) ∷ self.new) }
-    {
-        if self.waiting.is_some() {
-            return None;
-        }
-        let (item, left) = first_plain(self.rest, self.total, self.raw)?;
-        self.rest = left;
-        Some(item)
-    }
-
-    /// Returns the next element if it is an escape of a byte.
-    #[inline(always)]
-    pub(crate) fn next_byte(&mut self) -> Option<(Range<usize>, u8)>
-        ensures { MatchOption result (self.new ≡ self.old)
-            (λ r. self.old ≡ (r.0, Element.Byte r.1) ∷ self.new) }
-    {
-        if self.waiting.is_some() {
-            return None;
-        }
-        let (item, left) = first_byte(self.rest, self.total, self.raw)?;
-        self.rest = left;
-        Some(item)
-    }
-
-    /// Returns the item that waits before the elements of the rest, if there is one.
-    ///
-    /// A loop that asks for it after each line end knows that nothing waits elsewhere.
-    #[inline(always)]
-    pub(crate) fn next_waiting(&mut self) -> Option<(Range<usize>, Element)>
-        ensures { MatchOption result (self.new ≡ self.old) (λ r. self.old ≡ r ∷ self.new) }
-    {
-        self.waiting.take()
-    }
-
-    /// Returns the next element if it comes alone: if it is not a warning about a skipped line end.
-    ///
-    /// Returns `None` if such a line end is next, and past the last element.
-    #[inline(always)]
-    pub(crate) fn next_alone(&mut self) -> Option<(Range<usize>, Element)>
-        ensures { MatchOption result (self.new ≡ self.old) (λ r. self.old ≡ r ∷ self.new) }
-    {
-        if self.waiting.is_some() {
-            return None;
-        }
-        let (item, left) = first_item(self.rest, self.total, self.raw)?;
-        self.rest = left;
-        Some(item)
-    }
-
-    /// Returns the next element, whatever it is, or `None` past the last one.
-    ///
-    /// It has the large local variables that [`Elements::next_alone`] and [`Elements::next_byte`] do without. So it
-    /// is called only when one of these returns `None`.
-    #[inline(always)]
-    #[tactic(auto, using(crate::proofs::ItemLemmas::takes_first))]
-    pub(crate) fn next_by_steps(&mut self) -> Option<(Range<usize>, Element)>
-        ensures { TakesFirst self.old result self.new }
-    {
-        if self.waiting.is_some() {
-            return self.waiting.take();
-        }
-        let Found {
-            first,
-            second,
-            left,
-        } = advance(self.rest, self.total, self.raw);
-        self.rest = left;
-        self.waiting = second;
-        first
-    }
-
-    /// Skips simple characters at the front. They are wrong in no kind of string.
-    ///
-    /// It does not look for them if the next character is outside ASCII.
-    #[inline(always)]
-    #[tactic(auto, using(crate::proofs::SkipLemmas::passed_lemmas))]
-    pub(crate) fn skip_simple(&mut self)
-        ensures same { (mode : Mode) → errors_in mode self.new ≡ errors_in mode self.old }
-        ensures fewer { length self.new ≤ length self.old }
-    {
-        match self.rest.as_bytes().first() {
-            Some(byte) if byte.is_ascii() => self.rest = past_simple(self.rest, self.raw),
-            _ => {}
-        }
-    }
-
-    /// Skips the plain characters at the front, if no plain character is wrong in this mode, and otherwise simple ones.
-    #[inline(always)]
-    #[tactic(auto, using(crate::proofs::SkipLemmas::passed_lemmas))]
-    pub(crate) fn skip_plain(&mut self, mode: Mode)
-        ensures same { errors_in mode self.new ≡ errors_in mode self.old }
-        ensures fewer { length self.new ≤ length self.old }
-    {
-        if takes_all(mode) {
-            self.rest = past_plain(self.rest, self.raw);
-        } else {
-            self.rest = past_last_simple(self.rest, self.raw);
-        }
+        let mut first = FirstError { mode, found: None };
+        let mut rest = self.rest.copy();
+        self.line = each(&mut rest, self.raw, self.line, &mut first);
+        self.rest = rest;
+        first.found
     }
 }
 
-/// Returns whether no plain character is wrong in such a literal.
-#[inline(always)]
-pub(crate) fn takes_all(mode: Mode) -> bool
-    ensures { result ≡ true → (c : ℕ) → error_of mode (Element.Plain c) ≡ None }
-{
-    matches!(mode, Mode::Str | Mode::RawStr)
-}
-
-impl<'a> Iterator for Elements<'a> {
+impl<T: Text> Iterator for ElementsOf<T> {
     type Item = (Range<usize>, Element);
 
     ghost next_gives = { TakesFirst };
@@ -245,11 +340,61 @@ impl<'a> Iterator for Elements<'a> {
     ghost remaining = { λ s. at_most (length s) };
 
     /// Returns the next element. Past the last one it returns `None`, and does so from then on.
+    ///
+    /// It reads a copy of the text, which stays in registers.
     #[inline(always)]
     fn next(&mut self) -> Option<(Range<usize>, Element)> {
-        if let Some(item) = self.next_alone() {
-            return Some(item);
+        let mut first = First { found: None };
+        let mut rest = self.rest.copy();
+        self.line = each(&mut rest, self.raw, self.line, &mut first);
+        self.rest = rest;
+        first.found
+    }
+}
+
+/// Takes one element.
+#[derive(Drop)]
+struct First {
+    found: Option<(Range<usize>, Element)>,
+}
+
+impl Sink for First {
+    ghost use Rattle.std.specs.Prelude.{◌≡◌, ⊤, false, Some};
+
+    ghost ready = { λ _. ⊤ };
+
+    ghost took = { λ _ item more s. (more ≡ false) × (s.found ≡ Some item) };
+
+    #[inline(always)]
+    fn take(&mut self, range: Range<usize>, element: Element) -> bool {
+        self.found = Some((range, element));
+        false
+    }
+}
+
+/// Takes elements up to the first that is wrong in a literal of this kind.
+#[derive(Drop)]
+struct FirstError {
+    mode: Mode,
+    found: Option<(Range<usize>, EscapeError)>,
+}
+
+impl Sink for FirstError {
+    ghost use Rattle.std.specs.Prelude.{◌≡◌, ⊤, true, false, Some, MatchOption};
+    ghost use Rattle.rustc_literal_escaper.specs.Meaning.{error_of};
+
+    ghost ready = { λ _. ⊤ };
+
+    ghost took = { λ s item more t. MatchOption (error_of s.mode item.1)
+        ((more ≡ true) × (t ≡ s))
+        (λ error. (more ≡ false) × (t.found ≡ Some (item.0, error))) };
+
+    #[inline(always)]
+    fn take(&mut self, range: Range<usize>, element: Element) -> bool {
+        if let Some(error) = element.error_in(self.mode) {
+            self.found = Some((range, error));
+            return false;
         }
-        self.next_by_steps()
+        true
     }
 }

@@ -4,10 +4,12 @@ ghost use Rattle.std.specs.Iterator.{at_most};
 ghost use Rattle.rustc_literal_escaper.specs.Answers.{errors_of};
 ghost use Rattle.rustc_literal_escaper.specs.Items.{TakesFirst};
 
-use crate::check::{is_raw, single_error};
+use crate::check::is_raw;
 use crate::elements::{Elements, elements_of};
 use crate::error::EscapeError;
 use crate::mode::Mode;
+use crate::single::single_error;
+use crate::text::Plain;
 use std::iter::Iterator;
 use std::marker::Model;
 use std::ops::Range;
@@ -49,7 +51,7 @@ impl<'a> Faults<'a> {
     {
         if !mode.in_double_quotes() {
             return Faults {
-                alone: single_error(src, mode),
+                alone: single_error(&mut Plain::new(src), mode),
                 elements: Elements::new(""),
                 mode,
             };

@@ -13,10 +13,9 @@ mod escape;
 mod faults;
 mod mode;
 mod scan;
-mod simple;
 mod single;
-mod steps;
 mod strings;
+mod text;
 mod unit;
 mod written;
 
@@ -35,7 +34,7 @@ pub use unit::{MixedUnit, NonZeroChar, NonZeroU8};
 pub use written::{EscapeCStrError, escape_byte_str, escape_c_str, escape_str};
 
 // What `marks` reads a literal of a file by.
-pub use escape::read_escape;
+pub use elements::ElementsOf;
 pub use scan::split_first;
-pub use single::unescaped_alone;
-pub use steps::{PassedOver, pass_over, raw_element, unescaped};
+pub use single::single_error;
+pub use text::Text;

@@ -1,22 +1,15 @@
 //! Reads strings of every kind, and passes their units to a callback.
-ghost use Rattle.std.specs.Prelude.{◌≡◌, ◌≤◌, true, false, length, map};
-ghost use Rattle.std.specs.List.{FoldsTo, list_all};
-ghost use Rattle.std.specs.Option.{option_to_list};
-ghost use Rattle.std.specs.Str.{chars, IsUtf8};
+ghost use Rattle.std.specs.Prelude.{◌≡◌, true, false};
+ghost use Rattle.std.specs.List.{FoldsTo};
 ghost use Rattle.rustc_literal_escaper.specs.Answers.{items_of};
 ghost use Rattle.rustc_literal_escaper.specs.Meaning.{byte_of, char_of, raw_unit_of, unit_of};
-ghost use Rattle.rustc_literal_escaper.specs.means.Elements.{front_by, item_at, items_from, line_end};
-ghost use Rattle.rustc_literal_escaper.specs.means.Plain.{is_fine, plain_items};
 
 use crate::element::Element;
+use crate::elements::{Sink, each};
 use crate::error::EscapeError;
-use crate::scan::{begins_in_ascii, split_first};
-use crate::simple::{run_after, split_alone, split_simple};
-use crate::steps::{
-    PassedOver, byte_at, is_plain, line_at, lone_element, more_lines, more_space, pass_over,
-    unescaped_at,
-};
+use crate::text::Plain;
 use crate::unit::{MixedUnit, NonZeroChar};
+use std::marker::PhantomData;
 use std::ops::Range;
 
 /// Calls `callback` with each character that a string stands for, or with what is wrong, and its place in bytes.
@@ -36,12 +29,12 @@ use std::ops::Range;
 /// unescape_str(r"a\n", |range, unit| units.push((range, unit)));
 /// assert_eq!(units, [(0..1, Ok('a')), (1..3, Ok('\n'))]);
 /// ```
-pub fn unescape_str<F: FnMut(Range<usize>, Result<char, EscapeError>)>(src: &str, mut callback: F)
+pub fn unescape_str<F: FnMut(Range<usize>, Result<char, EscapeError>)>(src: &str, callback: F)
     requires callable { F.IsAlwaysCallable callback }
     ensures calls { (last : F) × FoldsTo (λ f item g. F.step f item.0 (char_of item.1) tt g)
         callback (items_of false src.now) last }
 {
-    each_unit::<AsChar, F>(src, false, &mut callback);
+    each_unit::<AsChar, F>(src, false, callback);
 }
 
 /// Calls `callback` with each byte that a byte string stands for, or with what is wrong, and its place.
@@ -57,15 +50,12 @@ pub fn unescape_str<F: FnMut(Range<usize>, Result<char, EscapeError>)>(src: &str
 /// unescape_byte_str(r"a\xff", |range, unit| units.push((range, unit)));
 /// assert_eq!(units, [(0..1, Ok(b'a')), (1..5, Ok(255))]);
 /// ```
-pub fn unescape_byte_str<F: FnMut(Range<usize>, Result<u8, EscapeError>)>(
-    src: &str,
-    mut callback: F,
-)
+pub fn unescape_byte_str<F: FnMut(Range<usize>, Result<u8, EscapeError>)>(src: &str, callback: F)
     requires callable { F.IsAlwaysCallable callback }
     ensures calls { (last : F) × FoldsTo (λ f item g. F.step f item.0 (byte_of item.1) tt g)
         callback (items_of false src.now) last }
 {
-    each_unit::<AsByte, F>(src, false, &mut callback);
+    each_unit::<AsByte, F>(src, false, callback);
 }
 
 /// Calls `callback` with each unit that a C string stands for, or with what is wrong, and its place.
@@ -75,13 +65,13 @@ pub fn unescape_byte_str<F: FnMut(Range<usize>, Result<u8, EscapeError>)>(
 /// Rust Reference, [C string literals](https://doc.rust-lang.org/reference/tokens.html#c-string-literals).
 pub fn unescape_c_str<F: FnMut(Range<usize>, Result<MixedUnit, EscapeError>)>(
     src: &str,
-    mut callback: F,
+    callback: F,
 )
     requires callable { F.IsAlwaysCallable callback }
     ensures calls { (last : F) × FoldsTo (λ f item g. F.step f item.0 (unit_of item.1) tt g)
         callback (items_of false src.now) last }
 {
-    each_unit::<AsMixedUnit, F>(src, false, &mut callback);
+    each_unit::<AsMixedUnit, F>(src, false, callback);
 }
 
 /// Calls `callback` with each character of a raw string, or with what is wrong, and its place.
@@ -98,12 +88,12 @@ pub fn unescape_c_str<F: FnMut(Range<usize>, Result<MixedUnit, EscapeError>)>(
 /// assert_eq!(units, [(0..1, Ok('\\')), (1..2, Ok('n'))]);
 /// ```
 #[inline]
-pub fn check_raw_str<F: FnMut(Range<usize>, Result<char, EscapeError>)>(src: &str, mut callback: F)
+pub fn check_raw_str<F: FnMut(Range<usize>, Result<char, EscapeError>)>(src: &str, callback: F)
     requires callable { F.IsAlwaysCallable callback }
     ensures calls { (last : F) × FoldsTo (λ f item g. F.step f item.0 (char_of item.1) tt g)
         callback (items_of true src.now) last }
 {
-    each_unit::<AsChar, F>(src, true, &mut callback);
+    each_unit::<AsChar, F>(src, true, callback);
 }
 
 /// Calls `callback` with each byte of a raw byte string, or with what is wrong, and its place.
@@ -121,15 +111,12 @@ pub fn check_raw_str<F: FnMut(Range<usize>, Result<char, EscapeError>)>(src: &st
 /// assert_eq!(units, [Ok(b'a'), Err(EscapeError::NonAsciiCharInByte)]);
 /// ```
 #[inline]
-pub fn check_raw_byte_str<F: FnMut(Range<usize>, Result<u8, EscapeError>)>(
-    src: &str,
-    mut callback: F,
-)
+pub fn check_raw_byte_str<F: FnMut(Range<usize>, Result<u8, EscapeError>)>(src: &str, callback: F)
     requires callable { F.IsAlwaysCallable callback }
     ensures calls { (last : F) × FoldsTo (λ f item g. F.step f item.0 (byte_of item.1) tt g)
         callback (items_of true src.now) last }
 {
-    each_unit::<AsByte, F>(src, true, &mut callback);
+    each_unit::<AsByte, F>(src, true, callback);
 }
 
 /// Calls `callback` with each character of a raw C string, or with what is wrong, and its place.
@@ -140,24 +127,20 @@ pub fn check_raw_byte_str<F: FnMut(Range<usize>, Result<u8, EscapeError>)>(
 #[inline]
 pub fn check_raw_c_str<F: FnMut(Range<usize>, Result<NonZeroChar, EscapeError>)>(
     src: &str,
-    mut callback: F,
+    callback: F,
 )
     requires callable { F.IsAlwaysCallable callback }
     ensures calls { (last : F) × FoldsTo (λ f item g. F.step f item.0 (raw_unit_of item.1) tt g)
         callback (items_of true src.now) last }
 {
-    each_unit::<AsRawUnit, F>(src, true, &mut callback);
+    each_unit::<AsRawUnit, F>(src, true, callback);
 }
 
 /// The meaning of elements in one kind of string.
 pub(crate) trait Meaning {
-    ghost use Rattle.std.specs.Prelude.{◌≡◌, true, false, Result};
-    ghost use Rattle.std.specs.Char.{is_ascii};
+    ghost use Rattle.std.specs.Prelude.{◌≡◌, Result};
     ghost use Rattle.rustc_literal_escaper.specs.declared.element.Element.{Element};
-    ghost use Rattle.rustc_literal_escaper.specs.declared.element.Element.TheVariants.{Plain};
     ghost use Rattle.rustc_literal_escaper.specs.declared.error.EscapeError.{EscapeError};
-    ghost use Rattle.rustc_literal_escaper.specs.means.Elements.{raw_element};
-    ghost use Rattle.rustc_literal_escaper.specs.means.Plain.{is_fine};
 
     type Meant: Copy;
 
@@ -166,39 +149,6 @@ pub(crate) trait Meaning {
     /// Returns what an element stands for.
     fn of(element: Element) -> Result<Self::Meant, EscapeError>
         ensures { result ≡ meaning element };
-
-    /// Returns what a byte of ASCII other than 0 stands for when it is not escaped.
-    #[inline(always)]
-    fn of_fine(byte: u8) -> Result<Self::Meant, EscapeError>
-        requires fine { is_fine byte ≡ true }
-        ensures { result ≡ meaning (Plain byte) }
-    {
-        Self::of(Element::Plain(byte as char))
-    }
-
-    /// Returns what a character outside ASCII stands for when it is not escaped.
-    #[inline(always)]
-    fn of_wide(c: char) -> Result<Self::Meant, EscapeError>
-        requires wide { is_ascii c ≡ false }
-        ensures { result ≡ meaning (Plain c) }
-    {
-        Self::of(Element::Plain(c))
-    }
-
-    /// Returns what a character of a raw string stands for.
-    ///
-    /// Each implementation knows what kind of element it has, so the compiler neither makes an element nor looks at
-    /// its kind.
-    #[inline(always)]
-    fn of_raw(c: char) -> Result<Self::Meant, EscapeError>
-        ensures { result ≡ meaning (raw_element c) }
-    {
-        if c == '\r' {
-            Self::of(Element::Fault(EscapeError::BareCarriageReturnInRawString))
-        } else {
-            Self::of(Element::Plain(c))
-        }
-    }
 }
 
 /// The meaning in strings: characters.
@@ -231,16 +181,6 @@ impl Meaning for AsByte {
     fn of(element: Element) -> Result<u8, EscapeError> {
         element.to_byte()
     }
-
-    #[inline(always)]
-    fn of_wide(_: char) -> Result<u8, EscapeError> {
-        Err(EscapeError::NonAsciiCharInByte)
-    }
-
-    #[inline(always)]
-    fn of_fine(byte: u8) -> Result<u8, EscapeError> {
-        Ok(byte)
-    }
 }
 
 /// The meaning in C strings: characters and bytes.
@@ -256,11 +196,6 @@ impl Meaning for AsMixedUnit {
     #[inline(always)]
     fn of(element: Element) -> Result<MixedUnit, EscapeError> {
         element.to_mixed_unit()
-    }
-
-    #[inline(always)]
-    fn of_fine(byte: u8) -> Result<MixedUnit, EscapeError> {
-        Ok(MixedUnit::Char(NonZeroChar::of_nonzero(byte as char)))
     }
 }
 
@@ -278,237 +213,44 @@ impl Meaning for AsRawUnit {
     fn of(element: Element) -> Result<NonZeroChar, EscapeError> {
         element.to_raw_unit()
     }
-
-    #[inline(always)]
-    fn of_raw(c: char) -> Result<NonZeroChar, EscapeError> {
-        if c == '\r' {
-            return Err(EscapeError::BareCarriageReturnInRawString);
-        }
-        NonZeroChar::new(c).ok_or(EscapeError::NulInCStr)
-    }
-
-    #[inline(always)]
-    fn of_wide(c: char) -> Result<NonZeroChar, EscapeError> {
-        Ok(NonZeroChar::of_nonzero(c))
-    }
-
-    #[inline(always)]
-    fn of_fine(byte: u8) -> Result<NonZeroChar, EscapeError> {
-        Ok(NonZeroChar::of_nonzero(byte as char))
-    }
 }
 
-/// A raw string of fewer bytes is short: no look at 32 bytes fits after its first character.
-pub(crate) const SHORT_TEXT: usize = 33;
-
 /// Calls `callback` with what each element of a text stands for and its place, and with nothing else.
-///
-/// The contract is about the closure as it is left here. A closure that is passed by value is dropped at the end of
-/// its call, and no clause can name it there.
 #[inline(always)]
 fn each_unit<M: Meaning, F: FnMut(Range<usize>, Result<M::Meant, EscapeError>)>(
     src: &str,
     raw: bool,
-    callback: &mut F,
+    callback: F,
 )
-    requires callable { F.IsAlwaysCallable callback.old }
-    ensures calls { FoldsTo (λ f item g. F.step f item.0 (M.meaning item.1) tt g)
-        callback.old (items_of raw src.now) callback.new }
+    requires callable { F.IsAlwaysCallable callback }
+    ensures calls { (last : F) × FoldsTo (λ f item g. F.step f item.0 (M.meaning item.1) tt g)
+        callback (items_of raw src.now) last }
 {
-    if raw {
-        each_raw_unit::<M, F>(src, callback);
-    } else {
-        each_unit_in::<M, F>(src, src.len(), callback);
-    }
+    let mut units = Units::<M, F> {
+        callback,
+        meaning: PhantomData,
+    };
+    each(&mut Plain::new(src), raw, None, &mut units);
 }
 
-/// Does what [`each_unit`] does, for a raw string. It looks for runs of simple characters only if the text is not
-/// short.
-#[inline(always)]
-fn each_raw_unit<M: Meaning, F: FnMut(Range<usize>, Result<M::Meant, EscapeError>)>(
-    src: &str,
-    callback: &mut F,
-)
-    requires callable { F.IsAlwaysCallable callback.old }
-    ensures calls { FoldsTo (λ f item g. F.step f item.0 (M.meaning item.1) tt g)
-        callback.old (items_of true src.now) callback.new }
-{
-    if src.len() < SHORT_TEXT {
-        each_raw_char::<M, F>(src, src.len(), callback);
-    } else {
-        each_raw_unit_in::<M, F>(src, src.len(), callback);
-    }
+/// Calls its callback with what each element stands for.
+#[derive(Drop)]
+struct Units<M, F> {
+    callback: F,
+    meaning: PhantomData<M>,
 }
 
-/// Calls `callback` with what each element in the rest of a text of `total` bytes stands for, and its place.
-///
-/// Plain characters and escapes of a byte have a call of their own, which the compiler makes short. After a plain
-/// character it looks for a run of simple ones, which have a loop of their own.
-#[inline(always)]
-#[tactic(auto, using(crate::proofs::RunLemmas::simple_lemmas))]
-fn each_unit_in<M: Meaning, F: FnMut(Range<usize>, Result<M::Meant, EscapeError>)>(
-    rest: &str,
-    total: usize,
-    callback: &mut F,
-)
-    requires callable { F.IsAlwaysCallable callback.old }
-    requires fits { length rest.now ≤ total }
-    ensures calls { FoldsTo (λ f item g. F.step f item.0 (M.meaning item.1) tt g)
-        callback.old (items_from (front_by false) total (chars rest.now)) callback.new }
-{
-    let mut left = rest;
-    let mut look = total;
-    'items: while let Some((c, tail)) = split_first(left) {
-        let start = total - left.len();
-        if is_plain(c, false) {
-            callback(start..total - tail.len(), M::of(Element::Plain(c)));
-            let (run, after) = run_after(tail, &mut look);
-            each_simple::<M, F>(run, total - after.len(), callback);
-            left = after;
-            continue;
-        }
-        if let Some(element) = unescaped_at(c) {
-            each_found::<M, F>(Some((start..total - tail.len(), element)), callback);
-            left = tail;
-            continue;
-        }
-        if let Some((byte, after)) = byte_at(c, tail, false) {
-            let range = start..total - after.len();
-            each_found::<M, F>(Some((range, Element::Byte(byte))), callback);
-            left = after;
-            continue;
-        }
-        if let Some(line) = line_at(c, tail) {
-            left = each_warning::<M, F>(line, start, total, callback);
-            continue;
-        }
-        let (element, after) = lone_element(c, tail);
-        each_found::<M, F>(Some((start..total - after.len(), element)), callback);
-        left = after;
-    }
-}
+impl<M: Meaning, F: FnMut(Range<usize>, Result<M::Meant, EscapeError>)> Sink for Units<M, F> {
+    ghost use Rattle.std.specs.Prelude.{◌≡◌, true};
 
-/// Calls `callback` with the warnings after a backslash and a newline, which begin at the place `start`. Returns
-/// the text after the white space.
-#[inline(always)]
-fn each_warning<'a, M: Meaning, F: FnMut(Range<usize>, Result<M::Meant, EscapeError>)>(
-    line: &'a str,
-    start: usize,
-    total: usize,
-    callback: &mut F,
-) -> &'a str
-    requires callable { F.IsAlwaysCallable callback.old }
-    requires fits { length line.now ≤ total }
-    ensures callable { F.IsAlwaysCallable callback.new }
-    ensures calls { FoldsTo (λ f item g. F.step f item.0 (M.meaning item.1) tt g)
-        callback.old (map (item_at total start) (line_end (chars line.now)).found) callback.new }
-    ensures left { chars result.now ≡ (line_end (chars line.now)).left }
-    ensures shorter { length result.now ≤ length line.now }
-    ensures text { IsUtf8 result.now }
-{
-    let PassedOver { newline, left } = pass_over(line);
-    each_found::<M, F>(more_lines(newline, left, start, total), callback);
-    each_found::<M, F>(more_space(left, start, total), callback);
-    left
-}
+    ghost ready = { λ s. F.IsAlwaysCallable s.callback };
 
-/// Does what [`each_unit_in`] does, for a raw string, in which each element is one character.
-///
-/// After a short run of simple characters it reads characters one by one for a while, in a loop that does nothing
-/// else.
-#[inline(always)]
-#[tactic(auto, using(crate::proofs::RunLemmas::simple_lemmas))]
-fn each_raw_unit_in<M: Meaning, F: FnMut(Range<usize>, Result<M::Meant, EscapeError>)>(
-    rest: &str,
-    total: usize,
-    callback: &mut F,
-)
-    requires callable { F.IsAlwaysCallable callback.old }
-    requires fits { length rest.now ≤ total }
-    ensures calls { FoldsTo (λ f item g. F.step f item.0 (M.meaning item.1) tt g)
-        callback.old (items_from (front_by true) total (chars rest.now)) callback.new }
-{
-    let mut left = rest;
-    'items: while let Some((c, tail)) = split_first(left) {
-        let range = total - left.len()..total - tail.len();
-        callback(range, M::of_raw(c));
-        let (run, after) = split_simple(tail, true);
-        each_simple::<M, F>(run, total - after.len(), callback);
-        let (alone, past) = split_alone(run.len(), after);
-        each_raw_char::<M, F>(alone, total - past.len(), callback);
-        left = past;
-    }
-}
+    ghost took = { λ s item more t. (more ≡ true)
+        × F.step s.callback item.0 (M.meaning item.1) tt t.callback };
 
-/// Calls `callback` with what each character in a part of a raw string stands for, and its place. The last one ends
-/// at `end`.
-///
-/// The first byte says whether a character is in ASCII, so nothing looks at the characters past that.
-#[inline(always)]
-fn each_raw_char<M: Meaning, F: FnMut(Range<usize>, Result<M::Meant, EscapeError>)>(
-    part: &str,
-    end: usize,
-    callback: &mut F,
-)
-    requires callable { F.IsAlwaysCallable callback.old }
-    requires within { length part.now ≤ end }
-    ensures callable { F.IsAlwaysCallable callback.new }
-    ensures calls { FoldsTo (λ f item g. F.step f item.0 (M.meaning item.1) tt g)
-        callback.old (items_from (front_by true) end (chars part.now)) callback.new }
-{
-    let mut chars = part.chars();
-    let mut start = end - part.len();
-    'chars: loop {
-        let in_ascii = begins_in_ascii(chars.as_str());
-        let Some(c) = chars.next() else {
-            return;
-        };
-        if in_ascii {
-            callback(start..start + 1, M::of_raw(c));
-            start += 1;
-            continue;
-        }
-        let past = end - chars.as_str().len();
-        callback(start..past, M::of_wide(c));
-        start = past;
-    }
-}
-
-/// Calls `callback` with what an item stands for, if there is an item.
-#[inline(always)]
-fn each_found<M: Meaning, F: FnMut(Range<usize>, Result<M::Meant, EscapeError>)>(
-    found: Option<(Range<usize>, Element)>,
-    callback: &mut F,
-)
-    requires callable { F.IsAlwaysCallable callback.old }
-    ensures callable { F.IsAlwaysCallable callback.new }
-    ensures calls { FoldsTo (λ f item g. F.step f item.0 (M.meaning item.1) tt g)
-        callback.old (option_to_list found) callback.new }
-{
-    if let Some((range, element)) = found {
-        callback(range, M::of(element));
-    }
-}
-
-/// Calls `callback` with what each of the bytes stands for as a character of its own, and its place. The last one
-/// ends at `end`.
-#[inline(always)]
-fn each_simple<M: Meaning, F: FnMut(Range<usize>, Result<M::Meant, EscapeError>)>(
-    run: &[u8],
-    end: usize,
-    callback: &mut F,
-)
-    requires callable { F.IsAlwaysCallable callback.old }
-    requires fine { list_all is_fine run.now ≡ true }
-    requires within { length run.now ≤ end }
-    ensures callable { F.IsAlwaysCallable callback.new }
-    ensures calls { FoldsTo (λ f item g. F.step f item.0 (M.meaning item.1) tt g)
-        callback.old (plain_items end run.now) callback.new }
-{
-    let mut left = run;
-    'run: while let Some((byte, tail)) = left.split_first() {
-        let range = end - left.len()..end - tail.len();
-        callback(range, M::of_fine(*byte));
-        left = tail;
+    #[inline(always)]
+    fn take(&mut self, range: Range<usize>, element: Element) -> bool {
+        (self.callback)(range, M::of(element));
+        true
     }
 }

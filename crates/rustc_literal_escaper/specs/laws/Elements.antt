@@ -9,7 +9,7 @@ use Rattle.rustc_literal_escaper.specs.declared.error.EscapeError.TheVariants.{B
 use Rattle.rustc_literal_escaper.specs.Grammar as g
 use Rattle.rustc_literal_escaper.specs.Grammar.{AreItems, IsElementBefore, IsRawElement, Item, bytes, is_among, is_newline, is_passed_over, item, lines_warning, next_is, space_warning}
 use Rattle.rustc_literal_escaper.specs.laws.Escape.{Reads, at-char, by_either, element-is, element-reads, escape-is, run-all, run-cut, run-is, run-stops}
-use Rattle.rustc_literal_escaper.specs.means.Elements.{Front, front, front_by, raw_element, raw_front, item_at, items_from, items_in, line_end, more_lines, more_space, one, past_backslash, place, unescaped}
+use Rattle.rustc_literal_escaper.specs.means.Elements.{Front, front, front_by, raw_element, raw_front, item_at, item_by, items_by, items_from, items_in, line_end, more_lines, more_space, one, past_backslash, place, unescaped}
 use Rattle.rustc_literal_escaper.specs.means.Escape.{escape, front_run, past_run}
 
 pub either : {A : Type 0} (P : A → Type 0) (b : Bool) (x y : A) → P x → P y → P (if b then x else y)
@@ -35,11 +35,11 @@ left-shorter raw c s = grind (arith, common_steps, nat_tests, either, past_backs
 
 -- ---- so any number of steps that is large enough gives the same items
 
-module _ (raw : Bool) (total : ℕ) where
+module _ (raw : Bool) (offset : List ℕ → ℕ) where
   abbrev at : ℕ → List ℕ → Front
   at = front_by raw
 
-  enough : (m n : ℕ) (s : List ℕ) → length s ≤ m → length s ≤ n → items_in at m total s ≡ items_in at n total s
+  enough : (m n : ℕ) (s : List ℕ) → length s ≤ m → length s ≤ n → items_in at m offset s ≡ items_in at n offset s
   enough zero zero [] a b = refl
   enough zero (suc n) [] a b = refl
   enough (suc m) zero [] a b = refl
@@ -47,18 +47,18 @@ module _ (raw : Bool) (total : ℕ) where
   enough (suc m) (suc n) (c ∷ s) a b = grind (arith, common_steps, left-shorter, enough m n)
   enough m n (c ∷ s) a b = absurd (omega arith)
 
-  pub items-cons : (c : ℕ) (s : List ℕ) → items_from at total (c ∷ s) ≡ map (item_at total (place total (c ∷ s))) (at c s).found ++ items_from at total (at c s).left
-  unfolding items_from
+  pub items-cons : (c : ℕ) (s : List ℕ) → items_by at offset (c ∷ s) ≡ map (item_by offset (offset (c ∷ s))) (at c s).found ++ items_by at offset (at c s).left
+  unfolding items_by
   items-cons c s = grind (arith, common_steps, left-shorter, enough)
 
   -- one element
-  pub items-one : (c : ℕ) (s left : List ℕ) (e : Element) → at c s ≡ one (e, left) → items_from at total (c ∷ s) ≡ item_at total (place total (c ∷ s)) (e, left) ∷ items_from at total left
-  items-one c s left e is = items-cons c s ∙ ap (λ (f : Front). map (item_at total (place total (c ∷ s))) f.found ++ items_from at total f.left) is
+  pub items-one : (c : ℕ) (s left : List ℕ) (e : Element) → at c s ≡ one (e, left) → items_by at offset (c ∷ s) ≡ item_by offset (offset (c ∷ s)) (e, left) ∷ items_by at offset left
+  items-one c s left e is = items-cons c s ∙ ap (λ (f : Front). map (item_by offset (offset (c ∷ s))) f.found ++ items_by at offset f.left) is
 
 -- no items are in nothing
-pub nothing : (at : ℕ → List ℕ → Front) (total : ℕ) → items_from at total [] ≡ []
-unfolding items_from
-nothing at total = refl
+pub nothing : (at : ℕ → List ℕ → Front) (offset : List ℕ → ℕ) → items_by at offset [] ≡ []
+unfolding items_by
+nothing at offset = refl
 
 -- ---- what the grammar has is read
 
@@ -136,15 +136,15 @@ past-ends : (total from : ℕ) (w next : List ℕ) → from + bytes (w ++ next) 
 past-ends total from w next ends = let sizes = bytes-append w next in omega arith
 
 pub items-read : {raw : Bool} {from : ℕ} {s : List ℕ} {items : List Item} → AreItems raw from s items → (total : ℕ) → from + bytes s ≡ total → items_from (front_by raw) total s ≡ items
-items-read {raw} g.nothing total ends = nothing (front_by raw) total
+items-read {raw} g.nothing total ends = nothing (front_by raw) (place total)
 items-read (g.element {from} {next} {element = e} {w} {items} is other are) total ends =
     let r = double-reads is in
-    grind (arith, common_steps, r.whole, items-one false total r.first (r.others ++ next) next e (element-front r other), item-at total from w next e ends, items-read are total (past-ends total from w next ends))
+    grind (arith, common_steps, r.whole, items-one false (place total) r.first (r.others ++ next) next e (element-front r other), item-at total from w next e ends, items-read are total (past-ends total from w next ends))
 items-read (g.line_end {from} {next} {items} space all stops are) total ends =
-    items-cons false total 92 (10 ∷ space ++ next)
+    items-cons false (place total) 92 (10 ∷ space ++ next)
     ∙ rw (line-read space next all stops, map-append (item_at total (place total (92 ∷ 10 ∷ space ++ next))) (more_lines space next) (more_space next), lines-found total from space next ends, space-found total from space next ends, items-read are total (past-ends total from (92 ∷ 10 ∷ space) next ends)) refl
 items-read (g.raw_element {from} {c} {next} {element = e} {items} is are) total ends =
-    grind (arith, common_steps, items-one true total c next next e (raw-reads is next), item-at total from (c ∷ []) next e ends, items-read are total (past-ends total from (c ∷ []) next ends))
+    grind (arith, common_steps, items-one true (place total) c next next e (raw-reads is next), item-at total from (c ∷ []) next e ends, items-read are total (past-ends total from (c ∷ []) next ends))
 
 -- ---- each text has items
 

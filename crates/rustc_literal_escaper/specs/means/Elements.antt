@@ -1,10 +1,9 @@
 -- Reading the text between double quotes: its elements in order, each with its range of bytes.
-use Rattle.std.specs.Prelude.{◌≡◌, ℕ, zero, suc, ◌-◌, ◌==◌, Bool, true, false, if◌then◌else◌, List, [], ◌∷◌, ◌++◌, length, map}
-use Rattle.std.specs.{Char.{is_whitespace}, List.{list_any}, Option.{option_to_list}, Str.{byte, encode_utf8_all}}
+use Rattle.std.specs.Prelude.{◌≡◌, ℕ, zero, suc, ◌-◌, ◌==◌, Bool, true, false, if◌then◌else◌, List, [], ◌∷◌, ◌++◌, length, map, Option, Some, None}
+use Rattle.std.specs.{Char.{is_whitespace}, List.{list_any}, Str.{byte, encode_utf8_all}}
 use Rattle.rustc_literal_escaper.specs.declared.element.Element.{Element}
 use Rattle.rustc_literal_escaper.specs.declared.element.Element.TheVariants.{Plain, Fault}
 use Rattle.rustc_literal_escaper.specs.declared.error.EscapeError.TheVariants.{EscapeOnlyChar, BareCarriageReturn, BareCarriageReturnInRawString, UnskippedWhitespaceWarning, MultipleSkippedLinesWarning}
-use Rattle.rustc_literal_escaper.specs.declared.steps.Found.{Found}
 use Rattle.rustc_literal_escaper.specs.Grammar.{Item, is_newline, is_passed_over}
 use Rattle.rustc_literal_escaper.specs.means.Escape.{escape, front_run, past_run}
 
@@ -79,21 +78,34 @@ StartsWithOne raw (c ∷ s) element left = front_by raw c s ≡ one (element, le
 abbrev pub place : ℕ → List ℕ → ℕ
 place total left = total - length (encode_utf8_all left)
 
-abbrev pub item_at : ℕ → ℕ → Element × List ℕ → Item
-item_at total start found = (record { start = start; end = place total found.1 }, found.0)
+-- the item of what is found at the offset `start`, where `offset` says at which offset what is left
+-- begins
+abbrev pub item_by : (List ℕ → ℕ) → ℕ → Element × List ℕ → Item
+item_by offset start found = (record { start = start; end = offset found.1 }, found.0)
 
--- the items of the rest of a text of `total` bytes, in at most `count` steps
-abbrev pub items_in : (ℕ → List ℕ → Front) → ℕ → ℕ → List ℕ → List Item
-items_in at zero total s = []
-items_in at (suc count) total [] = []
-items_in at (suc count) total (c ∷ s) =
-    map (item_at total (place total (c ∷ s))) (at c s).found
-    ++ items_in at count total (at c s).left
+abbrev pub item_at : ℕ → ℕ → Element × List ℕ → Item
+item_at total = item_by (place total)
+
+-- the items of the rest of a text, in at most `count` steps
+abbrev pub items_in : (ℕ → List ℕ → Front) → ℕ → (List ℕ → ℕ) → List ℕ → List Item
+items_in at zero offset s = []
+items_in at (suc count) offset [] = []
+items_in at (suc count) offset (c ∷ s) =
+    map (item_by offset (offset (c ∷ s))) (at c s).found ++ items_in at count offset (at c s).left
 
 -- all items: a text has at most as many steps as characters, since each step takes at least one
-unfoldable pub items_from : (ℕ → List ℕ → Front) → ℕ → List ℕ → List Item
-items_from at total s = items_in at (length s) total s
+unfoldable pub items_by : (ℕ → List ℕ → Front) → (List ℕ → ℕ) → List ℕ → List Item
+items_by at offset s = items_in at (length s) offset s
 
--- the items that a step of the code reports, in order
-abbrev pub found_by : Found → List Item
-found_by found = option_to_list found.first ++ option_to_list found.second
+-- those of the rest of a text of `total` bytes
+abbrev pub items_from : (ℕ → List ℕ → Front) → ℕ → List ℕ → List Item
+items_from at total = items_by at (place total)
+
+-- the warning that is still to come past a line end, which begins at this offset
+abbrev pub line_items : (List ℕ → ℕ) → Option ℕ → List ℕ → List Item
+line_items offset None s = []
+line_items offset (Some start) s = map (item_by offset start) (more_space s)
+
+-- and the items after it
+abbrev pub all_items : Bool → (List ℕ → ℕ) → Option ℕ → List ℕ → List Item
+all_items raw offset line s = line_items offset line s ++ items_by (front_by raw) offset s

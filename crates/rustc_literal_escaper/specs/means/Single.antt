@@ -43,17 +43,18 @@ literal meaning (c ∷ s) = alone (meaning (single c s).0) (single c s).1
 
 -- between single quotes there is at most one error. Its range begins at the start of the text, and
 -- ends after the character that shows the error
-abbrev pub error_to : ℕ → EscapeError → List ℕ → Option Error
-error_to total error left = Some (record { start = 0; end = place total left }, error)
+abbrev pub error_to : (List ℕ → ℕ) → EscapeError → List ℕ → Option Error
+error_to offset error left = Some (record { start = 0; end = offset left }, error)
 
-abbrev pub alone_error : ℕ → Option EscapeError → List ℕ → Option Error
-alone_error total (Some error) left = error_to total error left
-alone_error total None [] = None
-alone_error total None (c ∷ s) = error_to total MoreThanOneChar s
+abbrev pub alone_error : (List ℕ → ℕ) → Option EscapeError → List ℕ → Option Error
+alone_error offset (Some error) left = error_to offset error left
+alone_error offset None [] = None
+alone_error offset None (c ∷ s) = error_to offset MoreThanOneChar s
 
-abbrev pub single_error : ℕ → Mode → List ℕ → Option Error
-single_error total mode [] = Some (record { start = 0; end = 0 }, ZeroChars)
-single_error total mode (c ∷ s) = alone_error total (error_of mode (single c s).0) (single c s).1
+abbrev pub single_error : (List ℕ → ℕ) → Mode → List ℕ → Option Error
+single_error offset mode [] = Some (record { start = 0; end = 0 }, ZeroChars)
+single_error offset mode (c ∷ s) =
+    alone_error offset (error_of mode (single c s).0) (single c s).1
 
 -- what the literal stands for, or its error and the range of that
 abbrev pub only : {U : Type 0} → ℕ → Result U EscapeError → List ℕ → Result U Error
@@ -69,5 +70,5 @@ read_single total meaning (c ∷ s) = only total (meaning (single c s).0) (singl
 -- the errors and warnings of a literal of this kind
 abbrev pub read_errors : Mode → List ℕ → List Error
 read_errors mode text =
-    if is_single mode then option_to_list (single_error (length text) mode (chars text))
+    if is_single mode then option_to_list (single_error (place (length text)) mode (chars text))
     else errors_in mode (items_from (front_by (is_raw mode)) (length text) (chars text))

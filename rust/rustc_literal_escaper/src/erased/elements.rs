@@ -3,38 +3,188 @@
 
 use crate::erased::element::Element;
 use crate::erased::error::EscapeError;
+use crate::erased::escape::read_escape;
 use crate::erased::mode::Mode;
-use crate::erased::scan::past_plain;
-use crate::erased::simple::{past_last_simple, past_simple};
-use crate::erased::steps::{Found, advance, first_byte, first_item, first_plain};
+use crate::erased::text::{Plain, Text};
 use core::iter::Iterator;
 use core::ops::Range;
+
+/// What takes elements, one after another.
+pub(crate) trait Sink {
+    /// Takes an element, and returns whether it takes more.
+    fn take(&mut self, range: Range<usize>, element: Element) -> bool;
+}
+
+/// Passes the elements of a text to `sink`, until it takes no more. Returns the start of a line end whose white space
+/// is still to be warned of, and is given it the next time.
+#[inline(always)]
+pub(crate) fn each<T: Text, S: Sink>(
+    rest: &mut T,
+    raw: bool,
+    line: Option<usize>,
+    sink: &mut S,
+) -> Option<usize> {
+    if !warn_of_line(rest, line, sink) {
+        return None;
+    }
+    if raw {
+        each_raw(rest, sink);
+        return None;
+    }
+    each_escaped(rest, sink)
+}
+
+/// Does what [`each`] does, for a string that may have escapes.
+#[inline(always)]
+fn each_escaped<T: Text, S: Sink>(rest: &mut T, sink: &mut S) -> Option<usize> {
+    loop {
+        let start = rest.offset();
+        let Some(c) = rest.next_char() else {
+            return None;
+        };
+        if c != '\\' {
+            if !sink.take(start..rest.offset(), unescaped(c)) {
+                return None;
+            }
+            continue;
+        }
+        if skip_newline(rest) {
+            let lines = pass_over(rest);
+            if !warn_of_lines(rest, start, lines, sink) {
+                return Some(start);
+            }
+            if !warn_of_space(rest, start, sink) {
+                return None;
+            }
+            continue;
+        }
+        let element = read_escape(rest);
+        if !sink.take(start..rest.offset(), element) {
+            return None;
+        }
+    }
+}
+
+/// Does what [`each`] does, for a raw string.
+#[inline(always)]
+fn each_raw<T: Text, S: Sink>(rest: &mut T, sink: &mut S) {
+    let mut start = rest.offset();
+    loop {
+        let Some(c) = rest.next_char() else {
+            return;
+        };
+        let end = rest.offset();
+        if !sink.take(start..end, raw_element(c)) {
+            return;
+        }
+        start = end;
+    }
+}
+
+/// Passes the warning that is still to come past a line end to `sink`, if there is one. Returns whether `sink` takes
+/// more.
+#[inline(always)]
+fn warn_of_line<T: Text, S: Sink>(rest: &T, line: Option<usize>, sink: &mut S) -> bool {
+    match line {
+        Some(start) => warn_of_space(rest, start, sink),
+        None => true,
+    }
+}
+
+/// Passes the warning that a newline is in the white space that was skipped to `sink`, if one is. Returns whether
+/// `sink` takes more.
+#[inline(always)]
+fn warn_of_lines<T: Text, S: Sink>(rest: &T, start: usize, lines: bool, sink: &mut S) -> bool {
+    if !lines {
+        return true;
+    }
+    let warning = Element::Fault(EscapeError::MultipleSkippedLinesWarning);
+    sink.take(start..rest.offset(), warning)
+}
+
+/// Passes the warning that white space comes next to `sink`, if it does. Returns whether `sink` takes more.
+#[inline(always)]
+fn warn_of_space<T: Text, S: Sink>(rest: &T, start: usize, sink: &mut S) -> bool {
+    let mut ahead = rest.copy();
+    let Some(c) = ahead.next_char() else {
+        return true;
+    };
+    if !c.is_whitespace() {
+        return true;
+    }
+    let warning = Element::Fault(EscapeError::UnskippedWhitespaceWarning);
+    sink.take(start..ahead.offset(), warning)
+}
+
+/// Takes a newline, if one comes next. Returns whether it did.
+#[inline(always)]
+fn skip_newline<T: Text>(rest: &mut T) -> bool {
+    let mut line = rest.copy();
+    let newline = matches!(line.next_char(), Some('\n'));
+    if newline {
+        *rest = line;
+    }
+    newline
+}
+
+/// Skips the white space that a backslash at the end of a line skips. Returns whether a newline is in it.
+#[inline(always)]
+fn pass_over<T: Text>(rest: &mut T) -> bool {
+    let mut newline = false;
+    loop {
+        let mut ahead = rest.copy();
+        let Some(c) = ahead.next_char() else {
+            return newline;
+        };
+        if !is_passed_over(c) {
+            return newline;
+        }
+        newline |= c == '\n';
+        *rest = ahead;
+    }
+}
+
+/// Returns whether this is white space that a backslash at the end of a line skips.
+#[inline(always)]
+fn is_passed_over(c: char) -> bool {
+    matches!(c, '\n' | '\r' | '\t' | ' ')
+}
+
+/// Returns the element for a character of a raw string.
+#[inline(always)]
+fn raw_element(c: char) -> Element {
+    if c == '\r' {
+        Element::Fault(EscapeError::BareCarriageReturnInRawString)
+    } else {
+        Element::Plain(c)
+    }
+}
+
+/// Returns the element for a character that is not escaped, between double quotes.
+#[inline(always)]
+fn unescaped(c: char) -> Element {
+    match c {
+        '"' => Element::Fault(EscapeError::EscapeOnlyChar),
+        '\r' => Element::Fault(EscapeError::BareCarriageReturn),
+        _ => Element::Plain(c),
+    }
+}
 
 /// An iterator over the elements of a string, each with its place in bytes.
 ///
 /// [`Elements::new`] and [`Elements::new_raw`] return it.
-pub struct Elements<'a> {
-    rest: &'a str,
-    /// How many bytes the text has.
-    total: usize,
+pub type Elements<'a> = ElementsOf<Plain<'a>>;
+
+/// An iterator over the elements of a string whose characters are read in this way.
+pub struct ElementsOf<T: Text> {
+    rest: T,
     /// Whether the text is that of a raw string.
     raw: bool,
-    /// The item that comes before the elements of the rest.
-    waiting: Option<(Range<usize>, Element)>,
+    /// The start of the line end that was skipped just now, if the white space after it is still to be warned of.
+    line: Option<usize>,
 }
 
-/// Returns an iterator over the elements of a raw string, or of a string that may have escapes.
-#[inline(always)]
-pub(crate) fn elements_of(src: &str, raw: bool) -> Elements<'_> {
-    Elements {
-        rest: src,
-        total: src.len(),
-        raw,
-        waiting: None,
-    }
-}
-
-impl<'a> Elements<'a> {
+impl<'a> ElementsOf<Plain<'a>> {
     /// Returns an iterator over the elements of `src`, the text between the quotes of a string, byte string or C
     /// string.
     pub fn new(src: &'a str) -> Elements<'a> {
@@ -45,145 +195,80 @@ impl<'a> Elements<'a> {
     pub fn new_raw(src: &'a str) -> Elements<'a> {
         elements_of(src, true)
     }
+}
+
+/// Returns an iterator over the elements of a raw string, or of a string that may have escapes.
+#[inline(always)]
+pub(crate) fn elements_of(src: &str, raw: bool) -> Elements<'_> {
+    ElementsOf::of_text(Plain::new(src), raw)
+}
+
+impl<T: Text> ElementsOf<T> {
+    /// Returns an iterator over the elements of a raw string, or of a string that may have escapes.
+    #[inline(always)]
+    pub fn of_text(text: T, raw: bool) -> ElementsOf<T> {
+        ElementsOf {
+            rest: text,
+            raw,
+            line: None,
+        }
+    }
 
     /// Returns the next error or warning in a literal of this kind, and its place. It skips the elements before.
     ///
     /// Returns `None` if nothing more is wrong.
     #[inline(always)]
-    pub(crate) fn next_error(&mut self, mode: Mode) -> Option<(Range<usize>, EscapeError)> {
-        if let Some((range, element)) = self.next_waiting() {
-            if let Some(error) = element.error_in(mode) {
-                return Some((range, error));
-            }
-        }
-        loop {
-            self.skip_simple();
-            if let Some((range, c)) = self.next_plain() {
-                if let Some(error) = Element::Plain(c).error_in(mode) {
-                    return Some((range, error));
-                }
-                self.skip_plain(mode);
-                continue;
-            }
-            if let Some((range, byte)) = self.next_byte() {
-                if let Some(error) = Element::Byte(byte).error_in(mode) {
-                    return Some((range, error));
-                }
-                continue;
-            }
-            let (range, element) = self.next_by_steps()?;
-            if let Some(error) = element.error_in(mode) {
-                return Some((range, error));
-            }
-            if let Some((range, element)) = self.next_waiting() {
-                if let Some(error) = element.error_in(mode) {
-                    return Some((range, error));
-                }
-            }
-        }
-    }
-
-    /// Returns the next element if it is a plain character.
-    ///
-    /// A loop over these alone is fast. After `None`, another element may come.
-    #[inline(always)]
-    pub(crate) fn next_plain(&mut self) -> Option<(Range<usize>, char)> {
-        if self.waiting.is_some() {
-            return None;
-        }
-        let (item, left) = first_plain(self.rest, self.total, self.raw)?;
-        self.rest = left;
-        Some(item)
-    }
-
-    /// Returns the next element if it is an escape of a byte.
-    #[inline(always)]
-    pub(crate) fn next_byte(&mut self) -> Option<(Range<usize>, u8)> {
-        if self.waiting.is_some() {
-            return None;
-        }
-        let (item, left) = first_byte(self.rest, self.total, self.raw)?;
-        self.rest = left;
-        Some(item)
-    }
-
-    /// Returns the item that waits before the elements of the rest, if there is one.
-    ///
-    /// A loop that asks for it after each line end knows that nothing waits elsewhere.
-    #[inline(always)]
-    pub(crate) fn next_waiting(&mut self) -> Option<(Range<usize>, Element)> {
-        self.waiting.take()
-    }
-
-    /// Returns the next element if it comes alone: if it is not a warning about a skipped line end.
-    ///
-    /// Returns `None` if such a line end is next, and past the last element.
-    #[inline(always)]
-    pub(crate) fn next_alone(&mut self) -> Option<(Range<usize>, Element)> {
-        if self.waiting.is_some() {
-            return None;
-        }
-        let (item, left) = first_item(self.rest, self.total, self.raw)?;
-        self.rest = left;
-        Some(item)
-    }
-
-    /// Returns the next element, whatever it is, or `None` past the last one.
-    ///
-    /// It has the large local variables that [`Elements::next_alone`] and [`Elements::next_byte`] do without. So it
-    /// is called only when one of these returns `None`.
-    #[inline(always)]
-    pub(crate) fn next_by_steps(&mut self) -> Option<(Range<usize>, Element)> {
-        if self.waiting.is_some() {
-            return self.waiting.take();
-        }
-        let Found {
-            first,
-            second,
-            left,
-        } = advance(self.rest, self.total, self.raw);
-        self.rest = left;
-        self.waiting = second;
-        first
-    }
-
-    /// Skips simple characters at the front. They are wrong in no kind of string.
-    ///
-    /// It does not look for them if the next character is outside ASCII.
-    #[inline(always)]
-    pub(crate) fn skip_simple(&mut self) {
-        match self.rest.as_bytes().first() {
-            Some(byte) if byte.is_ascii() => self.rest = past_simple(self.rest, self.raw),
-            _ => {}
-        }
-    }
-
-    /// Skips the plain characters at the front, if no plain character is wrong in this mode, and otherwise simple ones.
-    #[inline(always)]
-    pub(crate) fn skip_plain(&mut self, mode: Mode) {
-        if takes_all(mode) {
-            self.rest = past_plain(self.rest, self.raw);
-        } else {
-            self.rest = past_last_simple(self.rest, self.raw);
-        }
+    pub fn next_error(&mut self, mode: Mode) -> Option<(Range<usize>, EscapeError)> {
+        let mut first = FirstError { mode, found: None };
+        let mut rest = self.rest.copy();
+        self.line = each(&mut rest, self.raw, self.line, &mut first);
+        self.rest = rest;
+        first.found
     }
 }
 
-/// Returns whether no plain character is wrong in such a literal.
-#[inline(always)]
-pub(crate) fn takes_all(mode: Mode) -> bool {
-    matches!(mode, Mode::Str | Mode::RawStr)
-}
-
-impl<'a> Iterator for Elements<'a> {
+impl<T: Text> Iterator for ElementsOf<T> {
     type Item = (Range<usize>, Element);
 
     /// Returns the next element. Past the last one it returns `None`, and does so from then on.
+    ///
+    /// It reads a copy of the text, which stays in registers.
     #[inline(always)]
     fn next(&mut self) -> Option<(Range<usize>, Element)> {
-        if let Some(item) = self.next_alone() {
-            return Some(item);
+        let mut first = First { found: None };
+        let mut rest = self.rest.copy();
+        self.line = each(&mut rest, self.raw, self.line, &mut first);
+        self.rest = rest;
+        first.found
+    }
+}
+
+/// Takes one element.
+struct First {
+    found: Option<(Range<usize>, Element)>,
+}
+
+impl Sink for First {
+    #[inline(always)]
+    fn take(&mut self, range: Range<usize>, element: Element) -> bool {
+        self.found = Some((range, element));
+        false
+    }
+}
+
+/// Takes elements up to the first that is wrong in a literal of this kind.
+struct FirstError {
+    mode: Mode,
+    found: Option<(Range<usize>, EscapeError)>,
+}
+
+impl Sink for FirstError {
+    #[inline(always)]
+    fn take(&mut self, range: Range<usize>, element: Element) -> bool {
+        if let Some(error) = element.error_in(self.mode) {
+            self.found = Some((range, error));
+            return false;
         }
-        self.next_by_steps()
+        true
     }
 }

@@ -4,91 +4,22 @@
 use crate::erased::element::Element;
 use crate::erased::element::Element::{Byte, Fault};
 use crate::erased::error::EscapeError;
-use crate::erased::scan::{split_ascii, split_first};
+use crate::erased::text::Text;
 
 /// The most digits of a number between braces.
 const MOST_DIGITS: usize = 6;
 
-/// Reads the escape at the front of the text after a backslash. Returns it, and the text after it.
+/// Reads the escape after a backslash.
 #[inline(always)]
-pub fn read_escape(rest: &str) -> (Element, &str) {
-    let Some((c, tail)) = split_first(rest) else {
-        return (Element::Fault(EscapeError::LoneSlash), rest);
+pub fn read_escape<T: Text>(rest: &mut T) -> Element {
+    let Some(c) = rest.next_char() else {
+        return Element::Fault(EscapeError::LoneSlash);
     };
     match c {
-        'x' => hex(tail),
-        'u' => unicode(tail),
-        _ => (short(c), tail),
+        'x' => hex(rest),
+        'u' => unicode(rest),
+        _ => short(c),
     }
-}
-
-/// Returns the byte of a short escape or of one with two digits after a backslash, and the text after the escape.
-///
-/// Most escapes are of these two kinds. For a call that reads only these, the compiler knows what kind of element
-/// it has.
-#[inline(always)]
-pub(crate) fn escaped_byte(rest: &str) -> Option<(u8, &str)> {
-    let (c, tail) = split_ascii(rest)?;
-    if c == 'x' {
-        return two_digits(tail);
-    }
-    match short(c) {
-        Element::Byte(byte) => Some((byte, tail)),
-        _ => None,
-    }
-}
-
-/// Returns the byte of two digits at the front, and the text after them, like [`hex`].
-#[inline(always)]
-fn two_digits(rest: &str) -> Option<(u8, &str)> {
-    let (high, tail) = split_ascii(rest)?;
-    let high = hex_digit(high)?;
-    let (low, left) = split_ascii(tail)?;
-    let low = hex_digit(low)?;
-    Some(((high * 16 + low) as u8, left))
-}
-
-/// Returns the escape that is the whole text after a backslash, if it has two digits or is a number that is right.
-///
-/// It looks at all bytes at once, so the compiler tests the length a single time.
-#[inline(always)]
-pub(crate) fn whole_escape(rest: &str) -> Option<Element> {
-    match rest.as_bytes() {
-        [b'x', high, low] => whole_byte(*high, *low),
-        [b'u', b'{', first, digits @ .., b'}'] => whole_number(*first, digits),
-        _ => None,
-    }
-}
-
-/// Returns the byte of two digits, if they are digits.
-#[inline(always)]
-fn whole_byte(high: u8, low: u8) -> Option<Element> {
-    let high = hex_digit(high as char)?;
-    let low = hex_digit(low as char)?;
-    Some(Element::Byte((high * 16 + low) as u8))
-}
-
-/// Returns the number of a digit and of those after it, among which underscores may be, if there are not too many.
-#[inline(always)]
-fn whole_number(first: u8, digits: &[u8]) -> Option<Element> {
-    let mut value = hex_digit(first as char)?;
-    let mut count: usize = 1;
-    let mut rest = digits;
-    while let Some((byte, tail)) = rest.split_first() {
-        rest = tail;
-        if let Some(digit) = hex_digit(*byte as char) {
-            if count == MOST_DIGITS {
-                return None;
-            }
-            value = value * 16 + digit;
-            count += 1;
-            continue;
-        }
-        if *byte != b'_' {
-            return None;
-        }
-    }
-    Some(Element::Unicode(value))
 }
 
 /// The element for a backslash and a character that begin no escape.
@@ -159,79 +90,76 @@ fn digit_or_16(c: char) -> u8 {
     if code < 128 { DIGITS[code] } else { 16 }
 }
 
-/// Reads a byte of two digits. Returns it, and the text after it. `rest` is the text after the `x`.
+/// Reads the two digits after an `x`.
 #[inline(always)]
-fn hex(rest: &str) -> (Element, &str) {
-    let Some((high, tail)) = split_first(rest) else {
-        return (Element::Fault(EscapeError::TooShortHexEscape), rest);
+fn hex<T: Text>(rest: &mut T) -> Element {
+    let Some(high) = rest.next_char() else {
+        return Element::Fault(EscapeError::TooShortHexEscape);
     };
     let Some(high) = hex_digit(high) else {
-        return (Element::Fault(EscapeError::InvalidCharInHexEscape), tail);
+        return Element::Fault(EscapeError::InvalidCharInHexEscape);
     };
-    let Some((low, left)) = split_first(tail) else {
-        return (Element::Fault(EscapeError::TooShortHexEscape), tail);
+    let Some(low) = rest.next_char() else {
+        return Element::Fault(EscapeError::TooShortHexEscape);
     };
     let Some(low) = hex_digit(low) else {
-        return (Element::Fault(EscapeError::InvalidCharInHexEscape), left);
+        return Element::Fault(EscapeError::InvalidCharInHexEscape);
     };
-    (Element::Byte((high * 16 + low) as u8), left)
+    Element::Byte((high * 16 + low) as u8)
 }
 
-/// Reads a number between braces. Returns it, and the text after it. `rest` is the text after the `u`.
-fn unicode(rest: &str) -> (Element, &str) {
-    let Some((brace, body)) = split_first(rest) else {
-        return (Element::Fault(EscapeError::NoBraceInUnicodeEscape), rest);
+/// Reads the number between braces after a `u`.
+fn unicode<T: Text>(rest: &mut T) -> Element {
+    let Some(brace) = rest.next_char() else {
+        return Element::Fault(EscapeError::NoBraceInUnicodeEscape);
     };
     if brace == '{' {
-        braced(body)
+        braced(rest)
     } else {
-        (Element::Fault(EscapeError::NoBraceInUnicodeEscape), body)
+        Element::Fault(EscapeError::NoBraceInUnicodeEscape)
     }
 }
 
-/// Reads a number up to the closing brace. Returns it, and the text after it. `body` is the text after the opening
-/// brace.
-fn braced(body: &str) -> (Element, &str) {
-    let Some((first, tail)) = split_first(body) else {
-        return (Element::Fault(EscapeError::UnclosedUnicodeEscape), body);
+/// Reads a number up to the closing brace.
+#[inline(always)]
+fn braced<T: Text>(rest: &mut T) -> Element {
+    let Some(first) = rest.next_char() else {
+        return Element::Fault(EscapeError::UnclosedUnicodeEscape);
     };
     match first {
-        '_' => (
-            Element::Fault(EscapeError::LeadingUnderscoreUnicodeEscape),
-            tail,
-        ),
-        '}' => (Element::Fault(EscapeError::EmptyUnicodeEscape), tail),
-        _ if hex_digit(first).is_some() => digits(body),
-        _ => (
-            Element::Fault(EscapeError::InvalidCharInUnicodeEscape),
-            tail,
-        ),
+        '_' => Element::Fault(EscapeError::LeadingUnderscoreUnicodeEscape),
+        '}' => Element::Fault(EscapeError::EmptyUnicodeEscape),
+        _ => match hex_digit(first) {
+            Some(digit) => digits(digit, rest),
+            None => Element::Fault(EscapeError::InvalidCharInUnicodeEscape),
+        },
     }
 }
 
-/// Reads the digits at the front up to the closing brace. Returns their number, and the text after it.
-fn digits(body: &str) -> (Element, &str) {
-    let mut value = 0;
-    let mut count: usize = 0;
-    let mut rest = body;
-    while let Some((c, tail)) = split_first(rest) {
-        rest = tail;
+/// Reads the digits after the first one, up to the closing brace.
+#[inline(always)]
+fn digits<T: Text>(first: u32, rest: &mut T) -> Element {
+    let mut value = first;
+    let mut count: usize = 1;
+    loop {
+        let Some(c) = rest.next_char() else {
+            return Element::Fault(EscapeError::UnclosedUnicodeEscape);
+        };
         if c == '_' {
             continue;
         }
         if c == '}' {
-            return (number(value, count), rest);
+            return number(value, count);
         }
         let Some(digit) = hex_digit(c) else {
-            return (
-                Element::Fault(EscapeError::InvalidCharInUnicodeEscape),
-                rest,
-            );
+            return Element::Fault(EscapeError::InvalidCharInUnicodeEscape);
         };
+        if count > MOST_DIGITS {
+            continue;
+        }
         value = with_digit(value, count, digit);
         count += 1;
     }
-    (Element::Fault(EscapeError::UnclosedUnicodeEscape), rest)
 }
 
 /// Returns the number with `count` digits. Its value is `value` unless it has too many digits.

@@ -1,10 +1,12 @@
 // Made by tools/erase from crates/rustc_literal_escaper/src/faults.rt: edit that file.
 //! The errors and warnings of a literal, one after another.
 
-use crate::erased::check::{is_raw, single_error};
+use crate::erased::check::is_raw;
 use crate::erased::elements::{Elements, elements_of};
 use crate::erased::error::EscapeError;
 use crate::erased::mode::Mode;
+use crate::erased::single::single_error;
+use crate::erased::text::Plain;
 use core::iter::Iterator;
 use core::ops::Range;
 
@@ -25,7 +27,7 @@ impl<'a> Faults<'a> {
     pub fn new(src: &'a str, mode: Mode) -> Faults<'a> {
         if !mode.in_double_quotes() {
             return Faults {
-                alone: single_error(src, mode),
+                alone: single_error(&mut Plain::new(src), mode),
                 elements: Elements::new(""),
                 mode,
             };

@@ -3,9 +3,11 @@
 
 use crate::erased::element::Element;
 use crate::erased::error::EscapeError;
-use crate::erased::escape::{read_escape, short, whole_escape};
-use crate::erased::scan::split_first;
+use crate::erased::escape::read_escape;
+use crate::erased::mode::Mode;
 use crate::erased::strings::{AsByte, AsChar, Meaning};
+use crate::erased::text::{Plain, Text};
+use core::ops::Range;
 
 /// Returns the character that a character literal stands for. `src` is the text between its quotes. `Err` says what
 /// is wrong in it.
@@ -40,100 +42,49 @@ pub fn unescape_byte(src: &str) -> Result<u8, EscapeError> {
 }
 
 /// Returns what the only element stands for, if no text is left after it.
-///
-/// Only the look at a plain character of ASCII or a short escape is put into the caller.
 #[inline(always)]
 fn read<M: Meaning>(src: &str) -> Result<M::Meant, EscapeError> {
-    if let Some(element) = whole(src) {
-        return M::of(element);
-    }
-    read_other::<M>(src)
-}
-
-/// Returns the element that is the whole text, if it is a plain character of ASCII or a short escape.
-#[inline(always)]
-pub(crate) fn whole(src: &str) -> Option<Element> {
-    match src.as_bytes() {
-        [byte] if byte.is_ascii() && is_plain(*byte as char) => Some(Element::Plain(*byte as char)),
-        [b'\\', c] if c.is_ascii() => match short(*c as char) {
-            Element::Byte(byte) => Some(Element::Byte(byte)),
-            _ => None,
-        },
-        _ => None,
-    }
-}
-
-/// Does what [`read`] does, and stays a call.
-#[inline(never)]
-fn read_other<M: Meaning>(src: &str) -> Result<M::Meant, EscapeError> {
-    let Some((c, tail)) = split_first(src) else {
+    let mut rest = Plain::new(src);
+    let Some(c) = rest.next_char() else {
         return Err(EscapeError::ZeroChars);
     };
-    if is_plain(c) {
-        return alone(M::of(Element::Plain(c)), tail);
-    }
-    read_element::<M>(c, tail)
-}
-
-/// Returns what the element that begins with the character `c` stands for, if no text is left after it.
-#[inline(never)]
-fn read_element<M: Meaning>(c: char, tail: &str) -> Result<M::Meant, EscapeError> {
-    if let Some(element) = whole_at(c, tail) {
-        return M::of(element);
-    }
-    read_rest::<M>(c, tail)
-}
-
-/// Does what [`read_element`] does, for the elements that few literals have.
-#[inline(never)]
-fn read_rest<M: Meaning>(c: char, tail: &str) -> Result<M::Meant, EscapeError> {
-    let (element, left) = first(c, tail);
-    alone(M::of(element), left)
-}
-
-/// Returns what an element stands for, if no text is left after it.
-#[inline(always)]
-fn alone<U: Copy>(meant: Result<U, EscapeError>, left: &str) -> Result<U, EscapeError> {
-    let meant = meant?;
-    if left.is_empty() {
-        Ok(meant)
-    } else {
-        Err(EscapeError::MoreThanOneChar)
+    let element = first(c, &mut rest);
+    let meant = M::of(element)?;
+    match rest.next_char() {
+        Some(_) => Err(EscapeError::MoreThanOneChar),
+        None => Ok(meant),
     }
 }
 
-/// Returns whether the character stands for itself between single quotes.
+/// Returns the error between single quotes and its place in bytes, or `None` if there is no error.
+///
+/// The place goes from 0 to the end of the character that shows the error.
 #[inline(always)]
-pub(crate) fn is_plain(c: char) -> bool {
-    !matches!(c, '\n' | '\t' | '\'' | '\r' | '\\')
+pub fn single_error<T: Text>(rest: &mut T, mode: Mode) -> Option<(Range<usize>, EscapeError)> {
+    let Some(c) = rest.next_char() else {
+        return Some((0..0, EscapeError::ZeroChars));
+    };
+    let element = first(c, rest);
+    if let Some(error) = element.error_in(mode) {
+        return Some((0..rest.offset(), error));
+    }
+    rest.next_char()?;
+    Some((0..rest.offset(), EscapeError::MoreThanOneChar))
 }
 
-/// Returns the escape that is the character `c` with all of `tail`, if it has two digits or is a number.
+/// Reads the element that begins with the character `c`.
 #[inline(always)]
-pub(crate) fn whole_at(c: char, tail: &str) -> Option<Element> {
-    if c == '\\' { whole_escape(tail) } else { None }
-}
-
-/// Returns the element that begins with the character `c`, and the text after it.
-#[inline(always)]
-fn first(c: char, tail: &str) -> (Element, &str) {
+fn first<T: Text>(c: char, rest: &mut T) -> Element {
     if c == '\\' {
-        read_escape(tail)
+        read_escape(rest)
     } else {
-        (unescaped_alone(c), tail)
+        unescaped(c)
     }
-}
-
-/// Does what [`first`] does, and stays a call: few literals have another element than a plain character or an escape
-/// of a byte.
-#[inline(never)]
-pub(crate) fn first_by_call(c: char, tail: &str) -> (Element, &str) {
-    first(c, tail)
 }
 
 /// Returns the element for a character that is not escaped, between single quotes.
 #[inline(always)]
-pub fn unescaped_alone(c: char) -> Element {
+fn unescaped(c: char) -> Element {
     match c {
         '\n' | '\t' | '\'' => Element::Fault(EscapeError::EscapeOnlyChar),
         '\r' => Element::Fault(EscapeError::BareCarriageReturn),

@@ -1,0 +1,24 @@
+-- What takes items, one after another, until it has enough.
+use Rattle.std.specs.Prelude.{◌≡◌, Bool, true, false, List, [], ◌∷◌, ◌++◌}
+use Rattle.rustc_literal_escaper.specs.Grammar.{Item}
+
+-- the first items are taken, from the state `s` to the state `t`, and `left` are left: all are taken,
+-- or the last one that is taken is the first after which no more are
+pub data Runs {S : Type 0} (took : S → Item → Bool → S → Type 0) : S → List Item → S → List Item
+    → Type 0 where
+  all : {s : S} → Runs took s [] s []
+  more : {s u t : S} {item : Item} {items left : List Item}
+      → took s item true u
+      → Runs took u items t left
+      → Runs took s (item ∷ items) t left
+  enough : {s t : S} {item : Item} {items : List Item}
+      → took s item false t
+      → Runs took s (item ∷ items) t items
+
+-- the items `found` are taken, or the first of them, whatever items come after them
+abbrev pub Takes : {S : Type 0} → (S → Item → Bool → S → Type 0) → S → List Item → Bool → S → Type 0
+Takes {S} took s found on u =
+    (t : S) (items left : List Item)
+    → (on ≡ true → Runs took u items t left)
+    → (on ≡ false → (u ≡ t) × (items ≡ left))
+    → Runs took s (found ++ items) t left

@@ -1,0 +1,90 @@
+//! Texts that are read character by character.
+ghost use Rattle.std.specs.Prelude.{◌≡◌, length};
+ghost use Rattle.std.specs.Str.{chars};
+
+use std::marker::Model;
+use std::str::Chars;
+
+/// The characters of a text that are left.
+pub trait Text: Drop {
+    ghost use Rattle.std.specs.Prelude.{◌≡◌, ◌∷◌, ℕ, List, [], MatchOption};
+
+    /// The characters that are left.
+    ghost left: { Self → List ℕ };
+
+    /// The offset in bytes at which only these characters are left.
+    ghost offset_of: { Self → List ℕ → ℕ };
+
+    /// Takes the next character.
+    fn next_char(&mut self) -> Option<char>
+        ensures left { MatchOption result ((left self.old ≡ []) × (left self.new ≡ []))
+            (λ c. left self.old ≡ c ∷ left self.new) }
+        ensures same { offset_of self.new ≡ offset_of self.old };
+
+    /// Returns the offset of the next character.
+    fn offset(&self) -> usize
+        ensures { result ≡ offset_of self.now (left self.now) };
+
+    /// Returns the same characters.
+    fn copy(&self) -> Self
+        ensures { result ≡ self.now };
+}
+
+/// The characters of a text, each of which is one.
+#[derive(Drop)]
+pub struct Plain<'a> {
+    /// How many bytes the text has.
+    total: usize,
+    ahead: Chars<'a>,
+}
+
+impl<'a> Model for Plain<'a> {
+    ghost use Rattle.std.specs.Prelude.{List, ℕ, ◌≤◌, length};
+    ghost use Rattle.std.specs.Str.{chars, IsUtf8};
+    ghost use Rattle.std.specs.Str.Iter.{chars_rest};
+
+    ghost Value = { ℕ × List ℕ };
+
+    ghost view = { λ p. (p.total, chars (chars_rest p.ahead)) };
+
+    ghost invariant = { λ p. IsUtf8 (chars_rest p.ahead) × (length (chars_rest p.ahead) ≤ p.total) };
+}
+
+impl<'a> Plain<'a> {
+    /// Returns the characters of this text.
+    #[inline(always)]
+    pub fn new(text: &'a str) -> Plain<'a>
+        ensures { result ≡ (length text.now, chars text.now) }
+    {
+        Plain {
+            total: text.len(),
+            ahead: text.chars(),
+        }
+    }
+}
+
+impl<'a> Text for Plain<'a> {
+    ghost use Rattle.rustc_literal_escaper.specs.means.Elements.{place};
+
+    ghost left = { λ p. p.1 };
+
+    ghost offset_of = { λ p. place p.0 };
+
+    #[inline(always)]
+    fn next_char(&mut self) -> Option<char> {
+        self.ahead.next()
+    }
+
+    #[inline(always)]
+    fn offset(&self) -> usize {
+        self.total - self.ahead.as_str().len()
+    }
+
+    #[inline(always)]
+    fn copy(&self) -> Plain<'a> {
+        Plain {
+            total: self.total,
+            ahead: self.ahead.as_str().chars(),
+        }
+    }
+}
