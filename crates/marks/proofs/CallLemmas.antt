@@ -1,8 +1,12 @@
 -- Writes one after another, as the calls that they make.
-use Rattle.std.proofs.{Common.{List, [], ◌∷◌, ◌++◌, ℕ, refl, append-nil, arith}, lemmas.List.Folds.{concat-append}}
-use Rattle.std.specs.{Fmt.{WritesInCalls}, Result.{IsOk}, Prelude.{OnOk, Result}}
+use Rattle.std.proofs.{Common.{List, [], ◌∷◌, ◌++◌, ℕ, refl, sym, subst, append-nil, arith}, lemmas.List.Folds.{concat-append}}
+use Rattle.std.specs.{Fmt.{WritesInCalls}, List.{FoldsTo}, Result.{IsOk}, Prelude.{OnOk, Result}}
 use Rattle.std.proofs.lemmas.Grind.{common_steps}
-use Rattle.rustc_literal_escaper.proofs.RunLemmas.{folds-append}
+
+-- calls over some items, and then over others
+folds-append : {P A : Type 0} (R : P → A → P → Type 0) (p q r : P) (xs ys : List A) → FoldsTo R p xs q → FoldsTo R q ys r → FoldsTo R p (xs ++ ys) r
+folds-append R p q r [] ys e f = subst (λ (a : _). FoldsTo R a ys r) (sym e) f
+folds-append R p q r (x ∷ xs) ys e f = (e.0, e.1, folds-append R e.0 q r xs ys e.2 f)
 
 pub on_ok : {T E : Type 0} (r : Result T E) {P Q : Type 0} → (IsOk r → P) → (P → Q) → OnOk r Q
 on_ok r holds more = grind (arith, common_steps)

@@ -6,11 +6,12 @@ use Rattle.std.proofs.lemmas.{Bool.Decides.{nat_tests}, Str.{chars-nil}, Grind.{
 use Rattle.rustc_literal_escaper.proofs.AnswerLemmas.{errors_of-read}
 use Rattle.rustc_literal_escaper.specs.{Answers.{errors_of, items_of}, Grammar.{Error, Item}}
 use Rattle.rustc_literal_escaper.specs.{Meaning.{error_of, errors_in, is_raw, is_single, put}, laws.Elements.{nothing}}
-use Rattle.rustc_literal_escaper.specs.means.{Elements.{front_by, items_from}, Single.{read_errors, single_error}}
+use Rattle.rustc_literal_escaper.specs.means.Elements as reading
+use Rattle.rustc_literal_escaper.specs.means.{Elements.{front_by, items_from}, Single.{alone_error, read_errors, single, single_error}}
 use Rattle.rustc_literal_escaper.specs.declared.{error.EscapeError.{EscapeError}, mode.Mode.{Mode}}
 use Rattle.rustc_literal_escaper.specs.declared.mode.Mode.TheVariants.{Str}
 use Rattle.marks.specs.{LineEnds.{file_errors, file_items, moved, place, unix}, Literal.{first_offset}}
-use Rattle.marks.specs.means.LineEnds.{single_left}
+use Rattle.marks.specs.means.LineEnds.{offset_of, single_left}
 use Rattle.marks.proofs.LineEndLemmas.{chars-unix, utf8-unix}
 
 abbrev move : List ℕ → Error → Error
@@ -50,17 +51,25 @@ same_errors mode text none = sym (same-moved text (errors_of mode text) none) �
 list-moved : (text : List ℕ) (o : Option Error) → option_to_list (option_map (move text) o) ≡ map (move text) (option_to_list o)
 list-moved text o = grind (arith, common_steps)
 
-read-single : (mode : Mode) (text : List ℕ) → is_single mode ≡ true → read_errors mode text ≡ option_to_list (single_error (length text) mode (chars text))
+read-single : (mode : Mode) (text : List ℕ) → is_single mode ≡ true → read_errors mode text ≡ option_to_list (single_error (reading.place (length text)) mode (chars text))
 read-single mode text single = rw single refl
 
 pub single_errors : (mode : Mode) (text : List ℕ) → IsUtf8 text → is_single mode ≡ true → option_to_list (single_left text mode (unix (chars text))) ≡ file_errors mode text
 single_errors mode text is single =
     grind (arith, common_steps, list-moved, chars-unix, read-single, errors_of-read, utf8-unix)
 
+alone-moved : (text : List ℕ) (wrong : Option EscapeError) (left : List ℕ)
+    → alone_error (offset_of text) wrong left ≡ option_map (move text) (alone_error (reading.place (length (unix text))) wrong left)
+alone-moved text wrong left = grind (arith, common_steps)
+
+pub single_moved : (text : List ℕ) (mode : Mode) (left : List ℕ) → single_error (offset_of text) mode left ≡ single_left text mode left
+single_moved text mode [] = refl
+single_moved text mode (c ∷ s) = alone-moved text (error_of mode (single c s).0) (single c s).1
+
 -- ---- the iterator's three parts
 
 no-items : items_of false [] ≡ []
-no-items = ap (items_from (front_by false) 0) chars-nil ∙ nothing (front_by false) 0
+no-items = ap (items_from (front_by false) 0) chars-nil ∙ nothing (front_by false) (reading.place 0)
 
 pub no-file-errors : (mode : Mode) → errors_in mode (file_items false []) ≡ []
 no-file-errors mode = ap (λ (is : List Item). errors_in mode (map (λ (i : Item). (moved [] i.0, i.1)) is)) no-items

@@ -1,17 +1,14 @@
 -- A text of a file is read in parts that cut no line end.
-use Rattle.std.proofs.Common.{◌≡◌, ℕ, zero, suc, zero-add, get_or, append-nil, drop, if◌then◌else◌, codes, nat_lt, ◌+◌, ◌-◌, ◌<◌, ◌≤◌, ◌==◌, ◌&&◌, not, Bool, true, false, List, [], ◌∷◌, ◌++◌, append_assoc, length, length-append, map, refl, sym, ap, subst, ◌∙◌, arith, Option, None}
-use Rattle.std.specs.{List.{list_all, list_any}, Option.{is_some, option_to_list}, Str.{chars, IsUtf8}}
-use Rattle.std.proofs.lemmas.{Bool.{and_parts, eqb-true, or_parts, Decides.{nat_tests}}, Grind.{common_steps}}
+use Rattle.std.proofs.Common.{◌≡◌, ℕ, zero, suc, zero-add, append-nil, ◌+◌, ◌-◌, ◌<◌, ◌≤◌, ◌==◌, ◌&&◌, Bool, true, false, List, [], ◌∷◌, ◌++◌, append_assoc, length, length-append, map, refl, sym, ap, subst, ◌∙◌, arith}
+use Rattle.std.specs.{Str.{chars, IsUtf8}}
+use Rattle.std.proofs.lemmas.{Bool.{and_parts, eqb-true, Decides.{nat_tests}}, Grind.{common_steps}}
 use Rattle.std.proofs.lemmas.Str.{encodes-chars, chars-encodes, scalars-chars, encode_ascii, encodes-append}
 use Rattle.std.proofs.{Math.Utf8.{encode, encodes, scalar, scalars}, lemmas.List.{map-append}}
 use Rattle.rustc_literal_escaper.specs.declared.element.Element.{Element}
-use Rattle.rustc_literal_escaper.specs.Grammar as g
-use Rattle.rustc_literal_escaper.specs.Grammar.{AreDigits, IsEscapeBefore, Item, is_among, is_digit_or_underscore, is_hex, is_newline, is_passed_over, next_is}
-use Rattle.rustc_literal_escaper.specs.{Items.{TakesFirst}, laws.Elements.{either, items-cons, nothing}}
+use Rattle.rustc_literal_escaper.specs.Grammar.{Item, is_newline, next_is}
 use Rattle.rustc_literal_escaper.specs.means.Elements as reading
-use Rattle.rustc_literal_escaper.specs.means.Elements.{front_by, item_at, items_from}
-use Rattle.rustc_literal_escaper.specs.means.Escape.{escape, front_run, past_run}
-use Rattle.rustc_literal_escaper.specs.laws.Escape.{IsFront, by_either, escape-is, escape-reads, no-digit, run-cut, run-stops}
+use Rattle.rustc_literal_escaper.specs.means.Elements.{Front, front_by, item_at, items_by, items_in}
+use Rattle.rustc_literal_escaper.specs.laws.Escape.{by_either}
 use Rattle.marks.specs.LineEnds.{ends_line, file_items, moved, place, unix}
 use Rattle.marks.specs.means.LineEnds.{IsLeft, file_item, is_whole, last_from, left_items, offset_of}
 
@@ -127,33 +124,6 @@ encodes-unix (c ∷ s) = by_either (ends_line c s)
     rw ends (encodes-unix s ∙ sym (rw (ap encode (eqb-true c 13 both.0) ∙ encode_ascii 13 (omega arith), next-encodes s ∙ both.1) refl)))
     (λ stays. rw (stays, unix-append (encode c) (encodes s) (rw (last-encode 0 c, next-encodes s, stays) refl), unix-encode c) (ap (λ (t : List ℕ). encode c ++ t) (encodes-unix s)))
 
--- the last character that was read, by its last byte
-get_or-last : (c : ℕ) (w t : List ℕ) → get_or (c ∷ (w ++ t)) (length w) 0 ≡ last_from c w
-get_or-last c [] t = refl
-get_or-last c (d ∷ w) t = get_or-last d w t
-
-last_read : (rest left w : List ℕ) → IsUtf8 rest → IsUtf8 left → chars rest ≡ w ++ chars left → (get_or (0 ∷ rest) (length rest - length left) 0 == 13) ≡ (last_from 0 w == 13)
-last_read rest left w all spelt whole =
-    let text = text-is rest left w all spelt whole in
-    let size : length rest - length left ≡ length (encodes w) = omega (arith, ap length text, length-append (encodes w) left) in
-    ap (λ (n : ℕ). get_or (0 ∷ rest) n 0 == 13) size ∙ (ap (λ (r : List ℕ). get_or (0 ∷ r) (length (encodes w)) 0 == 13) text
-    ∙ (ap (λ (d : ℕ). d == 13) (get_or-last 0 (encodes w) left) ∙ last-encodes 0 0 w refl))
-
-get_or-past : (rest : List ℕ) (n : ℕ) → 0 < n → get_or (0 ∷ rest) n 0 ≡ get_or rest (n - 1) 0
-get_or-past rest zero some = absurd (omega arith)
-get_or-past rest (suc n) some = let back : n ≡ suc n - 1 = omega arith in ap (λ (k : ℕ). get_or rest k 0) back
-
-pub last_byte : (rest left bytes w : List ℕ) → IsUtf8 rest → IsUtf8 left → bytes ≡ rest → 0 < length rest - length left
-    → chars rest ≡ w ++ chars left → (get_or bytes (length rest - length left - 1) 0 == 13) ≡ (last_from 0 w == 13)
-last_byte rest left bytes w all spelt same some whole =
-    ap (λ (bs : List ℕ). get_or bs (length rest - length left - 1) 0 == 13) same
-    ∙ (ap (λ (d : ℕ). d == 13) (sym (get_or-past rest (length rest - length left) some)) ∙ last_read rest left w all spelt whole)
-
-pub no_byte : (rest left w : List ℕ) → IsUtf8 rest → IsUtf8 left → length rest - length left ≤ 0 → chars rest ≡ w ++ chars left → nat_lt 0 (length rest - length left) ≡ (last_from 0 w == 13)
-no_byte rest left w all spelt none whole =
-    let zero_read : length rest - length left ≡ 0 = omega arith in
-    ap (nat_lt 0) zero_read ∙ (sym (ap (λ (n : ℕ). get_or (0 ∷ rest) n 0 == 13) zero_read) ∙ last_read rest left w all spelt whole)
-
 -- where only some characters are left
 pub offset_is : (text left : List ℕ) → IsLeft text left → length text - length left ≡ offset_of text (unix (chars left))
 offset_is text left is =
@@ -182,145 +152,18 @@ chars-unix text is = ap (λ (t : List ℕ). chars (unix t)) (sym (encodes-chars 
 pub utf8-unix : (text : List ℕ) → IsUtf8 text → IsUtf8 (unix text)
 utf8-unix text is = (unix (chars text), (scalars-unix (chars text) (scalars-chars text is), encodes-unix (chars text) ∙ ap unix (encodes-chars text is)))
 
-pub all_items : (raw : Bool) (text : List ℕ) → IsUtf8 text → left_items raw text (unix (chars text)) ≡ file_items raw text
-all_items raw text is = ap (left_items raw text) (sym (chars-unix text is))
-
-pub no_items : (raw : Bool) (text : List ℕ) → left_items raw text [] ≡ []
-no_items raw text = ap (map (λ (i : Item). (moved text i.0, i.1))) (nothing (front_by raw) (length (unix text)))
-
 found-moved : (text s : List ℕ) (found : List (Element × List ℕ))
     → map (λ (i : Item). (moved text i.0, i.1)) (map (item_at (length (unix text)) (reading.place (length (unix text)) s)) found) ≡ map (file_item text (offset_of text s)) found
 found-moved text s [] = refl
 found-moved text s (f ∷ found) = ap (λ (is : List Item). file_item text (offset_of text s) f ∷ is) (found-moved text s found)
 
-pub items_cons : (raw : Bool) (text s : List ℕ) (c : ℕ)
-    → left_items raw text (c ∷ s) ≡ map (file_item text (offset_of text (c ∷ s))) (front_by raw c s).found ++ left_items raw text (front_by raw c s).left
-items_cons raw text s c =
-    ap (map (λ (i : Item). (moved text i.0, i.1))) (items-cons raw (length (unix text)) c s)
-    ∙ (map-append (λ (i : Item). (moved text i.0, i.1)) (map (item_at (length (unix text)) (reading.place (length (unix text)) (c ∷ s))) (front_by raw c s).found) (items_from (front_by raw) (length (unix text)) (front_by raw c s).left)
-    ∙ ap (λ (is : List Item). is ++ left_items raw text (front_by raw c s).left) (found-moved text (c ∷ s) (front_by raw c s).found))
+moved-in : (at : ℕ → List ℕ → Front) (text : List ℕ) (count : ℕ) (s : List ℕ)
+    → items_in at count (offset_of text) s ≡ map (λ (i : Item). (moved text i.0, i.1)) (items_in at count (reading.place (length (unix text))) s)
+moved-in at text zero s = refl
+moved-in at text (suc count) [] = refl
+moved-in at text (suc count) (c ∷ s) = grind (arith, common_steps, map-append, found-moved text (c ∷ s) (at c s).found, moved-in at text count (at c s).left)
 
--- ---- an escape, which ends with the first carriage return in it
-
-abbrev stays : ℕ → Bool
-stays c = not (c == 13)
-
-unix-stays : (w s : List ℕ) → list_all stays w ≡ true → unix (w ++ s) ≡ w ++ unix s
-unix-stays [] s all = refl
-unix-stays (c ∷ w) s all = grind (arith, common_steps, nat_tests, and_parts, unix-stays w s)
-
-last-stays : (x : ℕ) (w : List ℕ) → (x == 13) ≡ false → list_all stays w ≡ true → (last_from x w == 13) ≡ false
-last-stays x [] not all = not
-last-stays x (c ∷ w) not all = grind (arith, common_steps, nat_tests, and_parts, last-stays c w)
-
--- the first character, and what is left past it
-abbrev first : ℕ → List ℕ → ℕ
-first c s = if ends_line c s then 10 else c
-
-abbrev past : ℕ → List ℕ → List ℕ
-past c s = if ends_line c s then drop 1 s else s
-
-unix-cons : (c : ℕ) (s : List ℕ) → unix (c ∷ s) ≡ first c s ∷ unix (past c s)
-unix-cons c [] = grind (arith, common_steps, nat_tests)
-unix-cons c (d ∷ s) = grind (arith, common_steps, nat_tests)
-
-abbrev IsReadSo : List ℕ → Element → List ℕ → Type 0
-IsReadSo next e w = escape (unix (w ++ next)) ≡ (e, unix (past (last_from 0 w) next))
-
--- an escape without a carriage return, and one that may end with one
-whole : (next : List ℕ) {e : Element} (w : List ℕ) → list_all stays w ≡ true → IsEscapeBefore (unix next) e w → IsReadSo next e w
-whole next w all is = rw (unix-stays w next all, last-stays 0 w refl all) (escape-reads is)
-
-ended : (next : List ℕ) {e : Element} (w : List ℕ) (c : ℕ) → list_all stays w ≡ true → IsEscapeBefore (unix (past c next)) e (w ++ first c next ∷ []) → IsReadSo next e (w ++ c ∷ [])
-ended next w c all is =
-    rw (append_assoc w (c ∷ []) next, unix-stays w (c ∷ next) all, unix-cons c next, last_from-append 0 w (c ∷ []))
-    (ap escape (sym (append_assoc w (first c next ∷ []) (unix (past c next)))) ∙ escape-reads is)
-
--- a newline is no digit, nor is a carriage return
-first-out : (p : ℕ → Bool) (c : ℕ) (s : List ℕ) → p 10 ≡ false → p c ≡ false → p (first c s) ≡ false
-first-out p c s line is = either (λ (d : ℕ). p d ≡ false) (ends_line c s) 10 c line is
-
-hex_stays : (c : ℕ) → is_hex c ≡ true → stays c ≡ true
-hex_stays c is = rw (no-digit 13 c refl is) refl
-
-digits_stay : {w : List ℕ} → AreDigits w → list_all stays w ≡ true
-digits_stay g.none = refl
-digits_stay (g.some {d} {w} digit all) = rw (hex_stays d digit) (rest w all)
-  where
-    rest : (w : List ℕ) → list_all is_digit_or_underscore w ≡ true → list_all stays w ≡ true
-    rest [] all = refl
-    rest (c ∷ w) all = grind (arith, common_steps, nat_tests, and_parts, hex_stays, rest w)
-
-escape-unix : {next : List ℕ} {e : Element} {w : List ℕ} → IsEscapeBefore next e w → IsReadSo next e w
-escape-unix {next} (g.of_byte {h} {l} a b) = whole next (120 ∷ h ∷ l ∷ []) (rw (no-digit 13 h refl a, no-digit 13 l refl b) refl) (g.of_byte a b)
-escape-unix {next} (g.of_number {d} {w} are few) = ended next (117 ∷ 123 ∷ d ∷ w) 125 (digits_stay are) (g.of_number are few)
-escape-unix {next} (g.lone none) = whole next [] refl (g.lone (ap unix none))
-escape-unix {next} (g.invalid {c} other) = ended next [] c refl (g.invalid (first-out (is_among (codes "0tnr\\'\"xu")) c next refl other))
-escape-unix {next} (g.no_digits none) = whole next (120 ∷ []) refl (g.no_digits (ap unix none))
-escape-unix {next} (g.one_digit {h} none a) = whole next (120 ∷ h ∷ []) (rw (no-digit 13 h refl a) refl) (g.one_digit (ap unix none) a)
-escape-unix {next} (g.bad_first {h} a) = ended next (120 ∷ []) h refl (g.bad_first (first-out is_hex h next refl a))
-escape-unix {next} (g.bad_second {h} {l} a b) = ended next (120 ∷ h ∷ []) l (rw (no-digit 13 h refl a) refl) (g.bad_second a (first-out is_hex l next refl b))
-escape-unix {next} (g.no_more none) = whole next (117 ∷ []) refl (g.no_more (ap unix none))
-escape-unix {next} (g.no_brace {c} a) = ended next (117 ∷ []) c refl (g.no_brace (first-out (λ d. d == 123) c next refl a))
-escape-unix {next} (g.unclosed {w} none are) = whole next (117 ∷ 123 ∷ w) (digits_stay are) (g.unclosed (ap unix none) are)
-escape-unix {next} (g.bad_digit {w} c are other inner) =
-    ended next (117 ∷ 123 ∷ w) c (digits_stay are) (g.bad_digit (first c next) are (first-out is_digit_or_underscore c next refl other) (first-out (λ d. d == 125) c next refl inner))
-escape-unix {next} (g.too_many {w} are many) = ended next (117 ∷ 123 ∷ w) 125 (digits_stay are) (g.too_many are many)
-escape-unix is = refl
-
--- what is left of a text past an escape, where `returned` says whether a carriage return ends the escape
-module _ (rest left : List ℕ) (e : Element) (returned : Bool) (all : IsUtf8 rest) (spelt : IsUtf8 left)
-    (read : (e, chars left) ≡ escape (chars rest))
-    (last : (w : List ℕ) → chars rest ≡ w ++ chars left → returned ≡ (last_from 0 w == 13)) where
-  front : IsFront (chars rest) (e, chars left)
-  front = subst (IsFront (chars rest)) (sym read) (escape-is (chars rest))
-
-  read_so : escape (unix (chars rest)) ≡ (e, unix (past (last_from 0 front.0) (chars left)))
-  read_so = ap (λ (t : List ℕ). escape (unix t)) front.1 ∙ escape-unix front.2
-
-  pub escape_read : (returned && next_is is_newline (chars left)) ≡ false → ((e, unix (chars left)) ≡ escape (unix (chars rest))) × IsLeft rest left
-  escape_read stays =
-      let none : ends_line (last_from 0 front.0) (chars left) ≡ false = subst (λ (b : Bool). (b && next_is is_newline (chars left)) ≡ false) (last front.0 front.1) stays in
-      (sym (read_so ∙ rw none refl), read_left rest left front.0 all spelt front.1 none)
-
-  pub escape_line : (line : List ℕ) → IsUtf8 line → returned ≡ true → chars left ≡ 10 ∷ chars line → ((e, unix (chars line)) ≡ escape (unix (chars rest))) × IsLeft rest line
-  escape_line line also ends newline = (sym (read_so ∙ rw (sym (last front.0 front.1) ∙ ends, newline) refl), read_line rest left line front.0 all also front.1 newline)
-
--- ---- white space that is skipped
-
-pub passed_same : (s : List ℕ)
-    → (past_run is_passed_over (unix s) ≡ unix (past_run is_passed_over s)) × (list_any is_newline (front_run is_passed_over (unix s)) ≡ list_any is_newline (front_run is_passed_over s))
-passed_same [] = (refl, refl)
-passed_same (c ∷ s) = grind (arith, common_steps, nat_tests, passed_same s)
-
-pub passed_left : (rest left : List ℕ) → IsUtf8 rest → IsUtf8 left → chars left ≡ past_run is_passed_over (chars rest) → IsLeft rest left
-passed_left rest left all spelt past =
-    let stops : next_is is_passed_over (chars left) ≡ false = ap (next_is is_passed_over) past ∙ run-stops is_passed_over (chars rest) in
-    let whole : chars rest ≡ front_run is_passed_over (chars rest) ++ chars left = run-cut is_passed_over (chars rest) ∙ ap (λ (t : List ℕ). front_run is_passed_over (chars rest) ++ t) (sym past) in
-    read_left rest left (front_run is_passed_over (chars rest)) all spelt whole (no_line (last_from 0 (front_run is_passed_over (chars rest))) (chars left) stops)
-  where
-    no_line : (c : ℕ) (s : List ℕ) → next_is is_passed_over s ≡ false → ends_line c s ≡ false
-    no_line c [] stops = grind (arith, common_steps, nat_tests)
-    no_line c (d ∷ s) stops = grind (arith, common_steps, nat_tests, or_parts)
-
--- ---- steps
-
-pub items_step : (raw : Bool) (text t u s left : List ℕ) (c start : ℕ) (first second : Option Item) (next : List ℕ) → t ≡ text → u ≡ t → s ≡ c ∷ left → start ≡ offset_of t s
-    → option_to_list first ++ option_to_list second ≡ map (file_item u start) (front_by raw c left).found → next ≡ (front_by raw c left).left
-    → left_items raw text s ≡ option_to_list first ++ (option_to_list second ++ left_items raw text next)
-items_step raw text t u s left c start first second next a b is at found rest =
-    let here : offset_of text (c ∷ left) ≡ start = sym (at ∙ (ap (λ (x : List ℕ). offset_of x s) a ∙ ap (offset_of text) is)) in
-    let all : option_to_list first ++ option_to_list second ≡ map (file_item text start) (front_by raw c left).found = found ∙ ap (λ (x : List ℕ). map (file_item x start) (front_by raw c left).found) (b ∙ a) in
-    ap (left_items raw text) is ∙ (items_cons raw text left c ∙ (ap (λ (n : ℕ). map (file_item text n) (front_by raw c left).found ++ left_items raw text (front_by raw c left).left) here
-    ∙ (ap (λ (is : List Item). is ++ left_items raw text (front_by raw c left).left) (sym all)
-    ∙ (ap (λ (x : List ℕ). (option_to_list first ++ option_to_list second) ++ left_items raw text x) (sym rest)
-    ∙ append_assoc (option_to_list first) (option_to_list second) (left_items raw text next)))))
-
-pub none_found : (first second : Option Item) (rest : List Item) → is_some first ≡ false → (first ≡ None → second ≡ None) → option_to_list first ++ (option_to_list second ++ rest) ≡ rest
-none_found first second rest none also = grind (arith, common_steps)
-
-pub takes_items : (raw : Bool) (text t s left : List ℕ) (waiting first second : Option Item) → is_some waiting ≡ false
-    → t ≡ text → left_items raw text s ≡ option_to_list first ++ (option_to_list second ++ left_items raw text left)
-    → (first ≡ None → (second ≡ None) × (left ≡ []))
-    → TakesFirst (option_to_list waiting ++ left_items raw text s) first (option_to_list second ++ left_items raw t left)
-takes_items raw text t s left waiting first second none same found all = grind (arith, common_steps, all, no_items)
+-- the items that are read are those of the text without the carriage returns, at their places
+pub all_items : (raw : Bool) (text : List ℕ) → IsUtf8 text → items_by (front_by raw) (offset_of text) (unix (chars text)) ≡ file_items raw text
+unfolding items_by
+all_items raw text is = moved-in (front_by raw) text (length (unix (chars text))) (unix (chars text)) ∙ ap (left_items raw text) (sym (chars-unix text is))

@@ -9,6 +9,7 @@ use Rattle.rustc_literal_escaper.specs.{Items.{ArePlaced, IsPlaced}, Meaning.{by
 use Rattle.rustc_literal_escaper.specs.declared.{element.Element.{Element}, error.EscapeError.{EscapeError}}
 use Rattle.rustc_literal_escaper.specs.declared.mode.Mode.{Mode, TheVariants.{Char, Byte}}
 use Rattle.rustc_literal_escaper.specs.laws.Escape.{by_either}
+use Rattle.rustc_literal_escaper.specs.means.Elements as reading
 use Rattle.rustc_literal_escaper.specs.means.Single.{alone, alone_error, literal, single_error}
 use Rattle.marks.specs.LineEnds.{ends_line, file_items, moved, place, unix}
 use Rattle.marks.specs.{Literal.{char_error, moved_stretch, stretch}, declared.literal.Look.{Look}}
@@ -71,13 +72,13 @@ stretches-moved mode begin s at close (i ∷ items) =
 abbrev kind : Option Error → Option EscapeError
 kind o = option_map (λ (e : Error). e.1) o
 
-alone-error : {U : Type 0} (meant : Result U EscapeError) (left : List ℕ) (total : ℕ) → kind (alone_error total (result_err meant) left) ≡ result_err (alone meant left)
-alone-error meant left total = grind (arith, common_steps)
+alone-error : {U : Type 0} (meant : Result U EscapeError) (left : List ℕ) (offset : List ℕ → ℕ) → kind (alone_error offset (result_err meant) left) ≡ result_err (alone meant left)
+alone-error meant left offset = grind (arith, common_steps)
 
-literal-error : {U : Type 0} (meaning : Element → Result U EscapeError) (mode : Mode) (total : ℕ) (s : List ℕ)
+literal-error : {U : Type 0} (meaning : Element → Result U EscapeError) (mode : Mode) (offset : List ℕ → ℕ) (s : List ℕ)
     → ((e : Element) → result_err (meaning e) ≡ error_of mode e)
-    → kind (single_error total mode s) ≡ result_err (literal meaning s)
-literal-error meaning mode total s w4 = grind (arith, common_steps, alone-error)
+    → kind (single_error offset mode s) ≡ result_err (literal meaning s)
+literal-error meaning mode offset s w4 = grind (arith, common_steps, alone-error)
 
 kind-moved : (text : List ℕ) (o : Option Error) → kind (option_map (λ (e : Error). (moved text e.0, e.1)) o) ≡ kind o
 kind-moved text o = grind (arith, common_steps)
@@ -85,7 +86,7 @@ kind-moved text o = grind (arith, common_steps)
 single-error : {U : Type 0} (meaning : Element → Result U EscapeError) (mode : Mode) (text : List ℕ) → IsUtf8 text → ((e : Element) → result_err (meaning e) ≡ error_of mode e)
     → kind (single_left text mode (unix (chars text))) ≡ result_err (without_range (single_of meaning (chars (unix text))))
 single-error meaning mode text is same =
-    kind-moved text (single_error (length (unix text)) mode (unix (chars text))) ∙ (literal-error meaning mode (length (unix text)) (unix (chars text)) same
+    kind-moved text (single_error (reading.place (length (unix text))) mode (unix (chars text))) ∙ (literal-error meaning mode (reading.place (length (unix text))) (unix (chars text)) same
     ∙ (ap result_err (sym (literal_read meaning (unix (chars text)))) ∙ ap (λ (s : List ℕ). result_err (without_range (single_of meaning s))) (sym (chars-unix text is))))
 
 -- a mode without single quotes is read as that of a character

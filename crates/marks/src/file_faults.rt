@@ -7,9 +7,9 @@ ghost use Rattle.rustc_literal_escaper.specs.Meaning as meaning;
 ghost use Rattle.marks.specs.LineEnds.{file_errors, unix};
 ghost use Rattle.marks.specs.means.LineEnds.{single_left};
 
-use crate::line_ends::{FileChars, FileElements};
+use crate::line_ends::{FileChars, FileElements, file_elements};
 use crate::literal::{first_place, is_single};
-use rustc_literal_escaper::{EscapeError, Faults, Mode, unescaped_alone};
+use rustc_literal_escaper::{EscapeError, Faults, Mode};
 use std::iter::Iterator;
 use std::marker::Model;
 use std::ops::Range;
@@ -58,7 +58,7 @@ impl<'a> FaultsInFile<'a> {
         let mut found = FaultsInFile {
             faults: Faults::new("", Mode::Str),
             alone: None,
-            elements: FileElements::new("", false),
+            elements: file_elements("", false),
             mode,
         };
         if first_place(b'\r', contents) == contents.len() {
@@ -66,7 +66,7 @@ impl<'a> FaultsInFile<'a> {
         } else if is_single(mode) {
             found.alone = single_error(contents, mode);
         } else {
-            found.elements = FileElements::new(contents, is_raw(mode));
+            found.elements = file_elements(contents, is_raw(mode));
         }
         found
     }
@@ -92,23 +92,11 @@ impl<'a> Iterator for FaultsInFile<'a> {
 }
 
 /// Returns the error between single quotes and its place, or `None` if there is no error.
+#[tactic(auto, using(crate::proofs::FileFaultLemmas::single_moved))]
 pub fn single_error(contents: &str, mode: Mode) -> Option<(Range<usize>, EscapeError)>
     ensures { result ≡ single_left contents.now mode (unix (chars contents.now)) }
 {
-    let mut chars = FileChars::new(contents);
-    let Some(c) = chars.next_char() else {
-        return Some((0..0, EscapeError::ZeroChars));
-    };
-    let element = if c == '\\' {
-        chars.escape()
-    } else {
-        unescaped_alone(c)
-    };
-    if let Some(error) = element.error_in(mode) {
-        return Some((0..chars.offset(), error));
-    }
-    chars.next_char()?;
-    Some((0..chars.offset(), EscapeError::MoreThanOneChar))
+    rustc_literal_escaper::single_error(&mut FileChars::new(contents), mode)
 }
 
 /// Returns whether a literal of this kind has no escapes.

@@ -14,7 +14,7 @@ use crate::class::Class;
 use crate::fault::Fault;
 use crate::file_faults::{self, is_raw};
 use crate::format::Format;
-use crate::line_ends::FileElements;
+use crate::line_ends::file_elements;
 use crate::part::{write_in_class, write_with_fault};
 use memchr::{memchr, memrchr};
 use rustc_lexer::{LiteralKind, TokenKind};
@@ -222,7 +222,7 @@ fn write_string<W: fmt::Write>(
 {
     let mut shown = 0;
     let mut at = begin;
-    for (range, element) in FileElements::new(&text[begin..close], is_raw(mode)) {
+    for (range, element) in file_elements(&text[begin..close], is_raw(mode)) {
         let start = begin + range.start;
         if start < at {
             continue;

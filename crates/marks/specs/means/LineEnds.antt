@@ -46,4 +46,4 @@ left_items raw text left =
 abbrev pub single_left : Utf8 → Mode → List ℕ → Option Error
 single_left text mode left =
     option_map (λ (e : Error). (moved text e.0, e.1))
-    (single_error (length (unix text)) mode left)
+    (single_error (reading.place (length (unix text))) mode left)

@@ -1,11 +1,11 @@
 // Made by tools/erase from crates/marks/src/file_faults.rt: edit that file.
 //! What is wrong in a literal of a file.
 
-use crate::erased::line_ends::{FileChars, FileElements};
+use crate::erased::line_ends::{FileChars, FileElements, file_elements};
 use crate::erased::literal::{first_place, is_single};
 use core::iter::Iterator;
 use core::ops::Range;
-use rustc_literal_escaper::erased::{EscapeError, Faults, Mode, unescaped_alone};
+use rustc_literal_escaper::erased::{EscapeError, Faults, Mode};
 
 /// An iterator over the errors and warnings of a literal in a file, each with its place in bytes.
 ///
@@ -36,7 +36,7 @@ impl<'a> FaultsInFile<'a> {
         let mut found = FaultsInFile {
             faults: Faults::new("", Mode::Str),
             alone: None,
-            elements: FileElements::new("", false),
+            elements: file_elements("", false),
             mode,
         };
         if first_place(b'\r', contents) == contents.len() {
@@ -44,7 +44,7 @@ impl<'a> FaultsInFile<'a> {
         } else if is_single(mode) {
             found.alone = single_error(contents, mode);
         } else {
-            found.elements = FileElements::new(contents, is_raw(mode));
+            found.elements = file_elements(contents, is_raw(mode));
         }
         found
     }
@@ -67,20 +67,7 @@ impl<'a> Iterator for FaultsInFile<'a> {
 
 /// Returns the error between single quotes and its place, or `None` if there is no error.
 pub fn single_error(contents: &str, mode: Mode) -> Option<(Range<usize>, EscapeError)> {
-    let mut chars = FileChars::new(contents);
-    let Some(c) = chars.next_char() else {
-        return Some((0..0, EscapeError::ZeroChars));
-    };
-    let element = if c == '\\' {
-        chars.escape()
-    } else {
-        unescaped_alone(c)
-    };
-    if let Some(error) = element.error_in(mode) {
-        return Some((0..chars.offset(), error));
-    }
-    chars.next_char()?;
-    Some((0..chars.offset(), EscapeError::MoreThanOneChar))
+    rustc_literal_escaper::erased::single_error(&mut FileChars::new(contents), mode)
 }
 
 /// Returns whether a literal of this kind has no escapes.

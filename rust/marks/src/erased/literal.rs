@@ -5,7 +5,7 @@ use crate::erased::class::Class;
 use crate::erased::fault::Fault;
 use crate::erased::file_faults::{self, is_raw};
 use crate::erased::format::Format;
-use crate::erased::line_ends::FileElements;
+use crate::erased::line_ends::file_elements;
 use crate::erased::part::{write_in_class, write_with_fault};
 use core::fmt;
 use core::ops::Range;
@@ -162,7 +162,7 @@ fn write_string<W: fmt::Write>(
 ) -> fmt::Result {
     let mut shown = 0;
     let mut at = begin;
-    for (range, element) in FileElements::new(&text[begin..close], is_raw(mode)) {
+    for (range, element) in file_elements(&text[begin..close], is_raw(mode)) {
         let start = begin + range.start;
         if start < at {
             continue;

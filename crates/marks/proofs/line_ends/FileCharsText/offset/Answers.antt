@@ -1,7 +1,7 @@
 use Rattle.std.proofs.Common.{List, ℕ, ap, ◌∙◌}
 use Rattle.marks.specs.means.LineEnds.{offset_of}
 use Rattle.marks.proofs.LineEndLemmas.{left_within, offset_is}
-use Rattle.marks.proofs.line_ends.FileChars.offset.Goals as goal
+use Rattle.marks.proofs.line_ends.FileCharsText.offset.Goals as goal
 
 pub overflow_sub-result : goal.overflow_sub-result
 overflow_sub-result c = left_within c.self.invariant
