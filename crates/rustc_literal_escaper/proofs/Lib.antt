@@ -2,6 +2,8 @@ pub mod AnswerLemmas
 pub mod DigitLemmas
 pub mod PlaceLemmas
 pub mod ItemLemmas
+pub mod LaneLemmas
+pub mod RunLemmas
 pub mod SinkLemmas
 pub mod TextLemmas
 pub mod FewLemmas

@@ -1,4 +1,5 @@
 pub mod Elements
 pub mod Escape
+pub mod Plain
 pub mod Single
 pub mod Sinks

@@ -12,6 +12,7 @@ use crate::element::Element;
 use crate::elements::{Sink, each};
 use crate::error::EscapeError;
 use crate::mode::Mode;
+use crate::simple::past_simple;
 use crate::single::single_error;
 use crate::text::Plain;
 use std::ops::Range;
@@ -65,7 +66,8 @@ fn each_single_error<F: FnMut(Range<usize>, EscapeError)>(src: &str, mode: Mode,
 
 /// Calls `callback` with each error and warning between double quotes.
 ///
-/// It is inlined into each arm of its caller, so that the mode is known there.
+/// It is inlined into each arm of its caller, so that the mode is known there. Where nothing is wrong or escaped it looks
+/// at 32 bytes at a time.
 #[inline(always)]
 fn each_error<F: FnMut(Range<usize>, EscapeError)>(src: &str, mode: Mode, callback: F)
     requires callable { F.IsAlwaysCallable callback }
@@ -73,8 +75,10 @@ fn each_error<F: FnMut(Range<usize>, EscapeError)>(src: &str, mode: Mode, callba
     ensures calls { (last : F) × FoldsTo (λ f error g. F.step f error.0 error.1 tt g)
         callback (errors_of mode src.now) last }
 {
+    let raw = is_raw(mode);
     let mut errors = Errors { mode, callback };
-    each(&mut Plain::new(src), is_raw(mode), None, &mut errors);
+    let mut rest = Plain::end_of(src.len(), past_simple(src, raw));
+    each(&mut rest, raw, None, &mut errors);
 }
 
 /// Returns whether a literal of this kind has no escapes.

@@ -13,6 +13,7 @@ mod escape;
 mod faults;
 mod mode;
 mod scan;
+mod simple;
 mod single;
 mod strings;
 mod text;

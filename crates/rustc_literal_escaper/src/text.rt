@@ -1,5 +1,5 @@
 //! Texts that are read character by character.
-ghost use Rattle.std.specs.Prelude.{◌≡◌, length};
+ghost use Rattle.std.specs.Prelude.{◌≡◌, ◌≤◌, length};
 ghost use Rattle.std.specs.Str.{chars};
 
 use std::marker::Model;
@@ -59,6 +59,20 @@ impl<'a> Plain<'a> {
         Plain {
             total: text.len(),
             ahead: text.chars(),
+        }
+    }
+}
+
+impl<'a> Plain<'a> {
+    /// Returns the characters of `rest`, which is the end of a text of `total` bytes.
+    #[inline(always)]
+    pub(crate) fn end_of(total: usize, rest: &'a str) -> Plain<'a>
+        requires { length rest.now ≤ total }
+        ensures { result ≡ (total, chars rest.now) }
+    {
+        Plain {
+            total,
+            ahead: rest.chars(),
         }
     }
 }

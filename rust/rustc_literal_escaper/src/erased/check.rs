@@ -5,6 +5,7 @@ use crate::erased::element::Element;
 use crate::erased::elements::{Sink, each};
 use crate::erased::error::EscapeError;
 use crate::erased::mode::Mode;
+use crate::erased::simple::past_simple;
 use crate::erased::single::single_error;
 use crate::erased::text::Plain;
 use core::ops::Range;
@@ -49,11 +50,14 @@ fn each_single_error<F: FnMut(Range<usize>, EscapeError)>(src: &str, mode: Mode,
 
 /// Calls `callback` with each error and warning between double quotes.
 ///
-/// It is inlined into each arm of its caller, so that the mode is known there.
+/// It is inlined into each arm of its caller, so that the mode is known there. Where nothing is wrong or escaped it looks
+/// at 32 bytes at a time.
 #[inline(always)]
 fn each_error<F: FnMut(Range<usize>, EscapeError)>(src: &str, mode: Mode, callback: F) {
+    let raw = is_raw(mode);
     let mut errors = Errors { mode, callback };
-    each(&mut Plain::new(src), is_raw(mode), None, &mut errors);
+    let mut rest = Plain::end_of(src.len(), past_simple(src, raw));
+    each(&mut rest, raw, None, &mut errors);
 }
 
 /// Returns whether a literal of this kind has no escapes.

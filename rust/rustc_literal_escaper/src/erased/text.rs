@@ -33,6 +33,17 @@ impl<'a> Plain<'a> {
     }
 }
 
+impl<'a> Plain<'a> {
+    /// Returns the characters of `rest`, which is the end of a text of `total` bytes.
+    #[inline(always)]
+    pub(crate) fn end_of(total: usize, rest: &'a str) -> Plain<'a> {
+        Plain {
+            total,
+            ahead: rest.chars(),
+        }
+    }
+}
+
 impl<'a> Text for Plain<'a> {
     #[inline(always)]
     fn next_char(&mut self) -> Option<char> {

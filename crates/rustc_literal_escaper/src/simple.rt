@@ -1,0 +1,71 @@
+//! Skips simple characters, which are wrong in no kind of string, at the front of a text, 32 bytes at a time.
+ghost use Rattle.std.specs.Prelude.{◌≡◌, ◌≤◌, true, false, length, map};
+ghost use Rattle.std.specs.List.{prefix_len};
+ghost use Rattle.std.specs.Simd.Lanes.{mask_l};
+ghost use Rattle.std.specs.Str.{chars, IsUtf8};
+ghost use Rattle.rustc_literal_escaper.specs.means.Plain as spec;
+
+use std::simd::prelude::*;
+
+/// Returns the text after simple characters at the front. Of fewer than 32 bytes it skips none.
+#[inline(always)]
+#[tactic(auto, using(crate::proofs::RunLemmas::simple_lemmas))]
+pub(crate) fn past_simple(rest: &str, raw: bool) -> &str
+    ensures passes { spec.Passes (spec.is_simple raw) (chars rest.now) (chars result.now) }
+    ensures text { IsUtf8 result.now }
+    ensures shorter { length result.now ≤ length rest.now }
+{
+    if rest.len() < 32 {
+        return rest;
+    }
+    let end = simple_end(rest.as_bytes(), raw);
+    &rest[end..]
+}
+
+/// Returns a number of simple bytes at the front. Looks at 32 bytes at a time.
+#[inline(never)]
+#[tactic(auto, using(crate::proofs::LaneLemmas::run_through))]
+fn simple_end(bytes: &[u8], raw: bool) -> usize
+    ensures simple { result ≤ prefix_len (spec.is_simple raw) bytes.now }
+    ensures inside { result ≤ length bytes.now }
+{
+    let mut end = 0;
+    'lanes: while bytes.len() - end >= 32 {
+        let found = stops(u8x32::from_slice(&bytes[end..]), raw);
+        if found != 0 {
+            return end + found.trailing_zeros() as usize;
+        }
+        end += 32;
+    }
+    end
+}
+
+/// Returns a mask. Bit k is set if lane k is not simple.
+#[inline(always)]
+fn stops(v: u8x32, raw: bool) -> u64
+    ensures { result ≡ mask_l (map (spec.is_stop raw) v) }
+{
+    if raw { raw_stops(v) } else { escaped_stops(v) }
+}
+
+/// Returns a mask for a raw string. Bit k is set if lane k is U+0000, a carriage return or outside ASCII.
+#[inline(always)]
+fn raw_stops(v: u8x32) -> u64
+    ensures { result ≡ mask_l (map (spec.is_stop true) v) }
+{
+    let from_1 = v - u8x32::splat(1);
+    (from_1.simd_ge(u8x32::splat(127)) | v.simd_eq(u8x32::splat(b'\r'))).to_bitmask()
+}
+
+/// Returns a mask for a string that may have escapes. Bit k is set if lane k is one of these, a backslash or a
+/// double quote.
+#[inline(always)]
+fn escaped_stops(v: u8x32) -> u64
+    ensures { result ≡ mask_l (map (spec.is_stop false) v) }
+{
+    let from_1 = v - u8x32::splat(1);
+    (from_1.simd_ge(u8x32::splat(127))
+        | v.simd_eq(u8x32::splat(b'\r'))
+        | v.simd_eq(u8x32::splat(b'\\'))
+        | v.simd_eq(u8x32::splat(b'"'))).to_bitmask()
+}

@@ -1,0 +1,53 @@
+// Made by tools/erase from crates/rustc_literal_escaper/src/simple.rt: edit that file.
+//! Skips simple characters, which are wrong in no kind of string, at the front of a text, 32 bytes at a time.
+
+use crate::support::simd::*;
+
+/// Returns the text after simple characters at the front. Of fewer than 32 bytes it skips none.
+#[inline(always)]
+pub(crate) fn past_simple(rest: &str, raw: bool) -> &str {
+    if rest.len() < 32 {
+        return rest;
+    }
+    let end = simple_end(rest.as_bytes(), raw);
+    &rest[end..]
+}
+
+/// Returns a number of simple bytes at the front. Looks at 32 bytes at a time.
+#[inline(never)]
+fn simple_end(bytes: &[u8], raw: bool) -> usize {
+    let mut end = 0;
+    while bytes.len() - end >= 32 {
+        let found = stops(u8x32::from_slice(&bytes[end..]), raw);
+        if found != 0 {
+            return end + found.trailing_zeros() as usize;
+        }
+        end += 32;
+    }
+    end
+}
+
+/// Returns a mask. Bit k is set if lane k is not simple.
+#[inline(always)]
+fn stops(v: u8x32, raw: bool) -> u64 {
+    if raw { raw_stops(v) } else { escaped_stops(v) }
+}
+
+/// Returns a mask for a raw string. Bit k is set if lane k is U+0000, a carriage return or outside ASCII.
+#[inline(always)]
+fn raw_stops(v: u8x32) -> u64 {
+    let from_1 = v - u8x32::splat(1);
+    (from_1.simd_ge(u8x32::splat(127)) | v.simd_eq(u8x32::splat(b'\r'))).to_bitmask()
+}
+
+/// Returns a mask for a string that may have escapes. Bit k is set if lane k is one of these, a backslash or a
+/// double quote.
+#[inline(always)]
+fn escaped_stops(v: u8x32) -> u64 {
+    let from_1 = v - u8x32::splat(1);
+    (from_1.simd_ge(u8x32::splat(127))
+        | v.simd_eq(u8x32::splat(b'\r'))
+        | v.simd_eq(u8x32::splat(b'\\'))
+        | v.simd_eq(u8x32::splat(b'"')))
+    .to_bitmask()
+}
