@@ -28,8 +28,6 @@ impl Counting {
 impl Stepper for Counting {
     ghost grammar = { λ c. ⟦<Steps as Stepper>⟧.grammar c.steps };
 
-    ghost number = { λ c. ⟦<Steps as Stepper>⟧.number c.steps };
-
     ghost count = { λ c. ⟦<Steps as Stepper>⟧.count c.steps };
 
     ghost law = { λ c. ⟦<Steps as Stepper>⟧.law c.steps };
@@ -59,9 +57,7 @@ impl Characters {
 impl Stepper for Characters {
     ghost use Rattle.lex_vectors.specs.Characters.{character, character_grammar};
 
-    ghost grammar = { λ _. character };
-
-    ghost number = { λ _. 0 };
+    ghost grammar = { λ _. record { first = character; id = 0 } };
 
     ghost count = { λ c. ⟦<Steps as Stepper>⟧.count c.steps };
 

@@ -5,7 +5,8 @@ use Rattle.std.specs.Prelude.{ℕ, ◌<◌, List, length, drop, Option, Result, 
 use Rattle.rustc_lexer.specs.{Edition, GuardedStr, RawStrError, Token}
 use Rattle.rustc_lexer.specs.Classes.{IsText, Utf8}
 use Rattle.rustc_lexer.specs.LanguageCalls.{IsRawAnswer, IsShebang}
-use Rattle.rustc_lexer.specs.LanguageText.{Mode, AreTokens, TheOnly}
+use Rattle.rustc_lexer.specs.LanguageText.{Mode, AreTokens, TheOnly, year}
+use Rattle.rustc_lexer.specs.Locality.{Grammar}
 use Rattle.rustc_lexer.specs.State.{IsFirst, TakesGuarded, TakesNext, State}
 use Rattle.rustc_lexer.specs.laws.TheAnswers.{the_next, the_guarded, the_raw, the_shebang}
 use Rattle.rustc_lexer.specs.laws.TheLaws.{the_laws}
@@ -22,6 +23,10 @@ first_in edition text =
     let the : TheOnly (IsText text × (0 < length text)) (IsFirst edition text) =
     the_laws.first edition text in
     the.answer
+
+-- the grammar of an edition, named by its year
+abbrev pub grammar_of : Edition → Grammar
+grammar_of edition = record { first = first_in edition; id = year edition }
 
 -- the token that a cursor takes, and its state after that
 abbrev pub advance : State → Token × State

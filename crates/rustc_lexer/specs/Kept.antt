@@ -39,53 +39,49 @@ pub record AreKept (old new : List Token) (r : Relexed) : Type 0 where
   pub front : take r.kept_front new ≡ take r.kept_front old
   pub back : drop (r.kept_front + r.lexed) new ≡ drop (length old - r.kept_back) old
 
--- what an edit does to a kept text. `layout` tells where the tokens of a text are, by the grammar
--- of the old stepper. `first` is the grammar of a stepper, and `steps` how many steps it took. Of
--- two editions that lex alike, only `year`, the number that names a grammar, tells which one stays
-pub record IsEdited {S E : Type 0} (first : S → List ℕ → Token) (year steps : S → ℕ)
-    (layout : List ℕ → Layout) (old : Held S) (start stop : ℕ) (insert : List ℕ)
-    (result : Result Relexed E) (new : Held S) : Type 0 where
-  -- what text and tokens are afterwards
+-- what an edit does to text and tokens. `layout` returns where the tokens of a text are, for the
+-- grammar of the stepper
+pub record IsEdited {S E : Type 0} (layout : List ℕ → Layout) (old : Held S) (start stop : ℕ)
+    (insert : List ℕ) (result : Result Relexed E) (new : Held S) : Type 0 where
   pub text : OnOk result (new.text ≡ apply old.text start stop insert)
   pub from_scratch : new.tokens ≡ tokens_in (layout new.text)
   -- which tokens stay, and how many were lexed
   pub relexed : IfOk result (IsRelexed layout old.text start stop insert)
   pub kept : IfOk result (AreKept old.tokens new.tokens)
-  -- how many steps the stepper took: the tokens of a new head take none. It keeps its grammar
-  pub count : IfOk result
-      (λ r. steps new.stepper + (length (layout new.text).head - r.kept_front)
-      ≡ steps old.stepper + r.lexed)
-  pub grammar : first new.stepper ≡ first old.stepper
-  pub number : year new.stepper ≡ year old.stepper
-  pub rose : steps old.stepper ≤ steps new.stepper
-  -- if it fails, nothing has changed, and few steps were taken
+  -- if the edit fails, nothing has changed
   pub same_text : OnErr result (new.text ≡ old.text)
   pub same_tokens : OnErr result (new.tokens ≡ old.tokens)
-  pub few : OnErr result
-      ((r : Relexed) × IsRelexed layout old.text start stop insert r
-      × (steps new.stepper
-      + (length (layout (apply old.text start stop insert)).head - r.kept_front)
-      ≤ steps old.stepper + r.lexed))
 
--- what a list of edits does to a kept text, up to the first that is refused. As for one edit,
--- `year` tells which of two editions that lex alike stays
-pub record AreMade {S T : Type 0} (first : S → List ℕ → Token) (year steps : S → ℕ)
-    (layout : List ℕ → Layout) (old : Held S) (edits : List Edit) (result : Result T EditStop)
-    (new : Held S) : Type 0 where
+-- the step count of the stepper, `before` and `after` an edit of the text
+pub record IsCounted {E : Type 0} (layout : List ℕ → Layout) (text : List ℕ) (start stop : ℕ)
+    (insert : List ℕ) (result : Result Relexed E) (before after : ℕ) : Type 0 where
+  -- each token that was lexed takes one step, but the tokens of a new head take none
+  pub count : IfOk result
+      (λ r. after + (length (layout (apply text start stop insert)).head - r.kept_front)
+      ≡ before + r.lexed)
+  pub rose : before ≤ after
+  -- if the edit fails, it took at most as many steps as if it had been made
+  pub few : OnErr result
+      ((r : Relexed) × IsRelexed layout text start stop insert r
+      × (after + (length (layout (apply text start stop insert)).head - r.kept_front)
+      ≤ before + r.lexed))
+
+-- what a list of edits does to text and tokens, up to the first edit that is rejected
+pub record AreMade {S T : Type 0} (layout : List ℕ → Layout) (old : Held S) (edits : List Edit)
+    (result : Result T EditStop) (new : Held S) : Type 0 where
   pub accepted : OnOk result (AreEdits old.text edits)
   pub text : OnOk result (new.text ≡ apply_list old.text edits)
   pub from_scratch : new.tokens ≡ tokens_in (layout new.text)
-  -- the stepper keeps its grammar, and counts the steps of all edits
-  pub grammar : first new.stepper ≡ first old.stepper
-  pub number : year new.stepper ≡ year old.stepper
-  pub count : OnOk result
-      (AreStepped layout old.text edits (steps old.stepper) (steps new.stepper))
-  -- if an edit is refused, the edits before it were made
+  -- if an edit is rejected, the edits before it were made
   pub stop : IfErr result (λ e. IsStop e new.text edits)
   pub stop_accepted : IfErr result (λ e. AreEdits old.text (take (stop_at e) edits))
   pub stop_text : IfErr result (λ e. new.text ≡ apply_list old.text (take (stop_at e) edits))
-  pub stop_count : IfErr result
-      (λ e. IsStopStepped e layout old.text edits (steps old.stepper) (steps new.stepper))
+
+-- the step count of the stepper, `before` and `after` a list of edits of the text
+pub record AreCounted {T : Type 0} (layout : List ℕ → Layout) (text : List ℕ) (edits : List Edit)
+    (result : Result T EditStop) (before after : ℕ) : Type 0 where
+  pub count : OnOk result (AreStepped layout text edits before after)
+  pub stop_count : IfErr result (λ e. IsStopStepped e layout text edits before after)
 
 -- why a list of edits stopped
 abbrev pub reason : Result Relexed Stopped → Result Relexed EditStop

@@ -10,6 +10,12 @@ pub record AgreePast (offset : ℕ) (text other : List ℕ) : Type 0 where
   pub below : take offset text ≡ take offset other
   pub past : take 2 (chars (drop offset text)) ≡ take 2 (chars (drop offset other))
 
+-- a grammar: the first token of each text, and a number that names the grammar. Two editions can
+-- lex alike, and then only the number tells which one a stepper keeps
+pub record Grammar : Type 0 where
+  pub first : List ℕ → Token
+  pub id : ℕ
+
 -- the law of a grammar: a first token is not empty, ends between characters, and is also the first
 -- token of every text that agrees with this one past the token's end
 pub record IsGrammar (first : List ℕ → Token) : Type 0 where

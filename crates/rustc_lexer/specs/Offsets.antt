@@ -1,5 +1,5 @@
 -- Offsets in a text and its tokens.
-use Rattle.std.specs.Prelude.{ℕ, ◌+◌, ◌<◌, ◌≤◌, List, length, ◌≡◌, ◌↔◌}
+use Rattle.std.specs.Prelude.{ℕ, ◌+◌, ◌<◌, ◌≤◌, List, length, map, ◌≡◌, ◌↔◌}
 use Rattle.rustc_lexer.specs.declared.relex.front.TokenStart.{TokenStart}
 use Rattle.rustc_lexer.specs.{Token}
 use Rattle.rustc_lexer.specs.Partition.{bound}
@@ -7,6 +7,14 @@ use Rattle.rustc_lexer.specs.Partition.{bound}
 -- `at` is a boundary of the tokens, by its number and its offset
 abbrev pub IsBound : List Token → TokenStart → Type 0
 IsBound tokens at = (at.index ≤ length tokens) × (at.offset ≡ bound tokens at.index)
+
+-- the tokens have these lengths, and the first of them begins at `first`. `near` is a boundary of
+-- them, by its index and its offset
+pub record ArePlaced (lengths : List ℕ) (first : ℕ) (tokens : List Token) (near : TokenStart)
+    : Type 0 where
+  pub lengths_are : lengths ≡ map (λ (t : Token). t.len) tokens
+  pub number : near.index ≤ length tokens
+  pub offset : near.offset ≡ first + bound tokens near.index
 
 -- the token with this number and this start contains the byte at `offset`, if the first token
 -- begins at `first`

@@ -2,7 +2,6 @@ pub mod BatchLemmas
 pub mod EscapeLemmas
 pub mod FaultLemmas
 pub mod HeadLemmas
-pub mod OffsetLemmas
 pub mod OutputLemmas
 pub mod RelexLemmas
 pub mod BufferLemmas

@@ -2,17 +2,9 @@
 use Rattle.std.specs.Prelude.{ℕ, ◌≡◌, ◌+◌, ◌≤◌, Bool, true, false, List, length, map}
 use Rattle.rustc_lexer.specs.declared.relex.front.TokenStart.{TokenStart}
 use Rattle.rustc_lexer.specs.declared.token.Token.{Token}
-use Rattle.rustc_lexer.specs.Offsets.{ContainsByte}
+use Rattle.rustc_lexer.specs.Offsets.{ArePlaced, ContainsByte}
 use Rattle.rustc_lexer.specs.Tokens.{bound}
 use Rattle.rustc_lexer_c.specs.declared.token.CToken.{CToken}
-
--- the numbers are those of tokens of these lengths. The first of them begins at `first`, and
--- `near` is a boundary of them, by its number and its offset
-pub record ArePlaced (numbers : List CToken) (first : ℕ) (tokens : List Token) (near : TokenStart)
-    : Type 0 where
-  pub lengths : map (λ (t : CToken). t.len) numbers ≡ map (λ (t : Token). t.len) tokens
-  pub number : near.index ≤ length tokens
-  pub offset : near.offset ≡ first + bound tokens near.index
 
 -- a call that looks for the token that contains the byte at `offset`, from the boundary `near` on.
 -- If there is one, `at` is where it begins. If there is none, `at` is `near`, and the byte is
@@ -20,8 +12,8 @@ pub record ArePlaced (numbers : List CToken) (first : ℕ) (tokens : List Token)
 pub record FindsToken (numbers : List CToken) (offset : ℕ) (near at : TokenStart) (found : Bool)
     : Type 0 where
   pub token : found ≡ true → (first : ℕ) (tokens : List Token)
-      → ArePlaced numbers first tokens near → ContainsByte first tokens offset at
+      → ArePlaced (map (λ (t : CToken). t.len) numbers) first tokens near → ContainsByte first tokens offset at
   pub outside : found ≡ false → (first : ℕ) (tokens : List Token)
-      → ArePlaced numbers first tokens near
+      → ArePlaced (map (λ (t : CToken). t.len) numbers) first tokens near
       → first ≤ offset → first + bound tokens (length tokens) ≤ offset
   pub same : found ≡ false → at ≡ near

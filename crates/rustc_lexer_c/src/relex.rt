@@ -12,7 +12,7 @@ ghost use Rattle.rustc_lexer_c.specs.Status.{OK};
 
 use crate::status::{OK, Refusal, refuse, text_of, utf8_text_of};
 use crate::token::CToken;
-use rustc_lexer::{Change, Edition, Measured, Relexing, Steps, TokenStart};
+use rustc_lexer::{Change, Edited, Edition, Measured, Relexing, Steps, TokenStart};
 
 /// An edit that was made, by its places in bytes. It took out what was from `start` up to `old_stop` in the old
 /// text, and put in what is from `start` up to `new_stop` in the present text.
@@ -133,10 +133,11 @@ fn relex(
     if !change.may_make(text) {
         return refuse(Refusal::BadEdit, 0, count);
     }
-    let Some(mut at) = standing(text, old, change, relexing) else {
+    let edited = Edited { text, old, change };
+    let Some(mut at) = standing(&edited, relexing) else {
         return refuse(Refusal::BadEdit, 0, count);
     };
-    *count = at.fill(&mut Steps::new_in(edition), text, old, change, buffer);
+    *count = at.fill(&mut Steps::new_in(edition), &edited, buffer);
     *relexing = relexing_numbers(&at, text, old.len());
     OK
 }
@@ -160,39 +161,39 @@ pub(crate) fn change_of(edit: &CEdit) -> Change
 }
 
 /// Returns where to begin or to go on, or `None` if no call left these numbers.
-fn standing(text: &str, old: &[CToken], change: Change, relexing: &CRelexing) -> Option<Relexing>
-    requires fits { Fits text.now }
-    requires change { IsChange text.now change }
-    ensures none { result ≡ None ↔ ¬ (spec.MayRelex text.now (length old.now) relexing.now) }
-    ensures some { IfSome result (λ at. MayGoOn text.now (length old.now) at
+fn standing(edited: &Edited<'_, CToken>, relexing: &CRelexing) -> Option<Relexing>
+    requires fits { Fits edited.now.text.now }
+    requires change { IsChange edited.now.text.now edited.now.change }
+    ensures none { result ≡ None ↔ ¬ (spec.MayRelex edited.now.text.now (length edited.now.old.now) relexing.now) }
+    ensures some { IfSome result (λ at. MayGoOn edited.now.text.now (length edited.now.old.now) at
         × (at.lexed ≡ spec.lexed_before relexing.now)
         × (relexing.now.stage ≢ spec.STAGE_BEGIN → at.front ≡ spec.front_of relexing.now)
         × ((first : List ℕ → Token) (before insert : List ℕ) → IsGrammar first
-        → IsMadeOf first before (map (λ (t : CToken). t.len) old.now) change insert text.now
-        → spec.IsPassed first before change text.now (length old.now) relexing.now
-        → IsUnderWay first before change text.now at)) }
+        → IsMadeOf first before (map (λ (t : CToken). t.len) edited.now.old.now) edited.now.change insert edited.now.text.now
+        → spec.IsPassed first before edited.now.change edited.now.text.now (length edited.now.old.now) relexing.now
+        → IsUnderWay first before edited.now.change edited.now.text.now at)) }
 {
     let front = TokenStart {
         index: relexing.kept_front,
         offset: relexing.front_offset,
     };
     if relexing.stage == STAGE_BEGIN {
-        return Some(Relexing::begin(text, old, change, front));
+        return Some(Relexing::begin(edited, front));
     }
-    if relexing.kept_back > old.len() {
+    if relexing.kept_back > edited.old.len() {
         return None;
     }
     let at = Relexing {
         front,
         lexed: relexing.lexed,
         back: TokenStart {
-            index: old.len() - relexing.kept_back,
+            index: edited.old.len() - relexing.kept_back,
             offset: relexing.back_offset,
         },
         at: relexing.at,
         met: relexing.stage == STAGE_DONE,
     };
-    at.may_go_on(text, old.len()).then_some(at)
+    at.may_go_on(edited.text, edited.old.len()).then_some(at)
 }
 
 /// Returns how far the text is relexed, as numbers.

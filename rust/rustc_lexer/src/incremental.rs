@@ -9,7 +9,7 @@
 //! The list has the tokens of the body, which is what follows the shebang line and the frontmatter.
 //!
 //! ```
-//! use rustc_lexer::incremental::{Change, Head, Relexing};
+//! use rustc_lexer::incremental::{Change, Edited, Head, Relexing};
 //! use rustc_lexer::{Edition, Steps, Token, TokenStart, tokenize_document};
 //!
 //! struct File {
@@ -26,9 +26,10 @@
 //!         let change = self.head.change_to(head, change).change;
 //!         let text = &self.text[head.body..];
 //!         let mut steps = Steps::new();
-//!         let mut relexing = Relexing::begin(text, &self.body, change, TokenStart::default());
+//!         let edited = Edited { text, old: &self.body, change };
+//!         let mut relexing = Relexing::begin(&edited, TokenStart::default());
 //!         let mut lexed = Vec::new();
-//!         while let Some(token) = relexing.next(&mut steps, text, &self.body, change) {
+//!         while let Some(token) = relexing.next(&mut steps, &edited) {
 //!             lexed.push(token);
 //!         }
 //!         let counts = relexing.counts(self.body.len());
@@ -51,4 +52,4 @@
 #[doc(inline)]
 pub use crate::erased::Relexing;
 #[doc(inline)]
-pub use crate::erased::{BodyChange, Change, Head, Measured};
+pub use crate::erased::{BodyChange, Change, Edited, Head, Measured};

@@ -6,7 +6,7 @@ mod random;
 use made::{counts, edit, token};
 use random::Random;
 use rattle_support::Global;
-use rustc_lexer::incremental::{Change, Head, Relexing};
+use rustc_lexer::incremental::{Edited, Change, Head, Relexing};
 use rustc_lexer::{
     EditStop, Edition, FrontmatterAllowed, LexedDocument, LexedText, Relexed, Stepper, Steps,
     Token, TokenKind, TokenStart, erased, strip_shebang, tokenize_as, tokenize_document,
@@ -379,18 +379,22 @@ fn a_list_of_the_caller() {
         new_stop: 6,
     };
     assert!(change.may_make(text));
-    let (index, offset) = (0, 0);
-    let mut relexing = Relexing::begin(text, &old, change, TokenStart { index, offset });
+    let edited = Edited {
+        text,
+        old: &old,
+        change,
+    };
+    let mut relexing = Relexing::begin(&edited, TokenStart::default());
     let (mut steps, mut buffer) = (Steps::new(), [token(TokenKind::Eof, 0); 2]);
-    let filled = relexing.fill(&mut steps, text, &old, change, &mut buffer);
+    let filled = relexing.fill(&mut steps, &edited, &mut buffer);
     assert_eq!((filled, buffer), (2, [word, space]));
-    let next = relexing.next(&mut steps, text, &old, change);
+    let next = relexing.next(&mut steps, &edited);
     assert_eq!((next, relexing.is_over(text)), (Some(letter), false));
-    let filled = relexing.fill(&mut steps, text, &old, change, &mut buffer);
+    let filled = relexing.fill(&mut steps, &edited, &mut buffer);
     assert_eq!((filled, buffer), (2, [space, letter]));
     assert!(relexing.is_over(text));
-    let filled = relexing.fill(&mut steps, text, &old, change, &mut buffer);
-    let next = relexing.next(&mut steps, text, &old, change);
+    let filled = relexing.fill(&mut steps, &edited, &mut buffer);
+    let next = relexing.next(&mut steps, &edited);
     assert_eq!((filled, next), (0, None));
     assert_eq!(relexing.counts(old.len()), counts(0, 5, 2));
 }
@@ -419,12 +423,17 @@ fn lists_of_the_caller() {
         let (index, offset) = (0, 0);
         let first = TokenStart { index, offset };
         assert!(change.may_make(body));
+        let edited = Edited {
+            text: body,
+            old: old_body,
+            change,
+        };
         let mut steps = Steps::new();
-        let mut relexing = Relexing::begin(body, old_body, change, first);
+        let mut relexing = Relexing::begin(&edited, first);
         let mut made = tokens_of(now);
         let kept = made.len() + relexing.front.index;
         made.extend(&old_body[..relexing.front.index]);
-        while let Some(token) = relexing.next(&mut steps, body, old_body, change) {
+        while let Some(token) = relexing.next(&mut steps, &edited) {
             made.push(token);
             let passed = relexing.at.checked_sub(change.new_stop);
             assert!(passed.is_none_or(|passed| relexing.back.offset >= change.old_stop + passed));
@@ -432,11 +441,11 @@ fn lists_of_the_caller() {
         let mut wanted = relexing.counts(old_body.len());
         assert_eq!(made.len(), kept + wanted.lexed);
         // the same by a buffer, which is filled but at the end
-        let mut again = Relexing::begin(body, old_body, change, first);
+        let mut again = Relexing::begin(&edited, first);
         let mut buffer = [token(TokenKind::Eof, 0); 3];
         let mut filled = Vec::new();
         while !again.is_over(body) {
-            let count = again.fill(&mut steps, body, old_body, change, &mut buffer);
+            let count = again.fill(&mut steps, &edited, &mut buffer);
             filled.extend_from_slice(&buffer[..count]);
             assert!(count == buffer.len() || again.is_over(body));
         }

@@ -1,5 +1,5 @@
 -- Means, by how it is read: the head of a document, and what an edit keeps of the document by it.
-use Rattle.std.specs.Prelude.{ℕ, ◌+◌, ◌-◌, ◌≤◌, ◌≡◌, if◌then◌else◌, List, length, take, drop, max, Option, Some, None, Result, Ok, Err, Bool, true, false, IsCharBoundary}
+use Rattle.std.specs.Prelude.{ℕ, ◌+◌, ◌-◌, ◌≤◌, ◌≡◌, if◌then◌else◌, List, length, take, drop, max, None, Result, Ok, Err, Bool, true, false, IsCharBoundary}
 use Rattle.rustc_lexer.specs.declared.relex.checkpoints.Checkpoints.{Checkpoints}
 use Rattle.rustc_lexer.specs.declared.head.Head.{Head}
 use Rattle.rustc_lexer.specs.declared.relex.relexing.{Change.Change, Relexed.Relexed}
@@ -91,13 +91,3 @@ TakesFew layout text start stop insert before after =
     (r : Relexed) × IsRelexed layout text start stop insert r
     × (after + (length (layout (apply text start stop insert)).head - r.kept_front)
     ≤ before + r.lexed)
-
--- the new head, if the old one does not stay
-abbrev pub head_unless : Bool → Head → Option Head
-head_unless true now = None
-head_unless false now = Some now
-
--- the tokens of the new head, or those of the old one if that stays
-abbrev pub head_put : List Token → Option Head → List Token
-head_put old None = old
-head_put old (Some head) = tokens_of_head head

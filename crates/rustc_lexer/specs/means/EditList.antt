@@ -4,7 +4,7 @@ use Rattle.rustc_lexer.specs.declared.relex.edit.Edit.{Edit}
 use Rattle.rustc_lexer.specs.declared.relex.lexed.edits.Made.{Made}
 use Rattle.rustc_lexer.specs.declared.relex.relexing.Relexed.{Relexed}
 use Rattle.rustc_lexer.specs.{Token}
-use Rattle.rustc_lexer.specs.Edits.{AreEdits, AreStepped, IsRelexed, applied, apply_list}
+use Rattle.rustc_lexer.specs.Edits.{AreEdits, IsRelexed, applied, apply_list}
 use Rattle.rustc_lexer.specs.Kept.{Held}
 use Rattle.rustc_lexer.specs.Partition.{Layout, tokens_in}
 
@@ -26,18 +26,13 @@ pub record StayAtEnds (old new : List Token) (front back : ℕ) : Type 0 where
   pub back_within : back ≤ length new
   pub same_back : drop (length new - back) new ≡ drop (length old - back) old
 
--- what the first `made.count` edits of a list do to a kept text
-pub record AreMadeTo {S : Type 0} (first : S → List ℕ → Token) (year steps : S → ℕ)
-    (layout : List ℕ → Layout) (old : Held S) (edits : List Edit) (made : Made) (new : Held S) :
-    Type 0 where
+-- what the first `made.count` edits of a list do to text and tokens
+pub record AreMadeTo {S : Type 0} (layout : List ℕ → Layout) (old : Held S) (edits : List Edit)
+    (made : Made) (new : Held S) : Type 0 where
   pub few : made.count ≤ length edits
   pub accepted : AreEdits old.text (take made.count edits)
   pub text : new.text ≡ apply_list old.text (take made.count edits)
   pub from_scratch : new.tokens ≡ tokens_in (layout new.text)
-  pub grammar : first new.stepper ≡ first old.stepper
-  pub number : year new.stepper ≡ year old.stepper
-  pub count : AreStepped layout old.text (take made.count edits) (steps old.stepper)
-      (steps new.stepper)
 
 -- each of them keeps at least so many of its tokens at the ends
 pub record AreKeptTo {S : Type 0} (layout : List ℕ → Layout) (old : Held S) (edits : List Edit)

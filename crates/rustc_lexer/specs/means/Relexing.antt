@@ -4,12 +4,13 @@ use Rattle.std.specs.Str.{IsUtf8}
 use Rattle.rustc_lexer.specs.declared.relex.front.TokenStart.{TokenStart}
 use Rattle.rustc_lexer.specs.declared.relex.front.Damage.{Damage}
 use Rattle.rustc_lexer.specs.declared.relex.relexing.Change.{Change}
+use Rattle.rustc_lexer.specs.declared.relex.relexing.Edited.{Edited}
 use Rattle.rustc_lexer.specs.declared.relex.relexing.Relexing.{Relexing}
 use Rattle.rustc_lexer.specs.{Token}
 use Rattle.rustc_lexer.specs.Partition.{bound, tokens_by}
 use Rattle.rustc_lexer.specs.Offsets.{IsBound}
 use Rattle.rustc_lexer.specs.Edits.{ends_from}
-use Rattle.rustc_lexer.specs.Relexing.{IsUnderWay}
+use Rattle.rustc_lexer.specs.Relexing.{IsMadeOf, IsUnderWay}
 use Rattle.rustc_lexer.specs.Locality.{has_two}
 
 -- ---- what an edit of a text without a head keeps
@@ -65,6 +66,16 @@ pub record IsLexed (first : List ℕ → Token) (old : List ℕ) (change : Chang
   pub met : at.met ≡ true
   pub lexed : at.lexed ≡ length tokens
   pub tokens_are : tokens ≡ take at.lexed (drop at.front.index (tokens_by first text))
+
+-- `P` holds for each text that has the old tokens and of which the edit made this text, if `near` is
+-- a boundary of those tokens
+abbrev pub OfOld : (List ℕ → Token) → Edited Token → TokenStart → (List ℕ → List ℕ → Type 0) → Type 0
+OfOld first edited near P =
+    (before insert : List ℕ)
+    → IsMadeOf first before (map (λ (t : Token). t.len) edited.old.now) edited.change insert
+    edited.text.now
+    → IsBound (tokens_by first before) near
+    → P before insert
 
 -- ---- what two texts have in common
 

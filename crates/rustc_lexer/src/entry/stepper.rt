@@ -3,9 +3,9 @@ ghost use Rattle.std.specs.Prelude.{◌≡◌, ◌+◌, ◌<◌, ◌≤◌, List
 ghost use Rattle.rustc_lexer.specs.{Token};
 ghost use Rattle.rustc_lexer.specs.Tokens.{IsFilledTo, bound, tokens_by};
 ghost use Rattle.rustc_lexer.specs.Classes.{Fits};
-ghost use Rattle.rustc_lexer.specs.Answers.{first_in};
-ghost use Rattle.rustc_lexer.specs.LanguageText.{year, newest};
-ghost use Rattle.rustc_lexer.specs.Locality.{IsGrammar};
+ghost use Rattle.rustc_lexer.specs.Answers.{grammar_of};
+ghost use Rattle.rustc_lexer.specs.LanguageText.{newest};
+ghost use Rattle.rustc_lexer.specs.Locality.{Grammar, IsGrammar};
 
 use crate::edition::{Edition, token_in};
 use crate::entry::fill::FromToken;
@@ -37,26 +37,22 @@ use std::iter::Iterator;
 /// assert_eq!(Characters.step("é+").len, 2);
 /// ```
 pub trait Stepper: Drop {
-    /// The grammar: the first token of each text.
-    ghost grammar: { Self → List ℕ → Token };
-
-    /// The number that names the grammar.
-    ghost number: { Self → ℕ };
+    /// The grammar: the first token of each text, and the number that names it.
+    ghost grammar: { Self → Grammar };
 
     /// How many steps were taken.
     ghost count: { Self → ℕ };
 
     /// What each grammar obeys.
-    ghost law: { (stepper : Self) → IsGrammar (grammar stepper) };
+    ghost law: { (stepper : Self) → IsGrammar (grammar stepper).first };
 
     /// Returns the first token of the text, which is not empty.
     fn step(&mut self, rest: &str) -> Token
         requires not_empty { 0 < length rest.now }
         requires fits { Fits rest.now }
-        ensures token { result ≡ grammar self.old rest.now }
+        ensures token { result ≡ (grammar self.old).first rest.now }
         ensures count { count self.new ≡ count self.old + 1 }
-        ensures grammar { grammar self.new ≡ grammar self.old }
-        ensures number { number self.new ≡ number self.old };
+        ensures grammar { grammar self.new ≡ grammar self.old };
 
     /// Writes the first tokens of the text into the buffer: those that begin before `end`, or as many as there is
     /// room for. Returns how many tokens it wrote, and how many bytes they take. Each token counts as a step. `end` is
@@ -68,12 +64,11 @@ pub trait Stepper: Drop {
     fn fill<R: FromToken>(&mut self, text: &str, end: usize, buffer: &mut [R]) -> (usize, usize)
         requires fits { Fits text.now }
         requires inside { end ≤ length text.now }
-        ensures filled { IsFilledTo R.written end (tokens_by (grammar self.old) text.now)
+        ensures filled { IsFilledTo R.written end (tokens_by (grammar self.old).first text.now)
             buffer.old buffer.new result.0 }
-        ensures bytes { result.1 ≡ bound (tokens_by (grammar self.old) text.now) result.0 }
+        ensures bytes { result.1 ≡ bound (tokens_by (grammar self.old).first text.now) result.0 }
         ensures count { count self.new ≡ count self.old + result.0 }
         ensures grammar { grammar self.new ≡ grammar self.old }
-        ensures number { number self.new ≡ number self.old }
     {
         let mut written = 0;
         let mut at = 0;
@@ -98,8 +93,7 @@ impl Steps {
     /// Returns the lexer of the newest edition, before its first step.
     pub fn new() -> Steps
         ensures count { ⟦<Steps as Stepper>⟧.count result ≡ 0 }
-        ensures number { ⟦<Steps as Stepper>⟧.number result ≡ year newest }
-        ensures grammar { ⟦<Steps as Stepper>⟧.grammar result ≡ first_in newest }
+        ensures grammar { ⟦<Steps as Stepper>⟧.grammar result ≡ grammar_of newest }
     {
         Steps::new_in(Edition::NEWEST)
     }
@@ -107,8 +101,7 @@ impl Steps {
     /// Returns the lexer of an edition, before its first step.
     pub fn new_in(edition: Edition) -> Steps
         ensures count { ⟦<Steps as Stepper>⟧.count result ≡ 0 }
-        ensures number { ⟦<Steps as Stepper>⟧.number result ≡ year edition }
-        ensures grammar { ⟦<Steps as Stepper>⟧.grammar result ≡ first_in edition }
+        ensures grammar { ⟦<Steps as Stepper>⟧.grammar result ≡ grammar_of edition }
     {
         Steps {
             edition,
@@ -125,13 +118,10 @@ impl Steps {
 }
 
 impl Stepper for Steps {
-    ghost use Rattle.rustc_lexer.specs.Answers.{first_in};
-    ghost use Rattle.rustc_lexer.specs.LanguageText.{year};
+    ghost use Rattle.rustc_lexer.specs.Answers.{grammar_of};
     ghost use Rattle.rustc_lexer.specs.laws.Edition.{edition_grammar};
 
-    ghost grammar = { λ s. first_in s.edition };
-
-    ghost number = { λ s. year s.edition };
+    ghost grammar = { λ s. grammar_of s.edition };
 
     ghost count = { λ s. s.tally.count };
 

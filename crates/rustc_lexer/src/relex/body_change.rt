@@ -5,7 +5,7 @@ ghost use Rattle.rustc_lexer.specs.Locality.{IsGrammar};
 ghost use Rattle.rustc_lexer.specs.Relexing.{IsBodyChange, IsEditOf, IsHeadOf, IsInBody};
 
 use crate::head::Head;
-use crate::relex::document_edit::{body_change, keeps_head};
+use crate::relex::document_edit::HeadEdit;
 use crate::relex::relexing::Change;
 
 /// What an edit of a document changes in its body.
@@ -39,10 +39,10 @@ impl Head {
             → IsHeadOf before self → IsHeadOf text now
             → IsBodyChange first before edit insert text result.keeps_head result.change }
     {
-        let keeps_head = keeps_head(self, now, edit.start);
+        let head = HeadEdit::between(self, now, edit.start);
         BodyChange {
-            keeps_head,
-            change: body_change(keeps_head, self.body, now.body, edit),
+            keeps_head: head.keeps,
+            change: head.body_change(edit),
         }
     }
 }

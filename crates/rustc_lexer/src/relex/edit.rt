@@ -1,22 +1,24 @@
 //! One edit: the text that it makes, and the tokens that it lexes.
-ghost use Rattle.std.specs.Prelude.{◌≡◌, ◌+◌, ◌-◌, ◌^◌, ◌<◌, ◌≤◌, ◌↔◌, IsTrue, IfOk, IfErr, List, ℕ, length, map};
+ghost use Rattle.std.specs.Prelude.{◌≡◌, ◌+◌, ◌-◌, ◌^◌, ◌<◌, ◌≤◌, ◌++◌, ◌↔◌, IsTrue, IfOk, IfErr, OnOk, OnErr, if◌then◌else◌, List, ℕ, drop, length, take};
 ghost use Rattle.std.specs.List.{All};
 ghost use Rattle.std.specs.String.{string_bytes, string_capacity, string_len};
 ghost use Rattle.rustc_lexer.specs.declared.relex.relexing.Relexed.{Relexed};
 ghost use Rattle.rustc_lexer.specs.{Token};
-ghost use Rattle.rustc_lexer.specs.Classes.{Fits};
+ghost use Rattle.rustc_lexer.specs.Classes.{IsText};
 ghost use Rattle.rustc_lexer.specs.Tokens.{tokens_by};
 ghost use Rattle.rustc_lexer.specs.Edits.{IsEdit, IsInside, IsRelexed, apply, part_by};
-ghost use Rattle.rustc_lexer.specs.Offsets.{IsBound};
 ghost use Rattle.rustc_lexer.specs.Relexing.{known};
-ghost use Rattle.rustc_lexer.specs.Relexing.{IsChange, IsMadeOf, MayGoOn};
+ghost use Rattle.rustc_lexer.specs.Relexing.{IsChange, MayGoOn};
 ghost use Rattle.rustc_lexer.specs.means.Checkpoints.{AreBounds, IsMovable, IsReplaced, end_of};
-ghost use Rattle.rustc_lexer.specs.means.Relexing.{IsLexed};
+ghost use Rattle.rustc_lexer.specs.means.Relexing.{IsLexed, OfOld};
+ghost use Rattle.rustc_lexer.specs.means.Document as means;
 
 use crate::entry::stepper::Stepper;
 use crate::relex::checkpoints::Checkpoints;
+use crate::relex::document_edit::HeadEdit;
 use crate::relex::front::TokenStart;
-use crate::relex::relexing::{Change, Relexing};
+use crate::relex::relexing::{Edited, Relexing};
+use crate::relex::replace::replace;
 use crate::token::{Token, TokenKind};
 use std::alloc::{AllocError, Global};
 
@@ -67,69 +69,66 @@ pub(crate) fn put_in_place(text: &mut String, start: usize, stop: usize, insert:
     prove!(put.is_ok());
 }
 
-/// Lexes the new text from the end of the kept front until it meets the old tokens. Returns the tokens in between, and
-/// where they meet the old ones. It remembers boundaries among them as `lexed_bounds`.
+/// The tokens that replace old ones after an edit.
+#[derive(Drop)]
+pub(crate) struct Replacement {
+    /// The tokens.
+    pub tokens: Vec<Token>,
+    /// The old tokens from `at.front` up to `at.back` are replaced.
+    pub at: Relexing,
+    /// Boundaries that lexing passed.
+    pub bounds: Checkpoints,
+}
+
+/// Lexes the text from the end of the kept front until it meets the old tokens. The search for the front begins at
+/// `near`.
 pub(crate) fn relex<S: Stepper>(
     alloc: Global,
     stepper: &mut S,
-    old: &[Token],
+    edited: &Edited<'_, Token>,
     near: TokenStart,
-    text: &str,
-    change: Change,
-    lexed_bounds: &mut Checkpoints,
-) -> Result<(Vec<Token>, Relexing), AllocError>
-    requires fits { Fits text.now }
-    requires change { IsChange text.now change }
+) -> Result<Replacement, AllocError>
+    requires is_text { IsText edited.now.text.now }
+    requires change { IsChange edited.now.text.now edited.now.change }
 
     // The stepper keeps its grammar.
     ensures grammar { S.grammar stepper.new ≡ S.grammar stepper.old }
-    ensures number { S.number stepper.new ≡ S.number stepper.old }
 
-    // Which tokens come in between, and where they meet the old ones.
-    ensures lexed { IfOk result
-        (λ r. (before insert : List ℕ)
-        → IsMadeOf (S.grammar stepper.old) before (map (λ (t : Token). t.len) old.now)
-        change insert text.now
-        → IsBound (tokens_by (S.grammar stepper.old) before) near
-        → IsLexed (S.grammar stepper.old) before change text.now r.0.items r.1) }
-    ensures may_go_on { IfOk result (λ r. MayGoOn text.now (length old.now) r.1) }
-    ensures bounds { IfOk result
-        (λ _. (before insert : List ℕ)
-        → IsMadeOf (S.grammar stepper.old) before (map (λ (t : Token). t.len) old.now)
-        change insert text.now
-        → IsBound (tokens_by (S.grammar stepper.old) before) near
-        → AreBounds (tokens_by (S.grammar stepper.old) text.now) lexed_bounds.old
-        → AreBounds (tokens_by (S.grammar stepper.old) text.now) lexed_bounds.new) }
+    // Which tokens replace old ones, and which old ones.
+    ensures lexed { IfOk result (λ r. OfOld (S.grammar stepper.old).first edited.now near
+        (λ before insert. IsLexed (S.grammar stepper.old).first before edited.now.change edited.now.text.now
+        r.tokens.items r.at)) }
+    ensures bounds { IfOk result (λ r. OfOld (S.grammar stepper.old).first edited.now near
+        (λ before insert. AreBounds (tokens_by (S.grammar stepper.old).first edited.now.text.now) r.bounds)) }
+    ensures may_go_on { IfOk result (λ r. MayGoOn edited.now.text.now (length edited.now.old.now) r.at) }
 
     // How many steps were taken, also if it fails.
     ensures count { IfOk result
-        (λ r. S.count stepper.new ≡ S.count stepper.old + length r.0.items) }
+        (λ r. S.count stepper.new ≡ S.count stepper.old + length r.tokens.items) }
     ensures rose { S.count stepper.old ≤ S.count stepper.new }
-    ensures few { IfErr result
-        (λ _. (before insert : List ℕ)
-        → IsMadeOf (S.grammar stepper.old) before (map (λ (t : Token). t.len) old.now)
-        change insert text.now
-        → IsBound (tokens_by (S.grammar stepper.old) before) near
-        → (r : Relexed)
-        → IsRelexed (part_by (S.grammar stepper.old)) before change.start change.old_stop insert r
-        → S.count stepper.new ≤ S.count stepper.old + r.lexed) }
+    ensures few { IfErr result (λ _. OfOld (S.grammar stepper.old).first edited.now near
+        (λ before insert. (r : Relexed)
+        → IsRelexed (part_by (S.grammar stepper.old).first) before edited.now.change.start
+        edited.now.change.old_stop insert r
+        → S.count stepper.new ≤ S.count stepper.old + r.lexed)) }
 {
     let mut tokens = Vec::new(alloc);
-    let mut at = Relexing::begin(text, old, change, near);
-    let Some(token) = at.next(stepper, text, old, change) else {
-        return Ok((tokens, at));
+    let mut bounds = Checkpoints::new();
+    let mut at = Relexing::begin(edited, near);
+    let Some(token) = at.next(stepper, edited) else {
+        return Ok(Replacement { tokens, at, bounds });
     };
     tokens.push(token)?;
     let mut buffer = [Token {
         kind: TokenKind::Eof,
         len: 0,
     }; BUFFER_LEN];
-    'left: while !at.is_over(text) {
-        let count = at.block(stepper, text, old, change, &mut buffer);
+    'left: while !at.is_over(edited.text) {
+        let count = at.block(stepper, edited, &mut buffer);
         tokens.extend_from_slice(&buffer[..count])?;
-        lexed_bounds.remember(end_of(at), text.len());
+        bounds.remember(end_of(at), edited.text.len());
     }
-    Ok((tokens, at))
+    Ok(Replacement { tokens, at, bounds })
 }
 
 /// Returns where the last token ends that was lexed.
@@ -143,28 +142,60 @@ fn end_of(at: Relexing) -> TokenStart
     }
 }
 
-/// Returns the checkpoints after an edit that was relexed up to `at`, in a text of `len` bytes. They have the kept front
-/// and, where many tokens were lexed, the boundaries among them.
-pub(crate) fn past_edit(
-    checkpoints: &Checkpoints,
-    at: Relexing,
-    lexed_bounds: &Checkpoints,
-    len: usize,
-) -> Checkpoints
-    requires small { known at < 2 ^ 64 }
-    requires movable { All (IsMovable at.back (end_of at)) checkpoints.now.bounds }
-    ensures { (old new : List Token) → IsReplaced old new at.front at.back (end_of at)
-        → AreBounds old checkpoints.now → AreBounds new lexed_bounds.now → AreBounds new result }
-{
-    let mut moved = checkpoints.after(at.front, at.back, end_of(at));
-    if at.lexed <= BUFFER_LEN {
-        moved.remember(at.front, len);
-        return moved;
+impl Replacement {
+    /// Returns the checkpoints of the new text, which has `len` bytes; `old` are those of the text before the edit. They
+    /// have the kept front and, where many tokens were lexed, the boundaries among them.
+    pub(crate) fn checkpoints(&self, old: &Checkpoints, len: usize) -> Checkpoints
+        requires small { known self.now.at < 2 ^ 64 }
+        requires movable { All (IsMovable self.now.at.back (end_of self.now.at)) old.now.bounds }
+        ensures { (before after : List Token)
+            → IsReplaced before after self.now.at.front self.now.at.back (end_of self.now.at)
+            → AreBounds before old.now → AreBounds after self.now.bounds → AreBounds after result }
+    {
+        let at = self.at;
+        let mut moved = old.after(at.front, at.back, end_of(at));
+        if at.lexed <= BUFFER_LEN {
+            moved.remember(at.front, len);
+            return moved;
+        }
+        let mut all = moved.joined(&self.bounds, len);
+        if at.front.index == 0 {
+            return all;
+        }
+        all.remember(at.front, len);
+        all
     }
-    let mut all = moved.joined(lexed_bounds, len);
-    if at.front.index == 0 {
-        return all;
+
+    /// Puts the tokens in place of the old ones. Also replaces the tokens of the head, unless it stays. If an allocation
+    /// fails, nothing changes.
+    #[tactic(auto, using(crate::proofs::lemmas::edits::WholeEdits::put_behind, std::proofs::lemmas::Grind::common_steps))]
+    pub(crate) fn put_into(
+        self,
+        alloc: Global,
+        tokens: &mut Vec<Token>,
+        head: HeadEdit,
+    ) -> Result<(), AllocError>
+        requires order { self.at.front.index ≤ self.at.back.index }
+        requires inside { length (means.tokens_of_head head.before) + self.at.back.index
+            ≤ length tokens.old.items }
+        ensures put { OnOk result
+            (let old = length (means.tokens_of_head head.before) in
+            tokens.new.items
+            ≡ (if head.keeps then take old tokens.old.items else means.tokens_of_head head.after)
+            ++ (take self.at.front.index (drop old tokens.old.items)
+            ++ (self.tokens.items ++ drop self.at.back.index (drop old tokens.old.items)))) }
+        ensures same { OnErr result (tokens.new.items ≡ tokens.old.items) }
+    {
+        let old_count = head.before.count();
+        let from = old_count + self.at.front.index;
+        let to = old_count + self.at.back.index;
+        if head.keeps {
+            return replace(tokens, from, to, self.tokens);
+        }
+        let mut all = Vec::new(alloc);
+        head.after.push_to(&mut all)?;
+        all.extend_from_slice(&tokens.as_slice()[old_count..from])?;
+        all.extend_from_slice(self.tokens.as_slice())?;
+        replace(tokens, 0, to, all)
     }
-    all.remember(at.front, len);
-    all
 }

@@ -5,16 +5,16 @@ ghost use Rattle.std.specs.String.{string_bytes};
 ghost use Rattle.rustc_lexer.specs.Classes.{Fits};
 ghost use Rattle.rustc_lexer.specs.means.Document as means;
 ghost use Rattle.rustc_lexer.specs.Tokens.{tokens_by};
-ghost use Rattle.rustc_lexer.specs.Kept.{IsEdited, layout_in};
+ghost use Rattle.rustc_lexer.specs.Kept.{IsCounted, IsEdited, layout_in};
 ghost use Rattle.rustc_lexer.specs.means.Checkpoints.{AreBounds};
 
 use crate::entry::stepper::Stepper;
 use crate::head::{Extent, Head};
 use crate::relex::checkpoints::Checkpoints;
-use crate::relex::document_edit::{body_change, counted, keeps_head, new_head, put_tokens};
-use crate::relex::edit::{past_edit, relex};
+use crate::relex::document_edit::HeadEdit;
+use crate::relex::edit::relex;
 use crate::relex::lex::lex_all;
-use crate::relex::relexing::{Change, Relexed};
+use crate::relex::relexing::{Change, Edited, Relexed};
 use crate::token::Token;
 use std::alloc::{AllocError, Global};
 use std::marker::PhantomData;
@@ -40,46 +40,41 @@ pub(crate) fn renew<S: Stepper, E: Extent>(
     edit: Change,
 ) -> Result<Relexed, AllocError>
     requires fits { Fits (string_bytes kept.old.text) }
-    requires put { (before insert : List ℕ) × means.IsPut (layout_in E.whole) (S.grammar kept.old.stepper)
+    requires put { (before insert : List ℕ) × means.IsPut (layout_in E.whole) (S.grammar kept.old.stepper).first
         before insert edit (string_bytes kept.old.text)
         kept.old.tokens.items kept.old.head kept.old.checkpoints }
     ensures text { kept.new.text ≡ kept.old.text }
     ensures renewed { (before insert : List ℕ)
-        → means.IsPut (layout_in E.whole) (S.grammar kept.old.stepper)
+        → means.IsPut (layout_in E.whole) (S.grammar kept.old.stepper).first
         before insert edit (string_bytes kept.old.text)
         kept.old.tokens.items kept.old.head kept.old.checkpoints
         → let left = means.text_left result (string_bytes kept.new.text) before in
-        means.AreKeptOf (layout_in E.whole) (S.grammar kept.new.stepper) left
+        means.AreKeptOf (layout_in E.whole) (S.grammar kept.new.stepper).first left
         kept.new.tokens.items kept.new.head kept.new.checkpoints
-        × IsEdited S.grammar S.number S.count (layout_in E.whole (S.grammar kept.old.stepper))
+        × IsEdited (layout_in E.whole (S.grammar kept.old.stepper).first)
         (record { text = before; tokens = kept.old.tokens.items; stepper = kept.old.stepper })
         edit.start edit.old_stop insert result
-        (record { text = left; tokens = kept.new.tokens.items; stepper = kept.new.stepper }) }
+        (record { text = left; tokens = kept.new.tokens.items; stepper = kept.new.stepper })
+        × IsCounted (layout_in E.whole (S.grammar kept.old.stepper).first) before edit.start edit.old_stop
+        insert result (S.count kept.old.stepper) (S.count kept.new.stepper) }
+    ensures grammar { S.grammar kept.new.stepper ≡ S.grammar kept.old.stepper }
 {
     let made = kept.text.as_str();
     let now = E::find_head(made);
-    let stays = keeps_head(kept.head, now, edit.start);
-    let change = body_change(stays, kept.head.body, now.body, edit);
-    let old_count = kept.head.count();
-    let near = kept.checkpoints.nearest(change.start);
-    let body = &made[now.body..];
-    let old = &kept.tokens.as_slice()[old_count..];
-    let left = old.len();
-    let mut lexed_bounds = Checkpoints::new();
-    let (lexed, at) = relex(
-        kept.alloc,
-        &mut kept.stepper,
-        old,
-        near,
-        body,
-        change,
-        &mut lexed_bounds,
-    )?;
-    let new_head = new_head(stays, now);
-    put_tokens(kept.alloc, &mut kept.tokens, old_count, new_head, at, lexed)?;
-    kept.checkpoints = past_edit(&kept.checkpoints, at, &lexed_bounds, body.len());
+    let head = HeadEdit::between(kept.head, now, edit.start);
+    let edited = Edited {
+        text: &made[now.body..],
+        old: &kept.tokens.as_slice()[kept.head.count()..],
+        change: head.body_change(edit),
+    };
+    let near = kept.checkpoints.nearest(edited.change.start);
+    let lexed = relex(kept.alloc, &mut kept.stepper, &edited, near)?;
+    let checkpoints = lexed.checkpoints(&kept.checkpoints, edited.text.len());
+    let counts = lexed.at.counts(edited.old.len());
+    lexed.put_into(kept.alloc, &mut kept.tokens, head)?;
     kept.head = now;
-    Ok(counted(stays, old_count, now.count(), at.counts(left)))
+    kept.checkpoints = checkpoints;
+    Ok(head.document_counts(counts))
 }
 
 /// Lexes the tokens of a text: those of its head, which is known, and those of its body with the stepper.
@@ -93,14 +88,13 @@ pub(crate) fn lex_body<S: Stepper>(
     requires body { IsCharBoundary text.now head.body }
     ensures tokens { IfOk result
         (λ r. r.0.items ≡ means.tokens_of_head head
-        ++ tokens_by (S.grammar stepper.old) (drop head.body text.now)) }
+        ++ tokens_by (S.grammar stepper.old).first (drop head.body text.now)) }
     ensures checkpoints { IfOk result
         (λ r. AreBounds (drop (length (means.tokens_of_head head)) r.0.items) r.1) }
     ensures count { IfOk result
         (λ r. S.count stepper.new + length (means.tokens_of_head head)
         ≡ S.count stepper.old + length r.0.items) }
     ensures grammar { S.grammar stepper.new ≡ S.grammar stepper.old }
-    ensures number { S.number stepper.new ≡ S.number stepper.old }
 {
     let mut tokens = Vec::new(alloc);
     head.push_to(&mut tokens)?;

@@ -21,13 +21,12 @@ pub(crate) fn lex_all<S: Stepper>(
 ) -> Result<Checkpoints, AllocError>
     requires fits { Fits text.now }
     ensures tokens { OnOk result
-        (tokens.new.items ≡ tokens.old.items ++ tokens_by (S.grammar stepper.old) text.now) }
-    ensures checkpoints { IfOk result (AreBounds (tokens_by (S.grammar stepper.old) text.now)) }
+        (tokens.new.items ≡ tokens.old.items ++ tokens_by (S.grammar stepper.old).first text.now) }
+    ensures checkpoints { IfOk result (AreBounds (tokens_by (S.grammar stepper.old).first text.now)) }
     ensures count { OnOk result
         (S.count stepper.new
-        ≡ S.count stepper.old + length (tokens_by (S.grammar stepper.old) text.now)) }
+        ≡ S.count stepper.old + length (tokens_by (S.grammar stepper.old).first text.now)) }
     ensures grammar { S.grammar stepper.new ≡ S.grammar stepper.old }
-    ensures number { S.number stepper.new ≡ S.number stepper.old }
 {
     let old_count = tokens.len();
     let mut checkpoints = Checkpoints::new();

@@ -3,7 +3,7 @@ ghost use Rattle.std.specs.Prelude.{◌≡◌, ◌+◌, ◌↔◌, IfOk, IsTrue,
 ghost use Rattle.std.specs.String.{string_bytes};
 ghost use Rattle.rustc_lexer.specs.Classes.{Fits, IsText};
 ghost use Rattle.rustc_lexer.specs.Edits.{IsEdit};
-ghost use Rattle.rustc_lexer.specs.Kept.{IsEdited, layout_in};
+ghost use Rattle.rustc_lexer.specs.Kept.{IsCounted, IsEdited, layout_in};
 ghost use Rattle.rustc_lexer.specs.Partition.{tokens_in};
 
 use crate::entry::stepper::Stepper;
@@ -64,7 +64,7 @@ impl<S: Stepper, E: Extent> Model for Lexed<S, E> {
       stepper = a.kept.stepper;
     } };
 
-    ghost invariant = { λ a. AreKeptOf (layout_in E.whole) (S.grammar a.kept.stepper) (string_bytes a.kept.text)
+    ghost invariant = { λ a. AreKeptOf (layout_in E.whole) (S.grammar a.kept.stepper).first (string_bytes a.kept.text)
         a.kept.tokens.items a.kept.head a.kept.checkpoints };
 }
 
@@ -74,11 +74,10 @@ impl<S: Stepper, E: Extent> Lexed<S, E> {
         requires fits { Fits text.now }
         ensures text { IfOk result (λ l. l.text ≡ text.now) }
         ensures from_scratch { IfOk result
-            (λ l. l.tokens ≡ tokens_in (layout_in E.whole (S.grammar l.stepper) text.now)) }
+            (λ l. l.tokens ≡ tokens_in (layout_in E.whole (S.grammar l.stepper).first text.now)) }
         ensures grammar { IfOk result (λ l. S.grammar l.stepper ≡ S.grammar stepper) }
-        ensures number { IfOk result (λ l. S.number l.stepper ≡ S.number stepper) }
         ensures count { IfOk result
-            (λ l. S.count l.stepper + length (layout_in E.whole (S.grammar l.stepper) text.now).head
+            (λ l. S.count l.stepper + length (layout_in E.whole (S.grammar l.stepper).first text.now).head
             ≡ S.count stepper + length l.tokens) }
     {
         Lexed::with_string(alloc, String::from_str(alloc, text)?, stepper)
@@ -91,12 +90,11 @@ impl<S: Stepper, E: Extent> Lexed<S, E> {
         requires fits { Fits (string_bytes text) }
         ensures text { IfOk result (λ l. l.text ≡ string_bytes text) }
         ensures from_scratch { IfOk result
-            (λ l. l.tokens ≡ tokens_in (layout_in E.whole (S.grammar l.stepper) (string_bytes text))) }
+            (λ l. l.tokens ≡ tokens_in (layout_in E.whole (S.grammar l.stepper).first (string_bytes text))) }
         ensures grammar { IfOk result (λ l. S.grammar l.stepper ≡ S.grammar stepper) }
-        ensures number { IfOk result (λ l. S.number l.stepper ≡ S.number stepper) }
         ensures count { IfOk result
             (λ l. S.count l.stepper + length
-            (layout_in E.whole (S.grammar l.stepper) (string_bytes text)).head
+            (layout_in E.whole (S.grammar l.stepper).first (string_bytes text)).head
             ≡ S.count stepper + length l.tokens) }
     {
         let mut stepper = stepper;
@@ -127,7 +125,7 @@ impl<S: Stepper, E: Extent> Lexed<S, E> {
     pub fn tokens(&self) -> &[Token]
         ensures tokens { result.now ≡ self.now.tokens }
         ensures from_scratch { result.now
-            ≡ tokens_in (layout_in E.whole (S.grammar self.now.stepper) self.now.text) }
+            ≡ tokens_in (layout_in E.whole (S.grammar self.now.stepper).first self.now.text) }
     {
         self.kept.tokens.as_slice()
     }
@@ -163,12 +161,11 @@ impl<S: Stepper, E: Extent> Lexed<S, E> {
         ensures text { self.new.text ≡ self.old.text }
         ensures is_text { IsText self.new.text }
         ensures from_scratch { self.new.tokens
-            ≡ tokens_in (layout_in E.whole (S.grammar self.new.stepper) self.new.text) }
+            ≡ tokens_in (layout_in E.whole (S.grammar self.new.stepper).first self.new.text) }
         ensures grammar { OnOk result (S.grammar self.new.stepper ≡ S.grammar stepper) }
-        ensures number { OnOk result (S.number self.new.stepper ≡ S.number stepper) }
         ensures count { OnOk result
             (S.count self.new.stepper
-            + length (layout_in E.whole (S.grammar stepper) self.new.text).head
+            + length (layout_in E.whole (S.grammar stepper).first self.new.text).head
             ≡ S.count stepper + length self.new.tokens) }
         ensures same { OnErr result (self.new ≡ self.old) }
     {
@@ -187,9 +184,8 @@ impl<S: Stepper, E: Extent> Lexed<S, E> {
         requires fits { Fits (string_bytes text.old) }
         ensures text { OnOk result (self.new.text ≡ string_bytes text.old) }
         ensures from_scratch { self.new.tokens
-            ≡ tokens_in (layout_in E.whole (S.grammar self.new.stepper) self.new.text) }
+            ≡ tokens_in (layout_in E.whole (S.grammar self.new.stepper).first self.new.text) }
         ensures grammar { S.grammar self.new.stepper ≡ S.grammar self.old.stepper }
-        ensures number { S.number self.new.stepper ≡ S.number self.old.stepper }
         ensures same { OnErr result ((self.new.text ≡ self.old.text) × (text.new ≡ text.old)) }
     {
         let stepper = &mut self.kept.stepper;
@@ -218,9 +214,11 @@ impl<S: Stepper, E: Extent> Lexed<S, E> {
     /// before.
     pub fn edit(&mut self, start: usize, stop: usize, insert: &str) -> Result<Relexed, AllocError>
         requires accepted { IsEdit self.old.text start stop insert.now }
-        ensures { IsEdited S.grammar S.number S.count
-            (layout_in E.whole (S.grammar self.old.stepper)) self.old start stop insert.now result
-            self.new }
+        ensures edited { IsEdited (layout_in E.whole (S.grammar self.old.stepper).first) self.old start stop
+            insert.now result self.new }
+        ensures grammar { S.grammar self.new.stepper ≡ S.grammar self.old.stepper }
+        ensures count { IsCounted (layout_in E.whole (S.grammar self.old.stepper).first) self.old.text start
+            stop insert.now result (S.count self.old.stepper) (S.count self.new.stepper) }
     {
         let removed = String::from_str(self.kept.alloc, &self.kept.text[start..stop])?;
         self.kept.text.reserve(insert.len())?;

@@ -6,7 +6,7 @@ ghost use Rattle.rustc_lexer.specs.Offsets.{IsBound};
 ghost use Rattle.rustc_lexer.specs.Edits.{IsRelexed, all_stay, count_after, none_stays, part_by};
 ghost use Rattle.rustc_lexer.specs.Kept.{AreKept};
 ghost use Rattle.rustc_lexer.specs.Relexing.{known};
-ghost use Rattle.rustc_lexer.specs.Classes.{Fits};
+ghost use Rattle.rustc_lexer.specs.Classes.{Fits, IsText};
 ghost use Rattle.rustc_lexer.specs.Tokens.{tokens_by};
 ghost use Rattle.rustc_lexer.specs.Relexing.{GoesOn, IsChange, IsMadeOf, IsUnderWay, IsWhole, MayGoOn, TakesSteps, is_over};
 ghost use Rattle.rustc_lexer.specs.means.Relexing.{damage_of};
@@ -45,15 +45,28 @@ impl Change {
             && text.is_char_boundary(self.start)
             && text.is_char_boundary(self.new_stop)
     }
+}
 
-    /// Returns what the change did to the text that it made.
-    fn damage(self, text: &str) -> Damage
-        ensures { result ≡ damage_of text.now self }
+/// A text after an edit, with the tokens that it had before.
+#[derive(Clone, Copy)]
+pub struct Edited<'a, T> {
+    /// The text.
+    pub text: &'a str,
+    /// The tokens of the text before the edit.
+    pub old: &'a [T],
+    /// The edit.
+    pub change: Change,
+}
+
+impl<'a, T> Edited<'a, T> {
+    /// Returns what the edit did to the text.
+    fn damage(&self) -> Damage
+        ensures { result ≡ damage_of self.now.text.now self.now.change }
     {
         Damage {
-            past: self.new_stop,
-            old_stop: self.old_stop,
-            end: text.len(),
+            past: self.change.new_stop,
+            old_stop: self.change.old_stop,
+            end: self.text.len(),
         }
     }
 }
@@ -161,7 +174,7 @@ impl Relexed {
 /// In plain Rust:
 ///
 /// ```
-/// use rustc_lexer::incremental::{Change, Relexing};
+/// use rustc_lexer::incremental::{Change, Edited, Relexing};
 /// use rustc_lexer::{FrontmatterAllowed, Steps, Token, TokenStart, tokenize};
 ///
 /// let (old, new) = ("let ab = cd;", "let abc = cd;");
@@ -170,9 +183,10 @@ impl Relexed {
 /// let change = Change { start: 6, old_stop: 6, new_stop: 7 };
 ///
 /// let mut steps = Steps::new();
-/// let mut relexing = Relexing::begin(new, &tokens, change, TokenStart::default());
+/// let edited = Edited { text: new, old: &tokens, change };
+/// let mut relexing = Relexing::begin(&edited, TokenStart::default());
 /// let mut lexed = Vec::new();
-/// while let Some(token) = relexing.next(&mut steps, new, &tokens, change) {
+/// while let Some(token) = relexing.next(&mut steps, &edited) {
 ///     lexed.push(token);
 /// }
 /// let counts = relexing.counts(tokens.len());
@@ -199,20 +213,20 @@ impl Relexing {
     /// Finds the kept front, and returns a state in which nothing has been lexed yet. The search for the front begins
     /// at `near`, which may be any boundary of the old tokens.
     ///
-    /// The text must have at most `u32::MAX` bytes, and [`change.may_make(text)`](Change::may_make) must be true. This
-    /// is not tested: otherwise the result means nothing, or the call panics.
-    pub fn begin<T: Measured>(text: &str, old: &[T], change: Change, near: TokenStart) -> Relexing
-        requires fits { Fits text.now }
-        requires change { IsChange text.now change }
-        ensures may_go_on { MayGoOn text.now (length old.now) result }
+    /// The text must have at most `u32::MAX` bytes, and [`Change::may_make`] must be true. This is not tested: otherwise
+    /// the result means nothing, or the call panics.
+    pub fn begin<T: Measured>(edited: &Edited<'_, T>, near: TokenStart) -> Relexing
+        requires fits { Fits edited.now.text.now }
+        requires change { IsChange edited.now.text.now edited.now.change }
+        ensures may_go_on { MayGoOn edited.now.text.now (length edited.now.old.now) result }
         ensures none { result.lexed ≡ 0 }
         ensures under_way { (first : List ℕ → Token) (before insert : List ℕ) → IsGrammar first
-            → IsMadeOf first before (map T.bytes old.now) change insert text.now
+            → IsMadeOf first before (map T.bytes edited.now.old.now) edited.now.change insert edited.now.text.now
             → IsBound (tokens_by first before) near
-            → IsUnderWay first before change text.now result }
+            → IsUnderWay first before edited.now.change edited.now.text.now result }
     {
-        let front = kept_front(text, old, change.start, near);
-        let to = follow(old, front, front.offset, change.damage(text));
+        let front = kept_front(edited.text, edited.old, edited.change.start, near);
+        let to = follow(edited.old, front, front.offset, edited.damage());
         Relexing {
             front,
             lexed: 0,
@@ -246,48 +260,45 @@ impl Relexing {
         self.met || self.at == text.len()
     }
 
-    /// Lexes the next token and returns it, or `None` if the old tokens are met. `text`, `old` and `change` are those
-    /// that were passed to `begin`.
+    /// Lexes the next token and returns it, or `None` if the old tokens are met. `edited` is the one that was passed
+    /// to `begin`.
     pub fn next<S: Stepper, T: Measured>(
         &mut self,
         stepper: &mut S,
-        text: &str,
-        old: &[T],
-        change: Change,
+        edited: &Edited<'_, T>,
     ) -> Option<Token>
-        requires fits { Fits text.now }
-        requires change { IsChange text.now change }
-        requires may_go_on { MayGoOn text.now (length old.now) self.old }
+        requires is_text { IsText edited.now.text.now }
+        requires change { IsChange edited.now.text.now edited.now.change }
+        requires may_go_on { MayGoOn edited.now.text.now (length edited.now.old.now) self.old }
 
         // It may go on, by the same grammar.
-        ensures may_go_on { MayGoOn text.now (length old.now) self.new }
+        ensures may_go_on { MayGoOn edited.now.text.now (length edited.now.old.now) self.new }
         ensures grammar { S.grammar stepper.new ≡ S.grammar stepper.old }
-        ensures number { S.number stepper.new ≡ S.number stepper.old }
 
         // Which token was lexed; none only if lexing is over.
         ensures step { MatchOption result
             ((self.new ≡ self.old) × (S.count stepper.new ≡ S.count stepper.old)
-            × (is_over text.now self.old ≡ true))
-            (λ token. (token ≡ S.grammar stepper.old (drop self.old.at text.now))
-            × TakesSteps (S.grammar stepper.old) text.now change.new_stop self.old 1 self.new
+            × (is_over edited.now.text.now self.old ≡ true))
+            (λ token. (token ≡ (S.grammar stepper.old).first (drop self.old.at edited.now.text.now))
+            × TakesSteps (S.grammar stepper.old).first edited.now.text.now edited.now.change.new_stop self.old 1 self.new
             × (S.count stepper.new ≡ S.count stepper.old + 1)
-            × (is_over text.now self.old ≡ false)) }
+            × (is_over edited.now.text.now self.old ≡ false)) }
 
         // If the old tokens are those of an old text, it is the next token of the present one.
         ensures under_way { (before insert : List ℕ)
-            → IsMadeOf (S.grammar stepper.old) before (map T.bytes old.now) change insert text.now
-            → IsUnderWay (S.grammar stepper.old) before change text.now self.old
-            → IsUnderWay (S.grammar stepper.old) before change text.now self.new
+            → IsMadeOf (S.grammar stepper.old).first before (map T.bytes edited.now.old.now) edited.now.change insert edited.now.text.now
+            → IsUnderWay (S.grammar stepper.old).first before edited.now.change edited.now.text.now self.old
+            → IsUnderWay (S.grammar stepper.old).first before edited.now.change edited.now.text.now self.new
             × MatchOption result (self.new.met ≡ true) (λ token.
-            drop (known self.old) (tokens_by (S.grammar stepper.old) text.now)
-            ≡ token ∷ drop (known self.new) (tokens_by (S.grammar stepper.old) text.now)) }
+            drop (known self.old) (tokens_by (S.grammar stepper.old).first edited.now.text.now)
+            ≡ token ∷ drop (known self.new) (tokens_by (S.grammar stepper.old).first edited.now.text.now)) }
     {
-        if self.is_over(text) {
+        if self.is_over(edited.text) {
             return None;
         }
-        let token = stepper.step(&text[self.at..]);
+        let token = stepper.step(&edited.text[self.at..]);
         let at = self.at + token.len as usize;
-        let to = follow(old, self.back, at, change.damage(text));
+        let to = follow(edited.old, self.back, at, edited.damage());
         *self = Relexing {
             front: self.front,
             lexed: self.lexed + 1,
@@ -299,48 +310,45 @@ impl Relexing {
     }
 
     /// Writes the next tokens into the buffer: as many as there is room for, or up to where the old tokens are met.
-    /// Returns how many. The number is less than the length of the buffer only if `is_over` is true. `text`, `old` and
-    /// `change` are those that were passed to `begin`.
+    /// Returns how many. The number is less than the length of the buffer only if `is_over` is true. `edited` is
+    /// the one that was passed to `begin`.
     ///
     /// They are the tokens that as many calls of `next` return.
     pub fn fill<S: Stepper, T: Measured, R: FromToken>(
         &mut self,
         stepper: &mut S,
-        text: &str,
-        old: &[T],
-        change: Change,
+        edited: &Edited<'_, T>,
         buffer: &mut [R],
     ) -> usize
-        requires fits { Fits text.now }
-        requires change { IsChange text.now change }
-        requires may_go_on { MayGoOn text.now (length old.now) self.old }
+        requires is_text { IsText edited.now.text.now }
+        requires change { IsChange edited.now.text.now edited.now.change }
+        requires may_go_on { MayGoOn edited.now.text.now (length edited.now.old.now) self.old }
 
         // It may go on, by the same grammar.
-        ensures may_go_on { MayGoOn text.now (length old.now) self.new }
+        ensures may_go_on { MayGoOn edited.now.text.now (length edited.now.old.now) self.new }
         ensures grammar { S.grammar stepper.new ≡ S.grammar stepper.old }
-        ensures number { S.number stepper.new ≡ S.number stepper.old }
 
         // How many tokens were lexed, and which ones the buffer has.
         ensures count { S.count stepper.new ≡ S.count stepper.old + result }
-        ensures steps { TakesSteps (S.grammar stepper.old) text.now change.new_stop
+        ensures steps { TakesSteps (S.grammar stepper.old).first edited.now.text.now edited.now.change.new_stop
             self.old result self.new }
         ensures tokens { buffer.new
             ≡ map R.written (take result
-            (tokens_by (S.grammar stepper.old) (drop self.old.at text.now)))
+            (tokens_by (S.grammar stepper.old).first (drop self.old.at edited.now.text.now)))
             ++ drop result buffer.old }
         ensures buffer { result ≤ length buffer.old }
 
         // It stops before the buffer is full only if lexing is over.
-        ensures begins { 0 < result → is_over text.now self.old ≡ false }
-        ensures over { result < length buffer.old → is_over text.now self.new ≡ true }
+        ensures begins { 0 < result → is_over edited.now.text.now self.old ≡ false }
+        ensures over { result < length buffer.old → is_over edited.now.text.now self.new ≡ true }
 
         // If the old tokens are those of an old text, these are the next tokens of the present one.
-        ensures under_way { GoesOn (S.grammar stepper.old) (map T.bytes old.now) text.now change
+        ensures under_way { GoesOn (S.grammar stepper.old).first (map T.bytes edited.now.old.now) edited.now.text.now edited.now.change
             self.old self.new }
     {
         let mut count = 0;
         'places: while count < buffer.len() {
-            let Some(token) = self.next(stepper, text, old, change) else {
+            let Some(token) = self.next(stepper, edited) else {
                 break;
             };
             buffer[count] = R::from_token(token);
@@ -354,35 +362,33 @@ impl Relexing {
     pub(crate) fn block<S: Stepper, T: Measured, R: FromToken>(
         &mut self,
         stepper: &mut S,
-        text: &str,
-        old: &[T],
-        change: Change,
+        edited: &Edited<'_, T>,
         buffer: &mut [R],
     ) -> usize
-        requires fits { Fits text.now }
-        requires change { IsChange text.now change }
-        requires may_go_on { MayGoOn text.now (length old.now) self.old }
-        requires going { is_over text.now self.old ≡ false }
+        requires is_text { IsText edited.now.text.now }
+        requires change { IsChange edited.now.text.now edited.now.change }
+        requires may_go_on { MayGoOn edited.now.text.now (length edited.now.old.now) self.old }
+        requires going { is_over edited.now.text.now self.old ≡ false }
         requires room { 0 < length buffer.old }
-        ensures may_go_on { MayGoOn text.now (length old.now) self.new }
+        ensures may_go_on { MayGoOn edited.now.text.now (length edited.now.old.now) self.new }
         ensures grammar { S.grammar stepper.new ≡ S.grammar stepper.old }
-        ensures number { S.number stepper.new ≡ S.number stepper.old }
         ensures count { S.count stepper.new ≡ S.count stepper.old + result }
-        ensures steps { TakesSteps (S.grammar stepper.old) text.now change.new_stop
+        ensures steps { TakesSteps (S.grammar stepper.old).first edited.now.text.now edited.now.change.new_stop
             self.old result self.new }
         ensures tokens { buffer.new
             ≡ map R.written (take result
-            (tokens_by (S.grammar stepper.old) (drop self.old.at text.now)))
+            (tokens_by (S.grammar stepper.old).first (drop self.old.at edited.now.text.now)))
             ++ drop result buffer.old }
         ensures some { 0 < result }
+        ensures ahead { self.old.at < self.new.at }
         ensures buffer { result ≤ length buffer.old }
-        ensures under_way { GoesOn (S.grammar stepper.old) (map T.bytes old.now) text.now change
+        ensures under_way { GoesOn (S.grammar stepper.old).first (map T.bytes edited.now.old.now) edited.now.text.now edited.now.change
             self.old self.new }
     {
-        let end = self.least_meeting(text, change);
-        let (count, bytes) = stepper.fill(&text[self.at..], end - self.at, buffer);
+        let end = self.least_meeting(edited);
+        let (count, bytes) = stepper.fill(&edited.text[self.at..], end - self.at, buffer);
         let at = self.at + bytes;
-        let to = follow(old, self.back, at, change.damage(text));
+        let to = follow(edited.old, self.back, at, edited.damage());
         *self = Relexing {
             front: self.front,
             lexed: self.lexed + count,
@@ -394,30 +400,30 @@ impl Relexing {
     }
 
     /// Returns an offset past `at`, and none between the two is one where the old tokens may be met.
-    fn least_meeting(&self, text: &str, change: Change) -> usize
-        requires fits { Fits text.now }
-        requires change { IsChange text.now change }
-        requires inside { self.now.at < length text.now }
+    fn least_meeting<T>(&self, edited: &Edited<'_, T>) -> usize
+        requires fits { Fits edited.now.text.now }
+        requires change { IsChange edited.now.text.now edited.now.change }
+        requires inside { self.now.at < length edited.now.text.now }
         requires small { self.now.back.offset < 2 ^ 63 }
         ensures past { self.now.at < result }
-        ensures inside { result ≤ length text.now }
+        ensures inside { result ≤ length edited.now.text.now }
         ensures none { (offset : ℕ) → self.now.at < offset → offset < result
-            → change.new_stop ≤ offset
-            → (change.new_stop ≤ self.now.at)
-            × (offset + change.old_stop < self.now.back.offset + change.new_stop) }
+            → edited.now.change.new_stop ≤ offset
+            → (edited.now.change.new_stop ≤ self.now.at)
+            × (offset + edited.now.change.old_stop < self.now.back.offset + edited.now.change.new_stop) }
     {
-        if self.at < change.new_stop {
-            return change.new_stop;
+        if self.at < edited.change.new_stop {
+            return edited.change.new_stop;
         }
-        let back = self.back.offset + change.new_stop;
-        if back <= self.at + change.old_stop {
+        let back = self.back.offset + edited.change.new_stop;
+        if back <= self.at + edited.change.old_stop {
             return self.at + 1;
         }
-        let least = back - change.old_stop;
-        if least < text.len() {
+        let least = back - edited.change.old_stop;
+        if least < edited.text.len() {
             least
         } else {
-            text.len()
+            edited.text.len()
         }
     }
 

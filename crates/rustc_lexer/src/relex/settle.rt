@@ -36,7 +36,7 @@ pub fn settled_in(text: &str, edition: Edition) -> usize
 /// Returns where the last token that at least two characters follow ends, in bytes, or 0 if there is none.
 fn settled_by<S: Stepper>(stepper: &mut S, text: &str) -> usize
     requires fits { Fits text.now }
-    ensures { IsSettled text.now (tokens_by (S.grammar stepper.old) text.now) result }
+    ensures { IsSettled text.now (tokens_by (S.grammar stepper.old).first text.now) result }
 {
     let mut offset = 0;
     while offset < text.len() {

@@ -2,7 +2,7 @@
 //! Finds the token at an offset.
 
 use crate::erased::token::CToken;
-use rustc_lexer::erased::TokenStart;
+use rustc_lexer::erased::{TokenStart, token_around};
 
 /// Finds the token that contains the byte at `offset`, and writes its number and where it begins. Returns whether
 /// there is one. If there is none, the two numbers stay.
@@ -27,39 +27,4 @@ pub fn rustc_lexer_token_start_at(
         }
         None => false,
     }
-}
-
-/// Returns the token that contains the byte at `offset`, by its number and its start. The search begins at `near`.
-fn token_around(tokens: &[CToken], near: TokenStart, offset: usize) -> Option<TokenStart> {
-    if near.index > tokens.len() {
-        return None;
-    }
-    let mut at = walk_back(tokens, near, offset);
-    if offset < at.offset {
-        return None;
-    }
-    while at.index < tokens.len() {
-        let len = tokens[at.index].len as usize;
-        if offset - at.offset < len {
-            return Some(at);
-        }
-        at = TokenStart {
-            index: at.index + 1,
-            offset: at.offset + len,
-        };
-    }
-    None
-}
-
-/// Returns the last boundary up to `near` that is not past the offset, or the first boundary.
-fn walk_back(tokens: &[CToken], near: TokenStart, offset: usize) -> TokenStart {
-    let mut at = near;
-    while at.index > 0 && offset < at.offset {
-        let index = at.index - 1;
-        at = TokenStart {
-            index,
-            offset: at.offset.saturating_sub(tokens[index].len as usize),
-        };
-    }
-    at
 }

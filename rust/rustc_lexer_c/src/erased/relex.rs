@@ -3,7 +3,7 @@
 
 use crate::erased::status::{OK, Refusal, refuse, text_of, utf8_text_of};
 use crate::erased::token::CToken;
-use rustc_lexer::erased::{Change, Edition, Measured, Relexing, Steps, TokenStart};
+use rustc_lexer::erased::{Change, Edited, Edition, Measured, Relexing, Steps, TokenStart};
 
 /// An edit that was made, by its places in bytes. It took out what was from `start` up to `old_stop` in the old
 /// text, and put in what is from `start` up to `new_stop` in the present text.
@@ -104,10 +104,11 @@ fn relex(
     if !change.may_make(text) {
         return refuse(Refusal::BadEdit, 0, count);
     }
-    let Some(mut at) = standing(text, old, change, relexing) else {
+    let edited = Edited { text, old, change };
+    let Some(mut at) = standing(&edited, relexing) else {
         return refuse(Refusal::BadEdit, 0, count);
     };
-    *count = at.fill(&mut Steps::new_in(edition), text, old, change, buffer);
+    *count = at.fill(&mut Steps::new_in(edition), &edited, buffer);
     *relexing = relexing_numbers(&at, text, old.len());
     OK
 }
@@ -127,28 +128,28 @@ pub(crate) fn change_of(edit: &CEdit) -> Change {
 }
 
 /// Returns where to begin or to go on, or `None` if no call left these numbers.
-fn standing(text: &str, old: &[CToken], change: Change, relexing: &CRelexing) -> Option<Relexing> {
+fn standing(edited: &Edited<'_, CToken>, relexing: &CRelexing) -> Option<Relexing> {
     let front = TokenStart {
         index: relexing.kept_front,
         offset: relexing.front_offset,
     };
     if relexing.stage == STAGE_BEGIN {
-        return Some(Relexing::begin(text, old, change, front));
+        return Some(Relexing::begin(edited, front));
     }
-    if relexing.kept_back > old.len() {
+    if relexing.kept_back > edited.old.len() {
         return None;
     }
     let at = Relexing {
         front,
         lexed: relexing.lexed,
         back: TokenStart {
-            index: old.len() - relexing.kept_back,
+            index: edited.old.len() - relexing.kept_back,
             offset: relexing.back_offset,
         },
         at: relexing.at,
         met: relexing.stage == STAGE_DONE,
     };
-    at.may_go_on(text, old.len()).then_some(at)
+    at.may_go_on(edited.text, edited.old.len()).then_some(at)
 }
 
 /// Returns how far the text is relexed, as numbers.

@@ -1,5 +1,5 @@
 -- An edit of what is kept with a text: what is put in place of its old tokens.
-use Rattle.std.proofs.Common.{◌≡◌, ◌↔◌, ℕ, ◌+◌, ◌-◌, ◌<◌, ◌≤◌, ◌^◌, Bool, true, false, IsTrue, List, ◌++◌, length, map, take, drop, refl, sym, ap, ap₂, ◌∙◌, subst, arith, length-append, length-drop, rules, Result, Ok, Err, ◌&&◌, nat_le, true≢false, IsUtf8}
+use Rattle.std.proofs.Common.{◌≡◌, ◌↔◌, ℕ, ◌+◌, ◌-◌, ◌<◌, ◌≤◌, ◌^◌, Bool, true, false, if◌then◌else◌, IsTrue, List, ◌++◌, length, map, take, drop, refl, sym, ap, ap₂, ◌∙◌, subst, arith, length-append, length-drop, rules, Result, Ok, Err, ◌&&◌, nat_le, true≢false, IsUtf8}
 use Rattle.std.specs.List.{All, Contains}
 use Rattle.std.proofs.lemmas.List.{take_rest, Elements.{All-contains}}
 use Rattle.std.proofs.Math.Seq.{drop-append_seam, drop-append-add, take-append_seam, take-append-add}
@@ -7,8 +7,8 @@ use Rattle.std.proofs.lemmas.Grind.{common_steps}
 use Rattle.rustc_lexer.specs.declared.relex.{checkpoints.Checkpoints.{Checkpoints}, front.TokenStart.{TokenStart}}
 use Rattle.rustc_lexer.specs.declared.head.Head.{Head}
 use Rattle.rustc_lexer.specs.{declared.relex.relexing.{Change.Change, Relexed.Relexed, Relexing.Relexing}, Token}
-use Rattle.rustc_lexer.specs.means.Document.{body_change, body_insert, counted, head_put, head_unless, IsHeadIn, IsPut, tokens_of_head, AreKeptOf, TakesFew, edit_change, text_left}
-use Rattle.rustc_lexer.specs.{Partition.{Layout, tokens_in}, Kept.{AreKept, Held, IsEdited, layout_in}}
+use Rattle.rustc_lexer.specs.means.Document.{body_change, body_insert, counted, IsHeadIn, IsPut, tokens_of_head, AreKeptOf, TakesFew, edit_change, text_left}
+use Rattle.rustc_lexer.specs.{Partition.{Layout, tokens_in}, Kept.{AreKept, Held, IsCounted, IsEdited, layout_in}}
 use Rattle.rustc_lexer.specs.{Offsets.{IsBound}, Relexing.{IsMadeOf, known, IsEditOf}, Locality.{IsGrammar}}
 use Rattle.rustc_lexer.specs.{Tokens.{tokens_by}, means.Checkpoints.{AreBounds, IsMovable, IsReplaced, end_of}}
 use Rattle.rustc_lexer.specs.means.Relexing.{IsLexed, kept_front}
@@ -51,7 +51,7 @@ module _ {layout : (List ℕ → Token) → List ℕ → Layout} {first : List �
 
     -- what was lexed is put in place of the old tokens
     module _ {lexed : List Token} {at : Relexing} (l : IsLexed first (drop old.body before) change body lexed at) {new : List Token}
-        (put : new ≡ head_put (take n tokens) (head_unless kept now) ++ (take at.front.index (drop n tokens) ++ (lexed ++ drop at.back.index (drop n tokens))))
+        (put : new ≡ (if kept then take n tokens else tokens_of_head now) ++ (take at.front.index (drop n tokens) ++ (lexed ++ drop at.back.index (drop n tokens))))
       where
         abbrev fresh : List Token
         fresh = tokens_by first body
@@ -59,7 +59,7 @@ module _ {layout : (List ℕ → Token) → List ℕ → Layout} {first : List �
         new_is : new ≡ tokens_of_head now ++ fresh
         new_is = put ∙ ap₂ (λ (xs ys : List Token). xs ++ ys) (front kept refl) (rw old_behind (lexed_whole law made_here l))
           where
-            front : (stays : Bool) → kept ≡ stays → head_put (take n tokens) (head_unless stays now) ≡ tokens_of_head now
+            front : (stays : Bool) → kept ≡ stays → (if stays then take n tokens else tokens_of_head now) ≡ tokens_of_head now
             front true same = old_front ∙ ap tokens_of_head (decided.0 same).0
             front false same = refl
 
@@ -183,39 +183,39 @@ left_back (Ok x) made before err = absurd (true≢false (sym err))
 left_back (Err e) made before err = refl
 
 -- an edit that is refused: the text is put back, and all else is as it was
-pub refused : {S E : Type 0} {first : S → List ℕ → Token} {year steps : S → ℕ} {layout : List ℕ → Layout} {text left insert : List ℕ} {start stop : ℕ} {tokens now : List Token} {stepper then : S} (r : Result Relexed E)
-    → IsErr r → tokens ≡ tokens_in (layout text)
-    → left ≡ text → now ≡ tokens → first then ≡ first stepper → year then ≡ year stepper → steps stepper ≤ steps then → TakesFew layout text start stop insert (steps stepper) (steps then)
-    → IsEdited first year steps layout (record { text = text; tokens = tokens; stepper = stepper }) start stop insert r (record { text = left; tokens = now; stepper = then })
-refused (Ok x) err scratch left_is now_is grammar number rose few = absurd (true≢false (sym err))
-refused {layout = layout} (Err e) err scratch left_is now_is grammar number rose few = record {
+pub refused : {S E : Type 0} {layout : List ℕ → Layout} {text left insert : List ℕ} {start stop : ℕ} {tokens now : List Token} {stepper later : S} (r : Result Relexed E)
+    → IsErr r → tokens ≡ tokens_in (layout text) → left ≡ text → now ≡ tokens
+    → IsEdited layout (record { text = text; tokens = tokens; stepper = stepper }) start stop insert r (record { text = left; tokens = now; stepper = later })
+refused (Ok x) err scratch left_is now_is = absurd (true≢false (sym err))
+refused {layout = layout} (Err e) err scratch left_is now_is = record {
   text = search rules;
   from_scratch = now_is ∙ (scratch ∙ ap (λ (xs : List ℕ). tokens_in (layout xs)) (sym left_is));
   relexed = search rules;
   kept = search rules;
-  count = search rules;
-  grammar = grammar;
-  number = number;
-  rose = rose;
   same_text = left_is;
   same_tokens = now_is;
-  few = few;
 }
 
+pub counted_refused : {E : Type 0} {layout : List ℕ → Layout} {text insert : List ℕ} {start stop before after : ℕ} (r : Result Relexed E)
+    → IsErr r → before ≤ after → TakesFew layout text start stop insert before after
+    → IsCounted layout text start stop insert r before after
+counted_refused (Ok x) err rose few = absurd (true≢false (sym err))
+counted_refused (Err e) err rose few = record { count = search rules; rose = rose; few = few }
+
 -- one that is made is so whatever its errors are
-pub made_as : {S A B : Type 0} {first : S → List ℕ → Token} {year steps : S → ℕ} {layout : List ℕ → Layout} {old new : Held S} {start stop : ℕ} {insert : List ℕ} {r : Relexed}
-    → IsEdited {E = A} first year steps layout old start stop insert (Ok r) new
-    → IsEdited {E = B} first year steps layout old start stop insert (Ok r) new
+pub made_as : {S A B : Type 0} {layout : List ℕ → Layout} {old new : Held S} {start stop : ℕ} {insert : List ℕ} {r : Relexed}
+    → IsEdited {E = A} layout old start stop insert (Ok r) new
+    → IsEdited {E = B} layout old start stop insert (Ok r) new
 made_as is = record {
   text = is.text;
   from_scratch = is.from_scratch;
   relexed = is.relexed;
   kept = is.kept;
-  count = is.count;
-  grammar = is.grammar;
-  number = is.number;
-  rose = is.rose;
   same_text = search rules;
   same_tokens = search rules;
-  few = search rules;
 }
+
+pub counted_as : {A B : Type 0} {layout : List ℕ → Layout} {text insert : List ℕ} {start stop before after : ℕ} {r : Relexed}
+    → IsCounted {E = A} layout text start stop insert (Ok r) before after
+    → IsCounted {E = B} layout text start stop insert (Ok r) before after
+counted_as is = record { count = is.count; rose = is.rose; few = search rules }

@@ -7,7 +7,7 @@ use Rattle.rustc_lexer.specs.{Token, laws.Reach.{cut}, declared.relex.edit.Edit.
 use Rattle.rustc_lexer.specs.declared.relex.edit_list.EditStop.{EditStop, TheVariants.{Memory}}
 use Rattle.rustc_lexer.specs.declared.relex.relexing.Relexed.{Relexed}
 use Rattle.rustc_lexer.specs.Edits.{IsEdit, IsRelexed, applied, apply, apply_list, count_after, AreEdits, AreRelexed, AreStepped, IsGreatest, IsRefusedOn, IsStop, IsStopStepped, stop_at}
-use Rattle.rustc_lexer.specs.{Kept.{AreKept, AreKeptThrough, AreMade, Held, IsEdited}, Partition.{Layout, tokens_in}}
+use Rattle.rustc_lexer.specs.{Kept.{AreCounted, AreKept, AreKeptThrough, AreMade, Held, IsCounted, IsEdited}, Partition.{Layout, tokens_in}}
 use Rattle.rustc_lexer.specs.means.EditList.{AreLeast, StayAtEnds, AreKeptTo, AreMadeTo}
 use Rattle.rustc_lexer.specs.declared.relex.lexed.edits.Made.{Made}
 
@@ -154,14 +154,13 @@ kept_then {old} {between} {new} {a} {b} {r} front back count before then =
 
 -- ---- how far a list of edits was made
 
-module _ {S : Type 0} {first : S → List ℕ → Token} {year steps : S → ℕ} {layout : List ℕ → Layout} {old mid : Held S} {edits : List Edit} {made : Made} (m : AreMadeTo first year steps layout old edits made mid) where
+module _ {S : Type 0} {layout : List ℕ → Layout} {old mid : Held S} {edits : List Edit} {made : Made} (m : AreMadeTo layout old edits made mid) where
   -- the list stops here
   pub made_stop : (s : EditStop) {T : Type 0} {new : Held S} → stop_at s ≡ made.count → made.count < length edits
       → IsRefusedOn s new.text (get_or edits made.count none) → new.text ≡ mid.text
       → new.tokens ≡ tokens_in (layout new.text)
-      → first new.stepper ≡ first old.stepper → year new.stepper ≡ year old.stepper → IsStopStepped s layout old.text edits (steps old.stepper) (steps new.stepper)
-      → AreMade {T = T} first year steps layout old edits (Err s) new
-  made_stop s {T} {new} at few refused same scratch grammar number counted = grind (arith, common_steps, stop_of)
+      → AreMade {T = T} layout old edits (Err s) new
+  made_stop s {T} {new} at few refused same scratch = grind (arith, common_steps, stop_of)
 
   module _ (few : made.count < length edits) (is : IsEdit mid.text (get_or edits made.count none).start (get_or edits made.count none).stop (get_or edits made.count none).insert.now) where
     abbrev at : ℕ
@@ -171,13 +170,23 @@ module _ {S : Type 0} {first : S → List ℕ → Token} {year steps : S → ℕ
     edit = get_or edits at none
 
     pub made_more : {X : Type 0} {r : Relexed} {new : Held S} (next : Made)
-        → IsEdited {E = X} first year steps layout mid edit.start edit.stop edit.insert.now (Ok r) new
+        → IsEdited {E = X} layout mid edit.start edit.stop edit.insert.now (Ok r) new
         → next.count ≡ at + 1 → next.front ≡ min made.front r.kept_front → next.back ≡ min made.back r.kept_back
-        → AreMadeTo first year steps layout old edits next new
-    made_more {X} {r} {new} next i count_is front_is back_is = grind (arith, common_steps, edits-more, text-more, stepped-more)
+        → AreMadeTo layout old edits next new
+    made_more {X} {r} {new} next i count_is front_is back_is = grind (arith, common_steps, edits-more, text-more)
+
+    -- the steps of one more edit
+    pub counted_more : {X : Type 0} {r : Relexed} (before between after : ℕ) (next : Made) → next.count ≡ at + 1
+        → IsRelexed layout mid.text edit.start edit.stop edit.insert.now r
+        → IsCounted {E = X} layout mid.text edit.start edit.stop edit.insert.now (Ok r) between after
+        → AreStepped layout old.text (take at edits) before between
+        → AreStepped layout old.text (take next.count edits) before after
+    counted_more {X} {r} before between after next count_is relexed i are =
+        subst (λ k. AreStepped layout old.text (take k edits) before after) (sym count_is)
+        (stepped-more layout old.text mid.text edits at before between after few m.text are (r, relexed, i.count))
 
     pub kept_more : {X : Type 0} {r : Relexed} {new : Held S} (next : Made) → AreKeptTo layout old edits made mid
-        → IsEdited {E = X} first year steps layout mid edit.start edit.stop edit.insert.now (Ok r) new → next.count ≡ at + 1
+        → IsEdited {E = X} layout mid edit.start edit.stop edit.insert.now (Ok r) new → next.count ≡ at + 1
         → next.front ≡ min made.front r.kept_front → next.back ≡ min made.back r.kept_back
         → AreKeptTo layout old edits next new
     kept_more {X} {r} {new} next kept i count_is front_is back_is = record {
@@ -188,20 +197,28 @@ module _ {S : Type 0} {first : S → List ℕ → Token} {year steps : S → ℕ
 
     -- an edit that is refused keeps the tokens
     pub kept_refused : {X : Type 0} {x : X} {new : Held S} → AreKeptTo layout old edits made mid
-        → IsEdited {E = X} first year steps layout mid edit.start edit.stop edit.insert.now (Err x) new → AreKeptTo layout old edits made new
+        → IsEdited {E = X} layout mid edit.start edit.stop edit.insert.now (Err x) new → AreKeptTo layout old edits made new
     kept_refused {X} {x} {new} kept i = record { stay = subst (λ ts. StayAtEnds old.tokens ts made.front made.back) (sym i.same_tokens) kept.stay; least = kept.least }
 
-    pub made_refused : {X T : Type 0} {x : X} {new : Held S} → IsEdited {E = X} first year steps layout mid edit.start edit.stop edit.insert.now (Err x) new
-        → AreMade {T = T} first year steps layout old edits (Err (Memory at)) new
+    pub made_refused : {X T : Type 0} {x : X} {new : Held S} → IsEdited {E = X} layout mid edit.start edit.stop edit.insert.now (Err x) new
+        → AreMade {T = T} layout old edits (Err (Memory at)) new
     made_refused {X} {T} {x} {new} i =
         made_stop (Memory at) refl few (subst (λ xs. IsEdit xs edit.start edit.stop edit.insert.now) (sym i.same_text) is) i.same_text
-        i.from_scratch (i.grammar ∙ m.grammar) (i.number ∙ m.number)
-        (stop-stepped layout old.text mid.text edits at _ _ _ few m.text m.count i.rose i.few)
+        i.from_scratch
+
+    pub counted_refused : {X T : Type 0} {x : X} (before between after : ℕ)
+        → IsCounted {E = X} layout mid.text edit.start edit.stop edit.insert.now (Err x) between after
+        → AreStepped layout old.text (take at edits) before between
+        → AreCounted {T = T} layout old.text edits (Err (Memory at)) before after
+    counted_refused {X} {T} {x} before between after i are = record {
+      count = tt;
+      stop_count = stop-stepped layout old.text mid.text edits at before between after few m.text are i.rose i.few;
+    }
 
 -- none is made yet
-pub made_none : {S : Type 0} {first : S → List ℕ → Token} {year steps : S → ℕ} {layout : List ℕ → Layout} {old : Held S} (edits : List Edit) (n : ℕ) → old.tokens ≡ tokens_in (layout old.text)
-    → AreMadeTo first year steps layout old edits (record { count = 0; front = n; back = n }) old
-made_none {S} {first} {year} {steps} {layout} {old} edits n scratch = grind (arith, common_steps)
+pub made_none : {S : Type 0} {layout : List ℕ → Layout} {old : Held S} (edits : List Edit) (n : ℕ) → old.tokens ≡ tokens_in (layout old.text)
+    → AreMadeTo layout old edits (record { count = 0; front = n; back = n }) old
+made_none {S} {layout} {old} edits n scratch = grind (arith, common_steps)
 
 pub kept_none : {S : Type 0} {layout : List ℕ → Layout} {old : Held S} (edits : List Edit) (n : ℕ) → n ≡ length old.tokens → AreKeptTo layout old edits (record { count = 0; front = n; back = n }) old
 kept_none edits n all = grind (arith, common_steps)

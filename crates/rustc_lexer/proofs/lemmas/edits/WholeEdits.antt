@@ -1,5 +1,5 @@
 -- An edit of a text with its head: what it is to the body, whose counts give its own.
-use Rattle.std.proofs.Common.{◌≡◌, ℕ, max, ◌+◌, ◌-◌, ◌<◌, ◌≤◌, Bool, true, false, true≢false, List, [], ◌∷◌, length, map, drop, refl, sym, ap, ◌∙◌, arith, drop-drop, IsTrue, ◌↔◌, ◌++◌, take, ap₂, subst, length-drop, take-append-drop, length-take-le, IsUtf8, IsCharBoundary, take-add, append_assoc, Option, None, Result, OnOk}
+use Rattle.std.proofs.Common.{◌≡◌, ℕ, max, ◌+◌, ◌-◌, ◌<◌, ◌≤◌, Bool, true, false, if◌then◌else◌, true≢false, List, [], ◌∷◌, length, map, drop, refl, sym, ap, ◌∙◌, arith, drop-drop, IsTrue, ◌↔◌, ◌++◌, take, ap₂, subst, length-drop, take-append-drop, length-take-le, IsUtf8, IsCharBoundary, take-add, append_assoc, Result, OnOk}
 use Rattle.std.proofs.Math.Nat.{le-max_left, le-max_right, max-le}
 use Rattle.std.specs.List.{count_by}
 use Rattle.std.proofs.lemmas.Grind.{common_steps}
@@ -8,7 +8,7 @@ use Rattle.rustc_lexer.specs.Edits.{body_in, ends_from, IsMeeting, IsRelexed, Is
 use Rattle.rustc_lexer.specs.Locality.{has_two, IsGrammar}
 use Rattle.rustc_lexer.specs.{Relexing.{IsEditOf, IsMadeOf, IsBodyChange, IsHeadOf, IsInBody}, Partition.{Layout}}
 use Rattle.rustc_lexer.specs.Tokens.{tokens_by}
-use Rattle.rustc_lexer.specs.means.Document.{body_change, body_insert, by_head, counted, IsHeadIn, TakesFew, tokens_of_head, head_put}
+use Rattle.rustc_lexer.specs.means.Document.{body_change, body_insert, by_head, counted, IsHeadIn, TakesFew, tokens_of_head}
 use Rattle.rustc_lexer.proofs.lemmas.edits.KeptFront.{kept_none}
 use Rattle.rustc_lexer.proofs.lemmas.edits.OneAnswer.{relexed_is, counts_of, meets, meets_behind}
 use Rattle.rustc_lexer.proofs.lemmas.edits.{FrontAndBack.{edited, IsEdited, same_rest}, Bounds.{count-cons, rest_is}}
@@ -139,9 +139,9 @@ put_is : (tokens lexed : List Token) (n f b : ℕ) → f ≤ b → n + b ≤ len
     → take (n + f) tokens ++ (lexed ++ drop (n + b) tokens) ≡ take n tokens ++ (take f (drop n tokens) ++ (lexed ++ drop b (drop n tokens)))
 put_is tokens lexed n f b le inside = grind (arith, common_steps, take-add, drop-drop, append_assoc)
 
-pub put_behind : (tokens lexed : List Token) (n f b : ℕ) (head : Option Head) → f ≤ b → n + b ≤ length tokens → head ≡ None → {E : Type 0} (r : Result Unit E) (now : List Token)
-    → OnOk r (now ≡ take (n + f) tokens ++ (lexed ++ drop (n + b) tokens)) → OnOk r (now ≡ head_put (take n tokens) head ++ (take f (drop n tokens) ++ (lexed ++ drop b (drop n tokens))))
-put_behind tokens lexed n f b head w6 w7 w8 r now w11 = grind (arith, common_steps, put_is)
+pub put_behind : (tokens lexed : List Token) (n f b : ℕ) (keeps : Bool) (head : List Token) → f ≤ b → n + b ≤ length tokens → keeps ≡ true → {E : Type 0} (r : Result Unit E) (now : List Token)
+    → OnOk r (now ≡ take (n + f) tokens ++ (lexed ++ drop (n + b) tokens)) → OnOk r (now ≡ (if keeps then take n tokens else head) ++ (take f (drop n tokens) ++ (lexed ++ drop b (drop n tokens))))
+put_behind tokens lexed n f b keeps head w6 w7 w8 r now w11 = grind (arith, common_steps, put_is)
 
 -- ---- the counts of an edit
 

@@ -1,8 +1,12 @@
 -- Lexing from the left: the tokens so far are the first ones of the text.
 use Rattle.std.proofs.Common.{◌≡◌, ℕ, zero, suc, ◌+◌, ◌<◌, ◌≤◌, List, [], ◌∷◌, ◌++◌, length, take, drop, refl, sym, ap, ◌∙◌, arith, length-drop, length-append, IsUtf8, IsCharBoundary, take_all}
 use Rattle.std.proofs.lemmas.{List.{drop_all}, Str.{IsCharBoundary-from_drop}, Grind.{common_steps}}
-use Rattle.rustc_lexer.specs.{Token, Classes.{IsText}, Locality.{IsGrammar}, Tokens.{bound, tokens_by}}
+use Rattle.rustc_lexer.specs.{Token, Classes.{IsText}, Locality.{Grammar, IsGrammar}, Tokens.{bound, tokens_by}}
 use Rattle.rustc_lexer.specs.laws.Cuts.{IsCutAt, at_bound, tokens-cons, tokens-nil}
+
+-- a grammar that stays gives the same tokens
+pub same_first : {a b : Grammar} → a ≡ b → a.first ≡ b.first
+same_first same = ap (λ (g : Grammar). g.first) same
 
 -- the list's item number n, where x comes after the first n
 pub record IsNext (ts : List Token) (n : ℕ) (x : Token) : Type 0 where

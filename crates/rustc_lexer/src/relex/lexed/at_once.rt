@@ -7,7 +7,7 @@ ghost use Rattle.rustc_lexer.specs.Edits.{AreAtOnce, AreInOrder, IsStopAtOnce, a
 ghost use Rattle.rustc_lexer.specs.Edits.{with_all};
 ghost use Rattle.rustc_lexer.specs.Classes.{Fits};
 ghost use Rattle.rustc_lexer.specs.means.Document.{edit_change};
-ghost use Rattle.rustc_lexer.specs.Kept.{IsEdited, layout_in};
+ghost use Rattle.rustc_lexer.specs.Kept.{IsCounted, IsEdited, layout_in};
 
 use crate::entry::stepper::Stepper;
 use crate::head::Extent;
@@ -30,10 +30,15 @@ impl<S: Stepper, E: Extent> Lexed<S, E> {
         ensures none { edits.now ≡ []
             → (self.new ≡ self.old) × (result ≡ Ok (all_stay (length self.old.tokens))) }
         ensures edit { (edits.now ≡ [] → ⊥) → AreAtOnce self.old.text edits.now
-            → IsEdited {E = EditStop} S.grammar S.number S.count
-            (layout_in E.whole (S.grammar self.old.stepper)) self.old
+            → IsEdited {E = EditStop} (layout_in E.whole (S.grammar self.old.stepper).first) self.old
             (start_of_first edits.now) (stop_of_last 0 edits.now)
             (with_all self.old.text (start_of_first edits.now) edits.now) result self.new }
+        ensures grammar { S.grammar self.new.stepper ≡ S.grammar self.old.stepper }
+        ensures count { (edits.now ≡ [] → ⊥) → AreAtOnce self.old.text edits.now
+            → IsCounted {E = EditStop} (layout_in E.whole (S.grammar self.old.stepper).first) self.old.text
+            (start_of_first edits.now) (stop_of_last 0 edits.now)
+            (with_all self.old.text (start_of_first edits.now) edits.now) result
+            (S.count self.old.stepper) (S.count self.new.stepper) }
         ensures one_by_one { OnOk result (self.new.text ≡ apply_list self.old.text (reverse edits.now)) }
         ensures stop { IfErr result (λ stop. IsStopAtOnce stop self.old.text edits.now) }
         ensures same { (AreAtOnce self.old.text edits.now → ⊥) → self.new ≡ self.old }

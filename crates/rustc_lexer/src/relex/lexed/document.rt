@@ -23,7 +23,7 @@ impl<S: Stepper> Lexed<S, Whole> {
         ensures number { result.index ≡ length (spec.head_tokens self.now.text) }
         ensures offset { result.offset ≡ spec.body_start self.now.text }
         ensures tokens { drop result.index self.now.tokens
-            ≡ tokens_by (S.grammar self.now.stepper) (drop result.offset self.now.text) }
+            ≡ tokens_by (S.grammar self.now.stepper).first (drop result.offset self.now.text) }
     {
         TokenStart {
             index: self.kept.head.count(),

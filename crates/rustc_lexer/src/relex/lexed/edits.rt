@@ -1,7 +1,7 @@
 //! Several edits of a kept text, one after another.
 ghost use Rattle.std.specs.Prelude.{◌≡◌, ◌+◌, ◌-◌, ◌^◌, ◌<◌, ◌≤◌, IfErr, IfOk, OnOk, length, min, take};
 ghost use Rattle.rustc_lexer.specs.Edits.{stop_at};
-ghost use Rattle.rustc_lexer.specs.Kept.{AreKeptThrough, AreMade, layout_in, reason};
+ghost use Rattle.rustc_lexer.specs.Kept.{AreCounted, AreKeptThrough, AreMade, layout_in, reason};
 ghost use Rattle.rustc_lexer.specs.Partition.{tokens_in};
 ghost use Rattle.rustc_lexer.specs.means.EditList.{AreKeptTo};
 
@@ -56,8 +56,11 @@ impl<S: Stepper, E: Extent> Lexed<S, E> {
     /// Makes the edits in order, each on the text that the edits before it leave, up to the first one that is refused.
     /// `Err` says which one that is and why. The edits before it stay made.
     pub fn edit_all(&mut self, edits: &[Edit<'_>]) -> Result<(), EditStop>
-        ensures { AreMade S.grammar S.number S.count
-            (layout_in E.whole (S.grammar self.old.stepper)) self.old edits.now result self.new }
+        ensures made { AreMade (layout_in E.whole (S.grammar self.old.stepper).first) self.old edits.now
+            result self.new }
+        ensures grammar { S.grammar self.new.stepper ≡ S.grammar self.old.stepper }
+        ensures count { AreCounted (layout_in E.whole (S.grammar self.old.stepper).first) self.old.text
+            edits.now result (S.count self.old.stepper) (S.count self.new.stepper) }
     {
         match self.edit_each(edits) {
             Ok(_) => Ok(()),
@@ -69,13 +72,15 @@ impl<S: Stepper, E: Extent> Lexed<S, E> {
     /// the back, and how many are now between these. An empty list keeps all at the front. `Err` also says what the edits
     /// before the refused one kept.
     pub fn edit_each(&mut self, edits: &[Edit<'_>]) -> Result<Relexed, Stopped>
-        ensures made { AreMade S.grammar S.number S.count
-            (layout_in E.whole (S.grammar self.old.stepper)) self.old edits.now (reason result)
-            self.new }
-        ensures kept { IfOk result (AreKeptThrough (layout_in E.whole (S.grammar self.old.stepper))
+        ensures made { AreMade (layout_in E.whole (S.grammar self.old.stepper).first) self.old edits.now
+            (reason result) self.new }
+        ensures grammar { S.grammar self.new.stepper ≡ S.grammar self.old.stepper }
+        ensures count { AreCounted (layout_in E.whole (S.grammar self.old.stepper).first) self.old.text
+            edits.now (reason result) (S.count self.old.stepper) (S.count self.new.stepper) }
+        ensures kept { IfOk result (AreKeptThrough (layout_in E.whole (S.grammar self.old.stepper).first)
             self.old edits.now self.new) }
         ensures stopped { IfErr result (λ stopped. AreKeptThrough
-            (layout_in E.whole (S.grammar self.old.stepper)) self.old
+            (layout_in E.whole (S.grammar self.old.stepper).first) self.old
             (take (stop_at stopped.stop) edits.now) self.new stopped.relexed) }
     {
         let old_len = self.tokens().len();
@@ -100,10 +105,13 @@ impl<S: Stepper, E: Extent> Lexed<S, E> {
           back = length self.old.tokens;
         }) }
         requires from_scratch { self.old.tokens
-            ≡ tokens_in (layout_in E.whole (S.grammar self.old.stepper) self.old.text) }
-        ensures made { AreMade S.grammar S.number S.count
-            (layout_in E.whole (S.grammar self.old.stepper)) self.old edits.now result self.new }
-        ensures kept { AreKeptTo (layout_in E.whole (S.grammar self.old.stepper)) self.old edits.now
+            ≡ tokens_in (layout_in E.whole (S.grammar self.old.stepper).first self.old.text) }
+        ensures made { AreMade (layout_in E.whole (S.grammar self.old.stepper).first) self.old edits.now
+            result self.new }
+        ensures grammar { S.grammar self.new.stepper ≡ S.grammar self.old.stepper }
+        ensures count { AreCounted (layout_in E.whole (S.grammar self.old.stepper).first) self.old.text
+            edits.now result (S.count self.old.stepper) (S.count self.new.stepper) }
+        ensures kept { AreKeptTo (layout_in E.whole (S.grammar self.old.stepper).first) self.old edits.now
             made.new self.new }
         ensures all { OnOk result (made.new.count ≡ length edits.now) }
         ensures stop { IfErr result (λ stop. stop_at stop ≡ made.new.count) }

@@ -1,9 +1,9 @@
 //! A kept text in an edition.
 ghost use Rattle.std.specs.Prelude.{◌≡◌, ◌+◌, IfOk, OnErr, OnOk, length};
-ghost use Rattle.rustc_lexer.specs.Answers.{first_in};
+ghost use Rattle.rustc_lexer.specs.Answers.{first_in, grammar_of};
 ghost use Rattle.rustc_lexer.specs.Classes.{Fits};
 ghost use Rattle.rustc_lexer.specs.Kept.{edition_tokens_in, layout_in};
-ghost use Rattle.rustc_lexer.specs.LanguageText.{newest, year};
+ghost use Rattle.rustc_lexer.specs.LanguageText.{newest};
 
 use crate::edition::Edition;
 use crate::entry::stepper::{Stepper, Steps};
@@ -20,8 +20,7 @@ impl<E: Extent> Lexed<Steps, E> {
         ensures from_scratch { IfOk result
             (λ l. l.tokens ≡ edition_tokens_in E.whole newest text.now) }
         ensures grammar { IfOk result
-            (λ l. ⟦<Steps as Stepper>⟧.grammar l.stepper ≡ first_in newest) }
-        ensures number { IfOk result (λ l. ⟦<Steps as Stepper>⟧.number l.stepper ≡ year newest) }
+            (λ l. ⟦<Steps as Stepper>⟧.grammar l.stepper ≡ grammar_of newest) }
         ensures count { IfOk result
             (λ l. ⟦<Steps as Stepper>⟧.count l.stepper
             + length (layout_in E.whole (first_in newest) text.now).head
@@ -42,8 +41,7 @@ impl<E: Extent> Lexed<Steps, E> {
         ensures from_scratch { IfOk result
             (λ l. l.tokens ≡ edition_tokens_in E.whole edition text.now) }
         ensures grammar { IfOk result
-            (λ l. ⟦<Steps as Stepper>⟧.grammar l.stepper ≡ first_in edition) }
-        ensures number { IfOk result (λ l. ⟦<Steps as Stepper>⟧.number l.stepper ≡ year edition) }
+            (λ l. ⟦<Steps as Stepper>⟧.grammar l.stepper ≡ grammar_of edition) }
         ensures count { IfOk result
             (λ l. ⟦<Steps as Stepper>⟧.count l.stepper
             + length (layout_in E.whole (first_in edition) text.now).head
@@ -54,8 +52,7 @@ impl<E: Extent> Lexed<Steps, E> {
 
     /// Returns the edition of the tokens. Edits keep it.
     pub fn edition(&self) -> Edition
-        ensures number { ⟦<Steps as Stepper>⟧.number self.now.stepper ≡ year result }
-        ensures grammar { ⟦<Steps as Stepper>⟧.grammar self.now.stepper ≡ first_in result }
+        ensures grammar { ⟦<Steps as Stepper>⟧.grammar self.now.stepper ≡ grammar_of result }
         ensures from_scratch { self.now.tokens ≡ edition_tokens_in E.whole result self.now.text }
     {
         self.kept.stepper.edition()
@@ -68,8 +65,7 @@ impl<E: Extent> Lexed<Steps, E> {
         ensures from_scratch { OnOk result
             (self.new.tokens ≡ edition_tokens_in E.whole edition self.new.text) }
         ensures grammar { OnOk result
-            (⟦<Steps as Stepper>⟧.grammar self.new.stepper ≡ first_in edition) }
-        ensures number { OnOk result (⟦<Steps as Stepper>⟧.number self.new.stepper ≡ year edition) }
+            (⟦<Steps as Stepper>⟧.grammar self.new.stepper ≡ grammar_of edition) }
         ensures count { OnOk result
             (⟦<Steps as Stepper>⟧.count self.new.stepper
             + length (layout_in E.whole (first_in edition) self.new.text).head

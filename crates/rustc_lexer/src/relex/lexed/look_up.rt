@@ -7,7 +7,7 @@ ghost use Rattle.rustc_lexer.specs.means.Checkpoints.{IsBoundFrom};
 
 use crate::entry::stepper::Stepper;
 use crate::head::Extent;
-use crate::relex::front::TokenStart;
+use crate::relex::front::{TokenStart, token_around};
 use crate::relex::lexed::Lexed;
 use crate::relex::pieces::{Piece, Pieces};
 use crate::token::Token;
@@ -149,12 +149,7 @@ impl<S: Stepper, E: Extent> Lexed<S, E> {
             × (offset < length self.now.text) }
     {
         let near = self.bound_near(offset);
-        token_around(
-            self.kept.tokens.as_slice(),
-            self.kept.head.shebang_len,
-            near,
-            offset,
-        )
+        token_around(self.kept.tokens.as_slice(), near, offset)
     }
 
     /// Returns the piece that contains the byte at `offset`. `None` in a shebang line, and at and past the end of the
@@ -238,43 +233,4 @@ fn end_from(start: u32, tokens: &[Token]) -> u32
         end += token.len;
     }
     end
-}
-
-/// Returns the token that contains the byte at `offset`, by its number and its start. The first token begins at `first`,
-/// and the search at `near`.
-fn token_around(
-    tokens: &[Token],
-    first: usize,
-    near: TokenStart,
-    offset: usize,
-) -> Option<TokenStart>
-    requires near { IsBoundFrom first tokens.now near }
-    requires fits { first + bound tokens.now (length tokens.now) < 2 ^ 32 }
-    ensures token { IfSome result (ContainsByte first tokens.now offset) }
-    ensures none { IsNone result → first ≤ offset
-        → first + bound tokens.now (length tokens.now) ≤ offset }
-{
-    if offset < first {
-        return None;
-    }
-    let mut back = near;
-    while offset < back.offset {
-        let index = back.index - 1;
-        back = TokenStart {
-            index,
-            offset: back.offset - tokens[index].len as usize,
-        };
-    }
-    let mut at = back;
-    while at.index < tokens.len() {
-        let end = at.offset + tokens[at.index].len as usize;
-        if offset < end {
-            return Some(at);
-        }
-        at = TokenStart {
-            index: at.index + 1,
-            offset: end,
-        };
-    }
-    None
 }

@@ -2,7 +2,7 @@
 ghost use Rattle.std.specs.Prelude.{◌≡◌, List, Ok, OnOk, ℕ, length};
 ghost use Rattle.rustc_lexer.specs.Classes.{Fits};
 ghost use Rattle.rustc_lexer.specs.Edits.{IsNarrowest, all_stay};
-ghost use Rattle.rustc_lexer.specs.Kept.{IsEdited, layout_in};
+ghost use Rattle.rustc_lexer.specs.Kept.{IsCounted, IsEdited, layout_in};
 
 use crate::entry::stepper::Stepper;
 use crate::head::Extent;
@@ -24,9 +24,11 @@ impl<S: Stepper, E: Extent> Lexed<S, E> {
             → (self.new ≡ self.old) × (result ≡ Ok (all_stay (length self.old.tokens))) }
         ensures edit { (self.old.text ≡ text.now → ⊥) → (start stop : ℕ) × (insert : List ℕ)
             × IsNarrowest self.old.text text.now start stop insert
-            × IsEdited S.grammar S.number S.count
-            (layout_in E.whole (S.grammar self.old.stepper)) self.old start stop insert result
-            self.new }
+            × IsEdited (layout_in E.whole (S.grammar self.old.stepper).first) self.old start stop insert
+            result self.new
+            × IsCounted (layout_in E.whole (S.grammar self.old.stepper).first) self.old.text start stop
+            insert result (S.count self.old.stepper) (S.count self.new.stepper) }
+        ensures grammar { S.grammar self.new.stepper ≡ S.grammar self.old.stepper }
     {
         let old = self.text();
         if old == text {

@@ -14,7 +14,7 @@ impl<S: Stepper> Lexed<S, Part> {
     /// the last tokens.
     pub fn settled(&self) -> usize
         ensures settled { IsSettled self.now.text self.now.tokens result }
-        ensures stays { StaysUpTo result self.now.text (tokens_by (S.grammar self.now.stepper)) }
+        ensures stays { StaysUpTo result self.now.text (tokens_by (S.grammar self.now.stepper).first) }
     {
         let text = self.text();
         let tokens = self.tokens();

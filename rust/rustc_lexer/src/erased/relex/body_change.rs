@@ -2,7 +2,7 @@
 //! What an edit of a document changes in its body.
 
 use crate::erased::head::Head;
-use crate::erased::relex::document_edit::{body_change, keeps_head};
+use crate::erased::relex::document_edit::HeadEdit;
 use crate::erased::relex::relexing::Change;
 
 /// What an edit of a document changes in its body.
@@ -22,10 +22,10 @@ impl Head {
     /// the first position after the edit at which both bodies have begun. Then no token of the body is kept before it.
     #[must_use]
     pub fn change_to(self, now: Head, edit: Change) -> BodyChange {
-        let keeps_head = keeps_head(self, now, edit.start);
+        let head = HeadEdit::between(self, now, edit.start);
         BodyChange {
-            keeps_head,
-            change: body_change(keeps_head, self.body, now.body, edit),
+            keeps_head: head.keeps,
+            change: head.body_change(edit),
         }
     }
 }

@@ -4,8 +4,10 @@ use crate::support::{String, Vec};
 
 use crate::erased::entry::stepper::Stepper;
 use crate::erased::relex::checkpoints::Checkpoints;
+use crate::erased::relex::document_edit::HeadEdit;
 use crate::erased::relex::front::TokenStart;
-use crate::erased::relex::relexing::{Change, Relexing};
+use crate::erased::relex::relexing::{Edited, Relexing};
+use crate::erased::relex::replace::replace;
 use crate::erased::token::{Token, TokenKind};
 use crate::support::{AllocError, Global};
 
@@ -45,33 +47,41 @@ pub(crate) fn put_in_place(text: &mut String, start: usize, stop: usize, insert:
     debug_assert!(put.is_ok());
 }
 
-/// Lexes the new text from the end of the kept front until it meets the old tokens. Returns the tokens in between, and
-/// where they meet the old ones. It remembers boundaries among them as `lexed_bounds`.
+/// The tokens that replace old ones after an edit.
+pub(crate) struct Replacement {
+    /// The tokens.
+    pub tokens: Vec<Token>,
+    /// The old tokens from `at.front` up to `at.back` are replaced.
+    pub at: Relexing,
+    /// Boundaries that lexing passed.
+    pub bounds: Checkpoints,
+}
+
+/// Lexes the text from the end of the kept front until it meets the old tokens. The search for the front begins at
+/// `near`.
 pub(crate) fn relex<S: Stepper>(
     alloc: Global,
     stepper: &mut S,
-    old: &[Token],
+    edited: &Edited<'_, Token>,
     near: TokenStart,
-    text: &str,
-    change: Change,
-    lexed_bounds: &mut Checkpoints,
-) -> Result<(Vec<Token>, Relexing), AllocError> {
+) -> Result<Replacement, AllocError> {
     let mut tokens = Vec::new(alloc);
-    let mut at = Relexing::begin(text, old, change, near);
-    let Some(token) = at.next(stepper, text, old, change) else {
-        return Ok((tokens, at));
+    let mut bounds = Checkpoints::new();
+    let mut at = Relexing::begin(edited, near);
+    let Some(token) = at.next(stepper, edited) else {
+        return Ok(Replacement { tokens, at, bounds });
     };
     tokens.push(token)?;
     let mut buffer = [Token {
         kind: TokenKind::Eof,
         len: 0,
     }; BUFFER_LEN];
-    while !at.is_over(text) {
-        let count = at.block(stepper, text, old, change, &mut buffer);
+    while !at.is_over(edited.text) {
+        let count = at.block(stepper, edited, &mut buffer);
         tokens.extend_from_slice(&buffer[..count])?;
-        lexed_bounds.remember(end_of(at), text.len());
+        bounds.remember(end_of(at), edited.text.len());
     }
-    Ok((tokens, at))
+    Ok(Replacement { tokens, at, bounds })
 }
 
 /// Returns where the last token ends that was lexed.
@@ -82,23 +92,42 @@ fn end_of(at: Relexing) -> TokenStart {
     }
 }
 
-/// Returns the checkpoints after an edit that was relexed up to `at`, in a text of `len` bytes. They have the kept front
-/// and, where many tokens were lexed, the boundaries among them.
-pub(crate) fn past_edit(
-    checkpoints: &Checkpoints,
-    at: Relexing,
-    lexed_bounds: &Checkpoints,
-    len: usize,
-) -> Checkpoints {
-    let mut moved = checkpoints.after(at.front, at.back, end_of(at));
-    if at.lexed <= BUFFER_LEN {
-        moved.remember(at.front, len);
-        return moved;
+impl Replacement {
+    /// Returns the checkpoints of the new text, which has `len` bytes; `old` are those of the text before the edit. They
+    /// have the kept front and, where many tokens were lexed, the boundaries among them.
+    pub(crate) fn checkpoints(&self, old: &Checkpoints, len: usize) -> Checkpoints {
+        let at = self.at;
+        let mut moved = old.after(at.front, at.back, end_of(at));
+        if at.lexed <= BUFFER_LEN {
+            moved.remember(at.front, len);
+            return moved;
+        }
+        let mut all = moved.joined(&self.bounds, len);
+        if at.front.index == 0 {
+            return all;
+        }
+        all.remember(at.front, len);
+        all
     }
-    let mut all = moved.joined(lexed_bounds, len);
-    if at.front.index == 0 {
-        return all;
+
+    /// Puts the tokens in place of the old ones. Also replaces the tokens of the head, unless it stays. If an allocation
+    /// fails, nothing changes.
+    pub(crate) fn put_into(
+        self,
+        alloc: Global,
+        tokens: &mut Vec<Token>,
+        head: HeadEdit,
+    ) -> Result<(), AllocError> {
+        let old_count = head.before.count();
+        let from = old_count + self.at.front.index;
+        let to = old_count + self.at.back.index;
+        if head.keeps {
+            return replace(tokens, from, to, self.tokens);
+        }
+        let mut all = Vec::new(alloc);
+        head.after.push_to(&mut all)?;
+        all.extend_from_slice(&tokens.as_slice()[old_count..from])?;
+        all.extend_from_slice(self.tokens.as_slice())?;
+        replace(tokens, 0, to, all)
     }
-    all.remember(at.front, len);
-    all
 }

@@ -55,23 +55,51 @@ fn stand_before(text: &str, from: usize, to: usize) -> bool {
     text.is_char_boundary(from) && two_stand(text, from, to)
 }
 
-/// Returns the last boundary up to `from` that is at least two characters before `start`, or the first boundary.
-fn walk_back<T: Measured>(text: &str, tokens: &[T], start: usize, from: TokenStart) -> TokenStart {
-    if from.index > tokens.len() {
+/// Returns the last boundary up to `near` that is not after `target`, or the first boundary.
+fn walk_back<T: Measured>(tokens: &[T], near: TokenStart, target: usize) -> TokenStart {
+    if near.index > tokens.len() {
         return FIRST;
     }
-    let mut at = from;
-    while at.index > 0 {
-        if stand_before(text, at.offset, start) {
-            return at;
-        }
+    let mut at = near;
+    while at.index > 0 && target < at.offset {
         let index = at.index - 1;
         at = TokenStart {
             index,
             offset: at.offset.saturating_sub(tokens[index].len() as usize),
         };
     }
-    FIRST
+    at
+}
+
+/// Returns the token that contains the byte at `offset`: its index and where it begins. `None` if the offset is before
+/// the first token or after the last one.
+///
+/// The search starts at `near`, which can be any boundary of the tokens, and reads the lengths of the tokens between
+/// there and the offset. If `near` is no boundary, the result has no meaning.
+pub fn token_around<T: Measured>(
+    tokens: &[T],
+    near: TokenStart,
+    offset: usize,
+) -> Option<TokenStart> {
+    let at = walk_back(tokens, near, offset);
+    if offset < at.offset {
+        return None;
+    }
+    // Counting down the remaining bytes is faster than adding up offsets.
+    let mut index = at.index;
+    let mut left = offset - at.offset;
+    while index < tokens.len() {
+        let len = tokens[index].len() as usize;
+        if left < len {
+            return Some(TokenStart {
+                index,
+                offset: offset - left,
+            });
+        }
+        index += 1;
+        left -= len;
+    }
+    None
 }
 
 /// Returns how many of the tokens end at least two characters before `start`. The search begins at `near`, which may be
@@ -82,7 +110,13 @@ pub(crate) fn kept_front<T: Measured>(
     start: usize,
     near: TokenStart,
 ) -> TokenStart {
-    let mut at = walk_back(text, tokens, start, near);
+    // Eight bytes contain at least two characters.
+    let back = walk_back(tokens, near, start.saturating_sub(8));
+    let mut at = if stand_before(text, back.offset, start) {
+        back
+    } else {
+        FIRST
+    };
     while at.index < tokens.len() {
         let next = TokenStart {
             index: at.index + 1,

@@ -5,10 +5,10 @@ use crate::support::{String, Vec};
 use crate::erased::entry::stepper::Stepper;
 use crate::erased::head::{Extent, Head};
 use crate::erased::relex::checkpoints::Checkpoints;
-use crate::erased::relex::document_edit::{body_change, counted, keeps_head, new_head, put_tokens};
-use crate::erased::relex::edit::{past_edit, relex};
+use crate::erased::relex::document_edit::HeadEdit;
+use crate::erased::relex::edit::relex;
 use crate::erased::relex::lex::lex_all;
-use crate::erased::relex::relexing::{Change, Relexed};
+use crate::erased::relex::relexing::{Change, Edited, Relexed};
 use crate::erased::token::Token;
 use crate::support::{AllocError, Global};
 use core::marker::PhantomData;
@@ -35,28 +35,20 @@ pub(crate) fn renew<S: Stepper, E: Extent>(
 ) -> Result<Relexed, AllocError> {
     let made = kept.text.as_str();
     let now = E::find_head(made);
-    let stays = keeps_head(kept.head, now, edit.start);
-    let change = body_change(stays, kept.head.body, now.body, edit);
-    let old_count = kept.head.count();
-    let near = kept.checkpoints.nearest(change.start);
-    let body = &made[now.body..];
-    let old = &kept.tokens.as_slice()[old_count..];
-    let left = old.len();
-    let mut lexed_bounds = Checkpoints::new();
-    let (lexed, at) = relex(
-        kept.alloc,
-        &mut kept.stepper,
-        old,
-        near,
-        body,
-        change,
-        &mut lexed_bounds,
-    )?;
-    let new_head = new_head(stays, now);
-    put_tokens(kept.alloc, &mut kept.tokens, old_count, new_head, at, lexed)?;
-    kept.checkpoints = past_edit(&kept.checkpoints, at, &lexed_bounds, body.len());
+    let head = HeadEdit::between(kept.head, now, edit.start);
+    let edited = Edited {
+        text: &made[now.body..],
+        old: &kept.tokens.as_slice()[kept.head.count()..],
+        change: head.body_change(edit),
+    };
+    let near = kept.checkpoints.nearest(edited.change.start);
+    let lexed = relex(kept.alloc, &mut kept.stepper, &edited, near)?;
+    let checkpoints = lexed.checkpoints(&kept.checkpoints, edited.text.len());
+    let counts = lexed.at.counts(edited.old.len());
+    lexed.put_into(kept.alloc, &mut kept.tokens, head)?;
     kept.head = now;
-    Ok(counted(stays, old_count, now.count(), at.counts(left)))
+    kept.checkpoints = checkpoints;
+    Ok(head.document_counts(counts))
 }
 
 /// Lexes the tokens of a text: those of its head, which is known, and those of its body with the stepper.

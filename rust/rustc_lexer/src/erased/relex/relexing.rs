@@ -33,13 +33,26 @@ impl Change {
             && text.is_char_boundary(self.start)
             && text.is_char_boundary(self.new_stop)
     }
+}
 
-    /// Returns what the change did to the text that it made.
-    fn damage(self, text: &str) -> Damage {
+/// A text after an edit, with the tokens that it had before.
+#[derive(Clone, Copy)]
+pub struct Edited<'a, T> {
+    /// The text.
+    pub text: &'a str,
+    /// The tokens of the text before the edit.
+    pub old: &'a [T],
+    /// The edit.
+    pub change: Change,
+}
+
+impl<'a, T> Edited<'a, T> {
+    /// Returns what the edit did to the text.
+    fn damage(&self) -> Damage {
         Damage {
-            past: self.new_stop,
-            old_stop: self.old_stop,
-            end: text.len(),
+            past: self.change.new_stop,
+            old_stop: self.change.old_stop,
+            end: self.text.len(),
         }
     }
 }
@@ -133,7 +146,7 @@ impl Relexed {
 /// In plain Rust:
 ///
 /// ```
-/// use rustc_lexer::incremental::{Change, Relexing};
+/// use rustc_lexer::incremental::{Change, Edited, Relexing};
 /// use rustc_lexer::{FrontmatterAllowed, Steps, Token, TokenStart, tokenize};
 ///
 /// let (old, new) = ("let ab = cd;", "let abc = cd;");
@@ -142,9 +155,10 @@ impl Relexed {
 /// let change = Change { start: 6, old_stop: 6, new_stop: 7 };
 ///
 /// let mut steps = Steps::new();
-/// let mut relexing = Relexing::begin(new, &tokens, change, TokenStart::default());
+/// let edited = Edited { text: new, old: &tokens, change };
+/// let mut relexing = Relexing::begin(&edited, TokenStart::default());
 /// let mut lexed = Vec::new();
-/// while let Some(token) = relexing.next(&mut steps, new, &tokens, change) {
+/// while let Some(token) = relexing.next(&mut steps, &edited) {
 ///     lexed.push(token);
 /// }
 /// let counts = relexing.counts(tokens.len());
@@ -171,11 +185,11 @@ impl Relexing {
     /// Finds the kept front, and returns a state in which nothing has been lexed yet. The search for the front begins
     /// at `near`, which may be any boundary of the old tokens.
     ///
-    /// The text must have at most `u32::MAX` bytes, and [`change.may_make(text)`](Change::may_make) must be true. This
-    /// is not tested: otherwise the result means nothing, or the call panics.
-    pub fn begin<T: Measured>(text: &str, old: &[T], change: Change, near: TokenStart) -> Relexing {
-        let front = kept_front(text, old, change.start, near);
-        let to = follow(old, front, front.offset, change.damage(text));
+    /// The text must have at most `u32::MAX` bytes, and [`Change::may_make`] must be true. This is not tested: otherwise
+    /// the result means nothing, or the call panics.
+    pub fn begin<T: Measured>(edited: &Edited<'_, T>, near: TokenStart) -> Relexing {
+        let front = kept_front(edited.text, edited.old, edited.change.start, near);
+        let to = follow(edited.old, front, front.offset, edited.damage());
         Relexing {
             front,
             lexed: 0,
@@ -203,21 +217,19 @@ impl Relexing {
         self.met || self.at == text.len()
     }
 
-    /// Lexes the next token and returns it, or `None` if the old tokens are met. `text`, `old` and `change` are those
-    /// that were passed to `begin`.
+    /// Lexes the next token and returns it, or `None` if the old tokens are met. `edited` is the one that was passed
+    /// to `begin`.
     pub fn next<S: Stepper, T: Measured>(
         &mut self,
         stepper: &mut S,
-        text: &str,
-        old: &[T],
-        change: Change,
+        edited: &Edited<'_, T>,
     ) -> Option<Token> {
-        if self.is_over(text) {
+        if self.is_over(edited.text) {
             return None;
         }
-        let token = stepper.step(&text[self.at..]);
+        let token = stepper.step(&edited.text[self.at..]);
         let at = self.at + token.len as usize;
-        let to = follow(old, self.back, at, change.damage(text));
+        let to = follow(edited.old, self.back, at, edited.damage());
         *self = Relexing {
             front: self.front,
             lexed: self.lexed + 1,
@@ -229,21 +241,19 @@ impl Relexing {
     }
 
     /// Writes the next tokens into the buffer: as many as there is room for, or up to where the old tokens are met.
-    /// Returns how many. The number is less than the length of the buffer only if `is_over` is true. `text`, `old` and
-    /// `change` are those that were passed to `begin`.
+    /// Returns how many. The number is less than the length of the buffer only if `is_over` is true. `edited` is
+    /// the one that was passed to `begin`.
     ///
     /// They are the tokens that as many calls of `next` return.
     pub fn fill<S: Stepper, T: Measured, R: FromToken>(
         &mut self,
         stepper: &mut S,
-        text: &str,
-        old: &[T],
-        change: Change,
+        edited: &Edited<'_, T>,
         buffer: &mut [R],
     ) -> usize {
         let mut count = 0;
         while count < buffer.len() {
-            let Some(token) = self.next(stepper, text, old, change) else {
+            let Some(token) = self.next(stepper, edited) else {
                 break;
             };
             buffer[count] = R::from_token(token);
@@ -257,15 +267,13 @@ impl Relexing {
     pub(crate) fn block<S: Stepper, T: Measured, R: FromToken>(
         &mut self,
         stepper: &mut S,
-        text: &str,
-        old: &[T],
-        change: Change,
+        edited: &Edited<'_, T>,
         buffer: &mut [R],
     ) -> usize {
-        let end = self.least_meeting(text, change);
-        let (count, bytes) = stepper.fill(&text[self.at..], end - self.at, buffer);
+        let end = self.least_meeting(edited);
+        let (count, bytes) = stepper.fill(&edited.text[self.at..], end - self.at, buffer);
         let at = self.at + bytes;
-        let to = follow(old, self.back, at, change.damage(text));
+        let to = follow(edited.old, self.back, at, edited.damage());
         *self = Relexing {
             front: self.front,
             lexed: self.lexed + count,
@@ -277,19 +285,19 @@ impl Relexing {
     }
 
     /// Returns an offset past `at`, and none between the two is one where the old tokens may be met.
-    fn least_meeting(&self, text: &str, change: Change) -> usize {
-        if self.at < change.new_stop {
-            return change.new_stop;
+    fn least_meeting<T>(&self, edited: &Edited<'_, T>) -> usize {
+        if self.at < edited.change.new_stop {
+            return edited.change.new_stop;
         }
-        let back = self.back.offset + change.new_stop;
-        if back <= self.at + change.old_stop {
+        let back = self.back.offset + edited.change.new_stop;
+        if back <= self.at + edited.change.old_stop {
             return self.at + 1;
         }
-        let least = back - change.old_stop;
-        if least < text.len() {
+        let least = back - edited.change.old_stop;
+        if least < edited.text.len() {
             least
         } else {
-            text.len()
+            edited.text.len()
         }
     }
 

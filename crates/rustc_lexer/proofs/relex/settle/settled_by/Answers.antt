@@ -1,6 +1,6 @@
 use Rattle.std.proofs.{Common.{sym, ◌∙◌, refl, arith, rules}, lemmas.Grind.{common_steps}}
 use Rattle.rustc_lexer.specs.Classes.{IsText}
-use Rattle.rustc_lexer.proofs.lemmas.tokens.Progress.{lexed_offset, stepped}
+use Rattle.rustc_lexer.proofs.lemmas.tokens.Progress.{lexed_offset, same_first, stepped}
 use Rattle.rustc_lexer.proofs.lemmas.edits.Settled.{sure_next, sure_stop, next_boundary}
 use Rattle.rustc_lexer.proofs.relex.settle.settled_by.Goals as goal
 
@@ -13,7 +13,7 @@ two_stand-requires-clause-from_boundary g c = search (rules, stepped, next_bound
 pub loop-offset-preserved : goal.loop-offset-preserved
 loop-offset-preserved g c =
     let is : IsText c.args.text.now = record { utf8 = c.utf8.text; fits = c.requires.fits } in
-    let token = stepped c.args.text.now c.loop-offset.offset c.step-token.ensures.token c.loop-offset.invariant.1 c.range_from.ensures.value in (
+    let token = stepped c.args.text.now c.loop-offset.offset c.step-token.ensures.token (same_first c.loop-offset.invariant.1) c.range_from.ensures.value in (
       sure_next (g.S.Stepper.law c.args.stepper.now) c.args.text.now is c.loop-offset.offset _ _ c.loop-offset.invariant.0 c.loop-offset-test.true token refl (sym c.two_stand.ensures ∙ c.if-not-two_stand.false),
       c.step-token.ensures.grammar ∙ c.loop-offset.invariant.1,
     )
@@ -25,7 +25,7 @@ returns-after-loop-offset g c = sure_stop (g.S.Stepper.law c.args.stepper.now) c
 
 pub returns-then-not-two_stand : goal.returns-then-not-two_stand
 returns-then-not-two_stand g c =
-    let token = stepped c.args.text.now c.loop-offset.offset c.step-token.ensures.token c.loop-offset.invariant.1 c.range_from.ensures.value in
+    let token = stepped c.args.text.now c.loop-offset.offset c.step-token.ensures.token (same_first c.loop-offset.invariant.1) c.range_from.ensures.value in
     sure_stop (g.S.Stepper.law c.args.stepper.now) c.args.text.now
     (record { utf8 = c.utf8.text; fits = c.requires.fits }) c.loop-offset.offset c.loop-offset.invariant.0
     (λ more. rw (sym token) (sym c.two_stand.ensures ∙ c.if-not-two_stand.true))

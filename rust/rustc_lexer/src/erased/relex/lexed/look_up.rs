@@ -3,7 +3,7 @@
 
 use crate::erased::entry::stepper::Stepper;
 use crate::erased::head::Extent;
-use crate::erased::relex::front::TokenStart;
+use crate::erased::relex::front::{TokenStart, token_around};
 use crate::erased::relex::lexed::Lexed;
 use crate::erased::relex::pieces::{Piece, Pieces};
 use crate::erased::token::Token;
@@ -100,12 +100,7 @@ impl<S: Stepper, E: Extent> Lexed<S, E> {
     /// and at and past the end of the text. It reads few of the tokens.
     pub fn token_start_at(&self, offset: usize) -> Option<TokenStart> {
         let near = self.bound_near(offset);
-        token_around(
-            self.kept.tokens.as_slice(),
-            self.kept.head.shebang_len,
-            near,
-            offset,
-        )
+        token_around(self.kept.tokens.as_slice(), near, offset)
     }
 
     /// Returns the piece that contains the byte at `offset`. `None` in a shebang line, and at and past the end of the
@@ -163,37 +158,4 @@ fn end_from(start: u32, tokens: &[Token]) -> u32 {
         end += token.len;
     }
     end
-}
-
-/// Returns the token that contains the byte at `offset`, by its number and its start. The first token begins at `first`,
-/// and the search at `near`.
-fn token_around(
-    tokens: &[Token],
-    first: usize,
-    near: TokenStart,
-    offset: usize,
-) -> Option<TokenStart> {
-    if offset < first {
-        return None;
-    }
-    let mut back = near;
-    while offset < back.offset {
-        let index = back.index - 1;
-        back = TokenStart {
-            index,
-            offset: back.offset - tokens[index].len as usize,
-        };
-    }
-    let mut at = back;
-    while at.index < tokens.len() {
-        let end = at.offset + tokens[at.index].len as usize;
-        if offset < end {
-            return Some(at);
-        }
-        at = TokenStart {
-            index: at.index + 1,
-            offset: end,
-        };
-    }
-    None
 }

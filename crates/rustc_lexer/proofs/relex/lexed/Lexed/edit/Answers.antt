@@ -1,8 +1,8 @@
 use Rattle.std.proofs.Common.{◌≡◌, List, ℕ, slice_range, string_bytes, refl, sym, ◌∙◌, subst, arith, Err, rules}
 use Rattle.std.proofs.lemmas.Grind.{common_steps}
 use Rattle.rustc_lexer.specs.{declared.relex.relexing.Change.{Change}, Relexing.{IsEditOf}, Edits.{IsEdit, apply}}
-use Rattle.rustc_lexer.specs.Kept.{IsEdited, layout_in}
-use Rattle.rustc_lexer.proofs.lemmas.edits.{FrontAndBack.{edited, put_back}, DocumentEdits.{few_none, put_by, refused}}
+use Rattle.rustc_lexer.specs.Kept.{IsCounted, IsEdited, layout_in}
+use Rattle.rustc_lexer.proofs.lemmas.edits.{FrontAndBack.{edited, put_back}, DocumentEdits.{counted_refused, few_none, put_by, refused}}
 use Rattle.rustc_lexer.proofs.lemmas.edits.ByLengths.{made_change}
 use Rattle.rustc_lexer.proofs.relex.lexed.Lexed.edit.Goals as goal
 
@@ -22,8 +22,11 @@ renew-requires-clause-put g c = grind (arith, common_steps, put_by)
 pub invariant_of-self-in-Ok : goal.invariant_of-self-in-Ok
 invariant_of-self-in-Ok g c = search (rules, put_by)
 
-pub returns-in-Ok : goal.returns-in-Ok
-returns-in-Ok g c = search (rules, put_by)
+pub returns-in-Ok-clause-edited : goal.returns-in-Ok-clause-edited
+returns-in-Ok-clause-edited g c = search (rules, put_by)
+
+pub returns-in-Ok-clause-count : goal.returns-in-Ok-clause-count
+returns-in-Ok-clause-count g c = search (rules, put_by)
 
 pub put_in_place-requires-in-Err-clause-inside : goal.put_in_place-requires-in-Err-clause-inside
 put_in_place-requires-in-Err-clause-inside g c =
@@ -38,17 +41,29 @@ invariant_of-self-in-Err g c =
     (rw c.renew.ensures.text at c.put_in_place-in-Err.ensures.text) in
     rw same (c.in-Err.ensures.renewed _ _ p).0
 
-pub returns : goal.returns
-returns g c =
+pub returns-clause-edited : goal.returns-clause-edited
+returns-clause-edited g c =
     let p = put_by c.self.invariant c.utf8.insert (subst (λ h. IsEdit h.text c.args.start c.args.stop c.args.insert.now) (sym c.self.view_is) c.requires.accepted) c.put_in_place.ensures.text c.reserve.ensures.bytes in
     let same : string_bytes c.put_in_place-in-Err.new.text ≡ string_bytes c.self.inside.kept.text =
     put_back_from p.edit_of (c.as_str.ensures.value ∙ (c.in_ok-removed.ensures.ok ∙ c.range.ensures.value)) c.deref.ensures
     (rw c.renew.ensures.text at c.put_in_place-in-Err.ensures.text) in
-    subst (λ h. IsEdited g.S.Stepper.grammar g.S.Stepper.number g.S.Stepper.count (layout_in g.E.Extent.whole (g.S.Stepper.grammar h.stepper)) h c.args.start c.args.stop c.args.insert.now (Err c.in-Err.refused) (record { text = string_bytes c.put_in_place-in-Err.new.text; tokens = c.renew.new.kept.tokens.items; stepper = c.renew.new.kept.stepper })) c.self.view_is (rw same (c.in-Err.ensures.renewed _ _ p).1)
+    subst (λ h. IsEdited (layout_in g.E.Extent.whole (g.S.Stepper.grammar h.stepper).first) h c.args.start c.args.stop c.args.insert.now (Err c.in-Err.refused) (record { text = string_bytes c.put_in_place-in-Err.new.text; tokens = c.renew.new.kept.tokens.items; stepper = c.renew.new.kept.stepper })) c.self.view_is (rw same (c.in-Err.ensures.renewed _ _ p).1)
 
-pub returns-in_err-removed : goal.returns-in_err-removed
-returns-in_err-removed g c = search (rules, refused, few_none)
+pub returns-clause-count : goal.returns-clause-count
+returns-clause-count g c =
+    let p = put_by c.self.invariant c.utf8.insert (subst (λ h. IsEdit h.text c.args.start c.args.stop c.args.insert.now) (sym c.self.view_is) c.requires.accepted) c.put_in_place.ensures.text c.reserve.ensures.bytes in
+    subst (λ h. IsCounted (layout_in g.E.Extent.whole (g.S.Stepper.grammar h.stepper).first) h.text c.args.start c.args.stop c.args.insert.now (Err c.in-Err.refused) (g.S.Stepper.count h.stepper) (g.S.Stepper.count c.renew.new.kept.stepper)) c.self.view_is (c.in-Err.ensures.renewed _ _ p).2
 
-pub returns-in_err-reserve : goal.returns-in_err-reserve
-returns-in_err-reserve g c =
-    subst (λ h. IsEdited g.S.Stepper.grammar g.S.Stepper.number g.S.Stepper.count (layout_in g.E.Extent.whole (g.S.Stepper.grammar h.stepper)) h c.args.start c.args.stop c.args.insert.now c.from_residual-in_err-reserve.result (record { text = string_bytes c.reserve.new.self; tokens = c.self.inside.kept.tokens.items; stepper = c.self.inside.kept.stepper })) c.self.view_is (refused c.from_residual-in_err-reserve.result c.from_residual-in_err-reserve.ensures.0 c.self.invariant.1 c.reserve.ensures.bytes refl refl refl (omega arith) (few_none (g.S.Stepper.law c.self.inside.kept.stepper) g.E.Extent.whole _ _ _ _ _ c.self.invariant.0 c.utf8.insert (subst (λ h. IsEdit h.text c.args.start c.args.stop c.args.insert.now) (sym c.self.view_is) c.requires.accepted)))
+pub returns-in_err-removed-clause-edited : goal.returns-in_err-removed-clause-edited
+returns-in_err-removed-clause-edited g c = search (rules, refused)
+
+pub returns-in_err-removed-clause-count : goal.returns-in_err-removed-clause-count
+returns-in_err-removed-clause-count g c = search (rules, counted_refused, few_none)
+
+pub returns-in_err-reserve-clause-edited : goal.returns-in_err-reserve-clause-edited
+returns-in_err-reserve-clause-edited g c =
+    subst (λ h. IsEdited (layout_in g.E.Extent.whole (g.S.Stepper.grammar h.stepper).first) h c.args.start c.args.stop c.args.insert.now c.from_residual-in_err-reserve.result (record { text = string_bytes c.reserve.new.self; tokens = c.self.inside.kept.tokens.items; stepper = c.self.inside.kept.stepper })) c.self.view_is (refused c.from_residual-in_err-reserve.result c.from_residual-in_err-reserve.ensures.0 c.self.invariant.1 c.reserve.ensures.bytes refl)
+
+pub returns-in_err-reserve-clause-count : goal.returns-in_err-reserve-clause-count
+returns-in_err-reserve-clause-count g c =
+    subst (λ h. IsCounted (layout_in g.E.Extent.whole (g.S.Stepper.grammar h.stepper).first) h.text c.args.start c.args.stop c.args.insert.now c.from_residual-in_err-reserve.result (g.S.Stepper.count h.stepper) (g.S.Stepper.count c.self.inside.kept.stepper)) c.self.view_is (counted_refused c.from_residual-in_err-reserve.result c.from_residual-in_err-reserve.ensures.0 (omega arith) (few_none (g.S.Stepper.law c.self.inside.kept.stepper) g.E.Extent.whole _ _ _ _ _ c.self.invariant.0 c.utf8.insert (subst (λ h. IsEdit h.text c.args.start c.args.stop c.args.insert.now) (sym c.self.view_is) c.requires.accepted)))

@@ -1,19 +1,18 @@
-use Rattle.std.proofs.{Common.{length, ap, ◌∙◌, arith, string_bytes}, lemmas.Grind.{common_steps}}
-use Rattle.rustc_lexer.proofs.lemmas.edits.{KeptBounds.{end_seen, fits_seen, start_seen}, Offsets.{answered}}
+use Rattle.std.proofs.Common.{length, map, ap, refl, ◌∙◌, string_bytes}
+use Rattle.rustc_lexer.specs.{Kept.{start_in}, Offsets.{ArePlaced}, Token}
+use Rattle.rustc_lexer.proofs.lemmas.edits.{KeptBounds.{end_seen}, Offsets.{answered, if_some}}
 use Rattle.rustc_lexer.proofs.relex.lexed.Lexed.token_start_at.Goals as goal
 
-pub token_around-requires-clause-near : goal.token_around-requires-clause-near
-token_around-requires-clause-near g c = grind (arith, common_steps, start_seen)
-
-pub token_around-requires-clause-fits : goal.token_around-requires-clause-fits
-token_around-requires-clause-fits g c =
+pub returns : goal.returns
+returns g c =
     let read = c.as_slice.ensures.value ∙ ap (λ h. h.tokens) c.self.view_is in
-    rw (start_seen (g.S.Stepper.law c.self.inside.kept.stepper) g.E.Extent.whole (string_bytes c.self.inside.kept.text) c.self.inside.kept.tokens.items c.self.inside.kept.head c.self.inside.kept.checkpoints c.self.invariant c.args.self.now (ap (λ h. h.text) c.self.view_is) (ap (λ h. h.tokens) c.self.view_is), read) (fits_seen (g.S.Stepper.law c.self.inside.kept.stepper) g.E.Extent.whole (string_bytes c.self.inside.kept.text) c.self.inside.kept.tokens.items c.self.inside.kept.head c.self.inside.kept.checkpoints c.self.invariant c.args.self.now (ap (λ h. h.text) c.self.view_is) (ap (λ h. h.tokens) c.self.view_is) (length c.args.self.now.tokens) (omega arith))
-
-pub returns-clause-token : goal.returns-clause-token
-returns-clause-token g c = grind (arith, common_steps, start_seen)
-
-pub returns-clause-some : goal.returns-clause-some
-returns-clause-some g c =
-    let read = c.as_slice.ensures.value ∙ ap (λ h. h.tokens) c.self.view_is in
-    answered c.token_around.result _ c.args.self.now.tokens c.args.offset (length c.args.self.now.text) (end_seen (g.S.Stepper.law c.self.inside.kept.stepper) g.E.Extent.whole (string_bytes c.self.inside.kept.text) c.self.inside.kept.tokens.items c.self.inside.kept.head c.self.inside.kept.checkpoints c.self.invariant c.args.self.now (ap (λ h. h.text) c.self.view_is) (ap (λ h. h.tokens) c.self.view_is)) (rw (start_seen (g.S.Stepper.law c.self.inside.kept.stepper) g.E.Extent.whole (string_bytes c.self.inside.kept.text) c.self.inside.kept.tokens.items c.self.inside.kept.head c.self.inside.kept.checkpoints c.self.invariant c.args.self.now (ap (λ h. h.text) c.self.view_is) (ap (λ h. h.tokens) c.self.view_is), read) at c.token_around.ensures.token) (rw (start_seen (g.S.Stepper.law c.self.inside.kept.stepper) g.E.Extent.whole (string_bytes c.self.inside.kept.text) c.self.inside.kept.tokens.items c.self.inside.kept.head c.self.inside.kept.checkpoints c.self.invariant c.args.self.now (ap (λ h. h.text) c.self.view_is) (ap (λ h. h.tokens) c.self.view_is), read, end_seen (g.S.Stepper.law c.self.inside.kept.stepper) g.E.Extent.whole (string_bytes c.self.inside.kept.text) c.self.inside.kept.tokens.items c.self.inside.kept.head c.self.inside.kept.checkpoints c.self.invariant c.args.self.now (ap (λ h. h.text) c.self.view_is) (ap (λ h. h.tokens) c.self.view_is)) at c.token_around.ensures.none)
+    let near = c.bound_near-near.ensures in
+    let placed : ArePlaced (map (λ (t : Token). t.len) c.args.self.now.tokens) (start_in g.E.Extent.whole c.args.self.now.text) c.args.self.now.tokens c.bound_near-near.result =
+    record { lengths_are = refl; number = near.0; offset = near.1 } in
+    let token = if_some c.args.offset c.token_around.result (rw read at c.token_around.ensures.token) placed in
+    record {
+      token = token;
+      some = answered c.token_around.result _ c.args.self.now.tokens c.args.offset (length c.args.self.now.text)
+          (end_seen (g.S.Stepper.law c.self.inside.kept.stepper) g.E.Extent.whole (string_bytes c.self.inside.kept.text) c.self.inside.kept.tokens.items c.self.inside.kept.head c.self.inside.kept.checkpoints c.self.invariant c.args.self.now (ap (λ h. h.text) c.self.view_is) (ap (λ h. h.tokens) c.self.view_is))
+          token (λ none le. rw (end_seen (g.S.Stepper.law c.self.inside.kept.stepper) g.E.Extent.whole (string_bytes c.self.inside.kept.text) c.self.inside.kept.tokens.items c.self.inside.kept.head c.self.inside.kept.checkpoints c.self.invariant c.args.self.now (ap (λ h. h.text) c.self.view_is) (ap (λ h. h.tokens) c.self.view_is)) at (rw read at c.token_around.ensures.none none _ c.args.self.now.tokens placed le));
+    }

@@ -10,37 +10,37 @@ pub range_from-requires : goal.range_from-requires
 range_from-requires g c = λ some. c.requires.may_go_on.boundary
 
 pub least_meeting-end-requires-clause-inside : goal.least_meeting-end-requires-clause-inside
-least_meeting-end-requires-clause-inside g c = (not_over c.args.self.now.met c.args.self.now.at (length c.args.text.now) c.requires.may_go_on.boundary.0 c.requires.going).1
+least_meeting-end-requires-clause-inside g c = (not_over c.args.self.now.met c.args.self.now.at (length c.args.edited.now.text.now) c.requires.may_go_on.boundary.0 c.requires.going).1
 
 pub overflow_add-at : goal.overflow_add-at
 overflow_add-at g c =
-    let is : IsText c.args.text.now = record { utf8 = c.utf8.text; fits = c.requires.fits } in
-    let inside = block_inside (g.S.Stepper.law c.args.stepper.now) c.args.text.now c.range_from.result.now is c.args.self.now.at c.requires.may_go_on.boundary c.range_from.ensures.value _ _ c.fill-count.ensures.filled.few c.fill-count.ensures.bytes in
+    let is : IsText c.args.edited.now.text.now = c.requires.is_text in
+    let inside = block_inside (g.S.Stepper.law c.args.stepper.now) c.args.edited.now.text.now c.range_from.result.now is c.args.self.now.at c.requires.may_go_on.boundary c.range_from.ensures.value _ _ c.fill-count.ensures.filled.few c.fill-count.ensures.bytes in
     omega (arith, inside)
 
 pub overflow_add-self : goal.overflow_add-self
 overflow_add-self g c =
-    let is : IsText c.args.text.now = record { utf8 = c.utf8.text; fits = c.requires.fits } in
+    let is : IsText c.args.edited.now.text.now = c.requires.is_text in
     let law = g.S.Stepper.law c.args.stepper.now in
-    let inside = block_inside law c.args.text.now c.range_from.result.now is c.args.self.now.at c.requires.may_go_on.boundary c.range_from.ensures.value _ _ c.fill-count.ensures.filled.few c.fill-count.ensures.bytes in
-    let fewer = block_count law c.args.text.now c.range_from.result.now is c.args.self.now.at c.requires.may_go_on.boundary c.range_from.ensures.value _ _ c.fill-count.ensures.filled.few c.fill-count.ensures.bytes in
+    let inside = block_inside law c.args.edited.now.text.now c.range_from.result.now is c.args.self.now.at c.requires.may_go_on.boundary c.range_from.ensures.value _ _ c.fill-count.ensures.filled.few c.fill-count.ensures.bytes in
+    let fewer = block_count law c.args.edited.now.text.now c.range_from.result.now is c.args.self.now.at c.requires.may_go_on.boundary c.range_from.ensures.value _ _ c.fill-count.ensures.filled.few c.fill-count.ensures.bytes in
     let few = c.requires.may_go_on.few in
     omega (arith, inside, fewer, few)
 
 pub follow-to-requires-clause-offset_fits : goal.follow-to-requires-clause-offset_fits
 follow-to-requires-clause-offset_fits g c =
-    let is : IsText c.args.text.now = record { utf8 = c.utf8.text; fits = c.requires.fits } in
-    let inside = block_inside (g.S.Stepper.law c.args.stepper.now) c.args.text.now c.range_from.result.now is c.args.self.now.at c.requires.may_go_on.boundary c.range_from.ensures.value _ _ c.fill-count.ensures.filled.few c.fill-count.ensures.bytes in
+    let is : IsText c.args.edited.now.text.now = c.requires.is_text in
+    let inside = block_inside (g.S.Stepper.law c.args.stepper.now) c.args.edited.now.text.now c.range_from.result.now is c.args.self.now.at c.requires.may_go_on.boundary c.range_from.ensures.value _ _ c.fill-count.ensures.filled.few c.fill-count.ensures.bytes in
     rw c.damage.ensures (omega (arith, inside))
 
 pub returns : goal.returns
 returns g c =
     let law = g.S.Stepper.law c.args.stepper.now in
-    let first : List ℕ → Token = g.S.Stepper.grammar c.args.stepper.now in
-    let text : List ℕ = c.args.text.now in
-    let is : IsText text = record { utf8 = c.utf8.text; fits = c.requires.fits } in
+    let first : List ℕ → Token = (g.S.Stepper.grammar c.args.stepper.now).first in
+    let text : List ℕ = c.args.edited.now.text.now in
+    let is : IsText text = c.requires.is_text in
     let may = c.requires.may_go_on in
-    let change = c.args.change in
+    let change = c.args.edited.now.change in
     let at = c.args.self.now in
     let to = c.follow-to.result in
     let count : ℕ = c.fill-count.result.0 in
@@ -69,11 +69,11 @@ returns g c =
         few = (let few = may.few in omega (arith, few, fewer));
       };
       grammar = c.fill-count.ensures.grammar;
-      number = c.fill-count.ensures.number;
       count = c.fill-count.ensures.count;
       steps = steps;
       tokens = filled.tokens;
       some = some;
+      ahead = omega (arith, some, fewer);
       buffer = filled.within;
       under_way = λ before insert made under_way.
           let out = (not_over at.met at.at (length text) may.boundary.0 c.requires.going).0 in
