@@ -32,6 +32,14 @@ pub record IsMadeOf (first : List ℕ → Token) (before lengths : List ℕ) (ed
   pub edit_of : IsEditOf before edit insert text
   pub lengths_are : lengths ≡ map (λ (t : Token). t.len) (tokens_by first before)
 
+-- a text after an edit: the lengths of the tokens that it had before, the edit, and how far it is
+-- lexed again
+pub record EditedText : Type 0 where
+  pub text : List ℕ
+  pub lengths : List ℕ
+  pub change : Change
+  pub at : Relexing
+
 -- how many of the new tokens are known: those that are kept at the front, and those that were lexed
 abbrev pub known : Relexing → ℕ
 known at = at.front.index + at.lexed

@@ -1,5 +1,5 @@
 //! Lexes again what an edit changed, on lists that the caller holds.
-ghost use Rattle.std.specs.Prelude.{◌≡◌, ◌+◌, ◌-◌, ◌^◌, ◌<◌, ◌≤◌, ◌∷◌, ◌++◌, ◌↔◌, IsTrue, List, MatchOption, drop, false, length, map, min, take, ℕ, true};
+ghost use Rattle.std.specs.Prelude.{◌≡◌, ◌+◌, ◌-◌, ◌^◌, ◌<◌, ◌≤◌, ◌∷◌, ◌++◌, ◌↔◌, IsTrue, IfSome, None, List, MatchOption, drop, false, length, map, min, take, ℕ, true};
 ghost use Rattle.rustc_lexer.specs.declared.relex.relexing.Change.{Change};
 ghost use Rattle.rustc_lexer.specs.{Token};
 ghost use Rattle.rustc_lexer.specs.Offsets.{IsBound};
@@ -16,6 +16,7 @@ use crate::entry::fill::FromToken;
 use crate::entry::stepper::Stepper;
 use crate::relex::front::{Damage, Measured, TokenStart, follow, kept_front};
 use crate::token::Token;
+use std::marker::Model;
 
 /// The greatest offset that a token boundary may have. No text is longer, even if a `usize` has 32 bits.
 const MOST: usize = usize::MAX / 2;
@@ -449,5 +450,170 @@ impl Relexing {
             lexed: self.lexed,
             kept_back: old_count - self.back.index,
         }
+    }
+}
+
+/// Lexes again what an edit changed.
+#[derive(Drop)]
+pub struct Relex<'a, T: Measured + Copy> {
+    text: &'a str,
+    tokens: &'a [T],
+    change: Change,
+    at: Relexing,
+}
+
+impl<'a, T: Measured + Copy> Model for Relex<'a, T> {
+    ghost use Rattle.std.specs.Prelude.{length, map};
+    ghost use Rattle.rustc_lexer.specs.Classes.{IsText};
+    ghost use Rattle.rustc_lexer.specs.Relexing.{EditedText, IsChange, MayGoOn};
+
+    ghost Value = { EditedText };
+
+    ghost view = { λ e. record {
+      text = e.text.now;
+      lengths = map T.bytes e.tokens.now;
+      change = e.change;
+      at = e.at;
+    } };
+
+    ghost invariant = { λ e. IsText e.text.now × IsChange e.text.now e.change
+        × MayGoOn e.text.now (length e.tokens.now) e.at };
+}
+
+impl<'a, T: Measured + Copy> Relex<'a, T> {
+    /// Finds the kept front, or returns `None` if the text is too long or the change cannot have made it. The search begins
+    /// at `near`, which may be any boundary of the old tokens.
+    pub fn begin(
+        text: &'a str,
+        old: &'a [T],
+        change: Change,
+        near: TokenStart,
+    ) -> Option<Relex<'a, T>>
+        ensures none { result ≡ None → ¬ (Fits text.now × IsChange text.now change) }
+        ensures edited { IfSome result (λ r. (r.text ≡ text.now) × (r.lengths ≡ map T.bytes old.now)
+            × (r.change ≡ change)) }
+        ensures at { IfSome result (λ r. (r.at.lexed ≡ 0)
+            × ((first : List ℕ → Token) (before insert : List ℕ) → IsGrammar first
+            → IsMadeOf first before (map T.bytes old.now) change insert text.now
+            → IsBound (tokens_by first before) near
+            → IsUnderWay first before change text.now r.at)) }
+    {
+        if text.len() > u32::MAX as usize || !change.may_make(text) {
+            return None;
+        }
+        let at = Relexing::begin(&Edited { text, old, change }, near);
+        Some(Relex {
+            text,
+            tokens: old,
+            change,
+            at,
+        })
+    }
+
+    /// Goes on from a state that [`state`](Relex::state) returned, or returns `None` if no call left these numbers.
+    pub fn resume(text: &'a str, old: &'a [T], change: Change, at: Relexing) -> Option<Relex<'a, T>>
+        ensures none { result ≡ None
+            → ¬ (Fits text.now × IsChange text.now change × MayGoOn text.now (length old.now) at) }
+        ensures some { IfSome result (λ r. r ≡ record {
+          text = text.now;
+          lengths = map T.bytes old.now;
+          change = change;
+          at = at;
+        }) }
+    {
+        if text.len() > u32::MAX as usize
+            || !change.may_make(text)
+            || !at.may_go_on(text, old.len())
+        {
+            return None;
+        }
+        Some(Relex {
+            text,
+            tokens: old,
+            change,
+            at,
+        })
+    }
+
+    /// Returns how far the text is lexed.
+    pub fn state(&self) -> Relexing
+        ensures { result ≡ self.now.at }
+    {
+        self.at
+    }
+
+    /// Returns whether lexing has met the old tokens, or no text is left.
+    pub fn is_over(&self) -> bool
+        ensures { result ≡ is_over self.now.text self.now.at }
+    {
+        self.at.is_over(self.text)
+    }
+
+    /// Lexes the next token and returns it, or `None` if the old tokens are met.
+    pub fn next<S: Stepper>(&mut self, stepper: &mut S) -> Option<Token>
+        ensures edited { (self.new.text ≡ self.old.text) × (self.new.lengths ≡ self.old.lengths)
+            × (self.new.change ≡ self.old.change) }
+        ensures grammar { S.grammar stepper.new ≡ S.grammar stepper.old }
+        ensures step { MatchOption result
+            ((self.new ≡ self.old) × (S.count stepper.new ≡ S.count stepper.old)
+            × (is_over self.old.text self.old.at ≡ true))
+            (λ token. (token ≡ (S.grammar stepper.old).first (drop self.old.at.at self.old.text))
+            × TakesSteps (S.grammar stepper.old).first self.old.text self.old.change.new_stop
+            self.old.at 1 self.new.at
+            × (S.count stepper.new ≡ S.count stepper.old + 1)
+            × (is_over self.old.text self.old.at ≡ false)) }
+        ensures under_way { (before insert : List ℕ)
+            → IsMadeOf (S.grammar stepper.old).first before self.old.lengths self.old.change insert
+            self.old.text
+            → IsUnderWay (S.grammar stepper.old).first before self.old.change self.old.text self.old.at
+            → IsUnderWay (S.grammar stepper.old).first before self.old.change self.old.text self.new.at
+            × MatchOption result (self.new.at.met ≡ true) (λ token.
+            drop (known self.old.at) (tokens_by (S.grammar stepper.old).first self.old.text)
+            ≡ token ∷ drop (known self.new.at) (tokens_by (S.grammar stepper.old).first self.old.text)) }
+    {
+        let edited = Edited {
+            text: self.text,
+            old: self.tokens,
+            change: self.change,
+        };
+        self.at.next(stepper, &edited)
+    }
+
+    /// Writes the next tokens into the buffer: as many as there is room for, or up to where the old tokens are met.
+    /// Returns how many.
+    pub fn fill<S: Stepper, R: FromToken>(&mut self, stepper: &mut S, buffer: &mut [R]) -> usize
+        ensures edited { (self.new.text ≡ self.old.text) × (self.new.lengths ≡ self.old.lengths)
+            × (self.new.change ≡ self.old.change) }
+        ensures grammar { S.grammar stepper.new ≡ S.grammar stepper.old }
+        ensures count { S.count stepper.new ≡ S.count stepper.old + result }
+        ensures steps { TakesSteps (S.grammar stepper.old).first self.old.text self.old.change.new_stop
+            self.old.at result self.new.at }
+        ensures tokens { buffer.new
+            ≡ map R.written (take result
+            (tokens_by (S.grammar stepper.old).first (drop self.old.at.at self.old.text)))
+            ++ drop result buffer.old }
+        ensures buffer { result ≤ length buffer.old }
+        ensures begins { 0 < result → is_over self.old.text self.old.at ≡ false }
+        ensures over { result < length buffer.old → is_over self.old.text self.new.at ≡ true }
+        ensures under_way { GoesOn (S.grammar stepper.old).first self.old.lengths self.old.text
+            self.old.change self.old.at self.new.at }
+    {
+        let edited = Edited {
+            text: self.text,
+            old: self.tokens,
+            change: self.change,
+        };
+        self.at.fill(stepper, &edited, buffer)
+    }
+
+    /// Returns the counts of the edit, once the old tokens are met.
+    pub fn counts(&self) -> Relexed
+        ensures { result ≡ record {
+          kept_front = self.now.at.front.index;
+          lexed = self.now.at.lexed;
+          kept_back = length self.now.lengths - self.now.at.back.index;
+        } }
+    {
+        self.at.counts(self.tokens.len())
     }
 }

@@ -311,3 +311,90 @@ impl Relexing {
         }
     }
 }
+
+/// Lexes again what an edit changed.
+pub struct Relex<'a, T: Measured + Copy> {
+    text: &'a str,
+    tokens: &'a [T],
+    change: Change,
+    at: Relexing,
+}
+
+impl<'a, T: Measured + Copy> Relex<'a, T> {
+    /// Finds the kept front, or returns `None` if the text is too long or the change cannot have made it. The search begins
+    /// at `near`, which may be any boundary of the old tokens.
+    pub fn begin(
+        text: &'a str,
+        old: &'a [T],
+        change: Change,
+        near: TokenStart,
+    ) -> Option<Relex<'a, T>> {
+        if text.len() > u32::MAX as usize || !change.may_make(text) {
+            return None;
+        }
+        let at = Relexing::begin(&Edited { text, old, change }, near);
+        Some(Relex {
+            text,
+            tokens: old,
+            change,
+            at,
+        })
+    }
+
+    /// Goes on from a state that [`state`](Relex::state) returned, or returns `None` if no call left these numbers.
+    pub fn resume(
+        text: &'a str,
+        old: &'a [T],
+        change: Change,
+        at: Relexing,
+    ) -> Option<Relex<'a, T>> {
+        if text.len() > u32::MAX as usize
+            || !change.may_make(text)
+            || !at.may_go_on(text, old.len())
+        {
+            return None;
+        }
+        Some(Relex {
+            text,
+            tokens: old,
+            change,
+            at,
+        })
+    }
+
+    /// Returns how far the text is lexed.
+    pub fn state(&self) -> Relexing {
+        self.at
+    }
+
+    /// Returns whether lexing has met the old tokens, or no text is left.
+    pub fn is_over(&self) -> bool {
+        self.at.is_over(self.text)
+    }
+
+    /// Lexes the next token and returns it, or `None` if the old tokens are met.
+    pub fn next<S: Stepper>(&mut self, stepper: &mut S) -> Option<Token> {
+        let edited = Edited {
+            text: self.text,
+            old: self.tokens,
+            change: self.change,
+        };
+        self.at.next(stepper, &edited)
+    }
+
+    /// Writes the next tokens into the buffer: as many as there is room for, or up to where the old tokens are met.
+    /// Returns how many.
+    pub fn fill<S: Stepper, R: FromToken>(&mut self, stepper: &mut S, buffer: &mut [R]) -> usize {
+        let edited = Edited {
+            text: self.text,
+            old: self.tokens,
+            change: self.change,
+        };
+        self.at.fill(stepper, &edited, buffer)
+    }
+
+    /// Returns the counts of the edit, once the old tokens are met.
+    pub fn counts(&self) -> Relexed {
+        self.at.counts(self.tokens.len())
+    }
+}
