@@ -1,4 +1,4 @@
--- A text that is kept with its tokens: what its edits do, and its pieces.
+-- Lexed texts: what edits do to a text and its tokens, and its pieces.
 use Rattle.std.specs.Prelude.{ℕ, ◌+◌, ◌-◌, ◌<◌, ◌≤◌, ◌^◌, List, [], ◌∷◌, ◌++◌, length, take, drop, ◌≡◌, Option, Some, None, Bool, true, false, Result, Ok, Err, IfOk, IfErr, OnOk, OnErr, All}
 use Rattle.rustc_lexer.specs.declared.relex.{edit.Edit.Edit, edit_list.EditStop.EditStop, edit_list.Stopped.Stopped, pieces.Piece.Piece, relexing.Relexed.Relexed}
 use Rattle.rustc_lexer.specs.{Edition, Token}
@@ -8,14 +8,14 @@ use Rattle.rustc_lexer.specs.LanguageText.{part}
 use Rattle.rustc_lexer.specs.Partition.{Layout, tokens_in}
 use Rattle.rustc_lexer.specs.Tokens.{tokens_of}
 
--- ---- a whole document, or a part of one
+-- ---- a whole document (true), or a fragment of one (false)
 
--- where the first token begins
+-- the offset of the first token
 abbrev pub start_in : Bool → List ℕ → ℕ
 start_in true = shebang_len
 start_in false = λ text. 0
 
--- where its tokens are, by a grammar
+-- the layout of the tokens, by a grammar
 abbrev pub layout_in : Bool → (List ℕ → Token) → List ℕ → Layout
 layout_in true = whole_by
 layout_in false = part_by
@@ -25,42 +25,42 @@ abbrev pub edition_tokens_in : Bool → Edition → List ℕ → List Token
 edition_tokens_in true = document_tokens
 edition_tokens_in false = λ edition text. tokens_of (part edition) text
 
--- ---- what edits do
+-- ---- edits
 
--- the contents of a kept text
+-- the contents of a lexed text
 pub record Held (S : Type 0) : Type 0 where
   pub text : List ℕ
   pub tokens : List Token
   pub stepper : S
 
--- the tokens that stay in front and at the back, by their counts
+-- the counts of the tokens that are kept in front and at the back
 pub record AreKept (old new : List Token) (r : Relexed) : Type 0 where
   pub all : r.kept_front + r.lexed + r.kept_back ≡ length new
   pub front : take r.kept_front new ≡ take r.kept_front old
   pub back : drop (r.kept_front + r.lexed) new ≡ drop (length old - r.kept_back) old
 
--- what an edit does to text and tokens. `layout` returns where the tokens of a text are, for the
--- grammar of the stepper
+-- what an edit does to text and tokens. `layout` is the layout of a text by the grammar of the
+-- stepper
 pub record IsEdited {S E : Type 0} (layout : List ℕ → Layout) (old : Held S) (start stop : ℕ)
     (insert : List ℕ) (result : Result Relexed E) (new : Held S) : Type 0 where
   pub text : OnOk result (new.text ≡ apply old.text start stop insert)
   pub from_scratch : new.tokens ≡ tokens_in (layout new.text)
-  -- which tokens stay, and how many were lexed
+  -- which tokens are kept, and how many are lexed
   pub relexed : IfOk result (IsRelexed layout old.text start stop insert)
   pub kept : IfOk result (AreKept old.tokens new.tokens)
-  -- if the edit fails, nothing has changed
+  -- on error, nothing has changed
   pub same_text : OnErr result (new.text ≡ old.text)
   pub same_tokens : OnErr result (new.tokens ≡ old.tokens)
 
 -- the step count of the stepper, `before` and `after` an edit of the text
 pub record IsCounted {E : Type 0} (layout : List ℕ → Layout) (text : List ℕ) (start stop : ℕ)
     (insert : List ℕ) (result : Result Relexed E) (before after : ℕ) : Type 0 where
-  -- each token that was lexed takes one step, but the tokens of a new head take none
+  -- the stepper takes one step for each lexed token, except for the tokens of a new head
   pub count : IfOk result
       (λ r. after + (length (layout (apply text start stop insert)).head - r.kept_front)
       ≡ before + r.lexed)
   pub rose : before ≤ after
-  -- if the edit fails, it took at most as many steps as if it had been made
+  -- on error, no more steps were taken than for the whole edit
   pub few : OnErr result
       ((r : Relexed) × IsRelexed layout text start stop insert r
       × (after + (length (layout (apply text start stop insert)).head - r.kept_front)
@@ -83,16 +83,16 @@ pub record AreCounted {T : Type 0} (layout : List ℕ → Layout) (text : List �
   pub count : OnOk result (AreStepped layout text edits before after)
   pub stop_count : IfErr result (λ e. IsStopStepped e layout text edits before after)
 
--- why a list of edits stopped
+-- the result of a list of edits, with only the reason of an error
 abbrev pub reason : Result Relexed Stopped → Result Relexed EditStop
 reason (Ok r) = Ok r
 reason (Err stopped) = Err stopped.stop
 
--- which tokens stay through all of the edits: in front the most that each of them keeps, and at the
--- back the most that each keeps and that do not reach into those, before or after
+-- the tokens that all edits keep: in front, as many as every edit keeps; at the back, as many as
+-- every edit keeps and as do not overlap the tokens in front, in the old list or in the new one
 pub record AreKeptThrough {S : Type 0} (layout : List ℕ → Layout) (old : Held S)
     (edits : List Edit) (new : Held S) (r : Relexed) : Type 0 where
-  -- the counts of each edit
+  -- the counts of each edit, in order
   pub each : List Relexed
   pub each_is : AreRelexed layout old.text edits each
   pub most_front : IsGreatest
@@ -104,7 +104,7 @@ pub record AreKeptThrough {S : Type 0} (layout : List ℕ → Layout) (old : Hel
 
 -- ---- pieces
 
--- a piece: the offset of a token, the token, and its text
+-- a piece: a token with its offset and text
 pub record Placed : Type 0 where
   pub start : ℕ
   pub token : Token
@@ -113,15 +113,15 @@ pub record Placed : Type 0 where
 abbrev pub placed : Piece → Placed
 placed piece = record { start = piece.start; token = piece.token; text = piece.text.now }
 
--- the pieces of the tokens, if the first of them begins at `start`
+-- the pieces of the tokens, if the first token starts at `start`
 abbrev pub pieces_from : List ℕ → ℕ → List Token → List Placed
 pieces_from text start [] = []
 pieces_from text start (token ∷ tokens) =
     record { start = start; token = token; text = take token.len (drop start text) }
     ∷ pieces_from text (start + token.len) tokens
 
--- what `next` does. If no piece is left, it returns None and changes nothing. Otherwise it takes
--- the first piece, whose text is as long as its token, and whose end is below 2 ^ 32
+-- what `next` does. If no piece is left, it returns None and changes nothing. Otherwise it removes
+-- and returns the first piece, whose text is as long as its token and whose end is below 2 ^ 32
 abbrev pub YieldsPiece : List Placed → Option Piece → List Placed → Type 0
 YieldsPiece s None t = (s ≡ []) × (t ≡ s)
 YieldsPiece s (Some piece) t =

@@ -1,10 +1,10 @@
--- The grammar of whole texts: which tokens a text has in an edition, read as the source of a file
--- or as a part of it. `w` and `next` are as in Language.antt, which has the tokens of the newest
--- edition. Older editions have other tokens in place of guarded strings, raw lifetimes and reserved
--- prefixes, which rustc's lexer leaves to its caller (in the Rust Reference, see "2021 Edition
--- differences" and "2024 Edition differences" of these). C strings and `k#` are the same tokens in
--- all editions, although Rust has C strings only since 2021 (docs/EDITIONS.md, "What is left to a
--- compiler").
+-- The grammar of whole texts: the tokens of a text in an edition, lexed as the source of a file or
+-- as a fragment of one (`part`). `w` and `next` are as in Language.antt, which defines the tokens
+-- of the newest edition. Older editions have other tokens instead of guarded strings, raw lifetimes
+-- and reserved prefixes. rustc's lexer leaves this difference to its caller (in the Rust Reference,
+-- see "2021 Edition differences" and "2024 Edition differences" of these tokens). C strings and
+-- `k#` are the same tokens in all editions, although Rust has C strings only since 2021
+-- (docs/EDITIONS.md, "What is left to a compiler").
 use Rattle.std.specs.Prelude.{◌≡◌, ◌<◌, ◌≤◌, ℕ, true, false, List, ◌∷◌, codes, ◌+◌, Bool, [], ◌++◌, ◌↔◌}
 use Rattle.std.specs.Str.{byte}
 use Rattle.rustc_lexer.specs.{Edition, FrontmatterAllowed, Token, TokenKind, E2015, E2018, E2021, E2024, Yes, No, Ident, UnknownPrefix, Lifetime, UnknownPrefixLifetime, Pound, RawLifetime, GuardedStrPrefix, Whitespace, Frontmatter, Eof}
@@ -22,9 +22,9 @@ year E2024 = 2024
 abbrev pub newest : Edition
 newest = E2024
 
--- the year of the first edition in which the lexer has tokens of this kind as Language.antt defines
--- them. In an older one it splits them, or gives them another kind. A C string, which Rust has
--- since 2021, is the same token in each
+-- the year of the first edition in which tokens of this kind are lexed as Language.antt defines
+-- them. In older editions such a text is split into several tokens or has another kind. A C string,
+-- which Rust has since 2021, is the same token in all editions
 abbrev pub lexed_since : TokenKind → ℕ
 lexed_since GuardedStrPrefix = 2024
 lexed_since RawLifetime = 2021
@@ -32,18 +32,17 @@ lexed_since UnknownPrefix = 2021
 lexed_since UnknownPrefixLifetime = 2021
 lexed_since kind = 2015
 
--- w is the text of a token of this kind in the edition if `next` is the text after it
+-- w is the text of a token of this kind in the edition, if `next` is the text after it
 pub data IsTokenIn (edition : Edition) (next : Chars) : TokenKind → Chars → Type 0 where
   kept : {kind : TokenKind} {w : Chars}
       → lexed_since kind ≤ year edition
       → IsTokenBefore next kind w
       → IsTokenIn edition next kind w
-  -- a hash is a token, whatever follows it: `#` before `"a"`
+  -- `#` is a token of its own, whatever follows it, such as `"a"`
   pound :
       year edition < lexed_since GuardedStrPrefix
       → IsTokenIn edition next Pound (codes "#")
-  -- what newer editions read as a prefix is an identifier or a lifetime: `z` before `"a"`, `'a`
-  -- before `#`
+  -- a prefix in newer editions is an identifier or a lifetime: `z` before `"a"`, `'a` before `#`
   ident : {w : Chars}
       → year edition < lexed_since UnknownPrefix
       → IsTokenBefore next UnknownPrefix w
@@ -52,21 +51,22 @@ pub data IsTokenIn (edition : Edition) (next : Chars) : TokenKind → Chars → 
       → year edition < lexed_since UnknownPrefixLifetime
       → IsTokenBefore next UnknownPrefixLifetime (byte "'" ∷ c ∷ w)
       → IsTokenIn edition next (Lifetime (is_bad_name (c ∷ w))) (byte "'" ∷ c ∷ w)
-  -- the first two characters of what newer editions read as a raw lifetime: `'r` before `#a`
+  -- the first two characters of a raw lifetime in newer editions are a lifetime: `'r` before `#a`
   lifetime_r :
       year edition < lexed_since RawLifetime
       → begins_ident_after (codes "#") next ≡ true
       → IsTokenIn edition next (Lifetime false) (codes "'r")
 
--- ---- how a text is read
+-- ---- how a text is lexed
 
--- a text is read in an edition, either as source, which is a file past its shebang line and may
--- begin with a frontmatter, or as a part of a file
+-- a text is lexed in an edition, either as source, which is a file after its shebang line and may
+-- start with a frontmatter, or as a fragment of a file
 pub data Mode : Type 0 where
   source : Edition → Mode
   part : Edition → Mode
 
--- the mode for the flag of a call and its edition. A call that names no edition uses the newest one
+-- the mode for the `FrontmatterAllowed` flag and the edition of a call. A call without an edition
+-- uses the newest
 abbrev pub mode_in : FrontmatterAllowed → Edition → Mode
 mode_in Yes edition = source edition
 mode_in No edition = part edition
@@ -80,8 +80,8 @@ abbrev pub is_source : Mode → Bool
 is_source (source edition) = true
 is_source (part edition) = false
 
--- the mode of the text after a token of this kind. After white space or `Eof`, source is still read
--- as source. After any other token, the rest of it is read as a part
+-- the mode of the text after a token of this kind. After whitespace or `Eof`, source is still lexed
+-- as source. After any other token, the rest is lexed as a fragment
 abbrev pub mode_after : Mode → TokenKind → Mode
 mode_after (part edition) kind = part edition
 mode_after (source edition) Whitespace = source edition
@@ -90,8 +90,8 @@ mode_after (source edition) kind = part edition
 
 -- ---- its tokens
 
--- the token of a frontmatter with this opening and this body. Its two flags are errors: that there
--- is white space before the dashes, and that the label is bad
+-- the token of a frontmatter with this opening and this body. Its two flags are errors: whitespace
+-- before the dashes, and an invalid infostring
 abbrev pub frontmatter_token : Chars → Bool → Chars → Token
 frontmatter_token opening bad_label body =
     record {
@@ -99,9 +99,9 @@ frontmatter_token opening bad_label body =
       len = bytes opening + bytes body;
     }
 
--- the tokens of these characters, none if there are no characters. If source begins with a
--- frontmatter, the first token is that, and the text after it is read as a part. Otherwise the
--- first is a token of the edition, and the tokens of the text after it follow
+-- the tokens of a text, given as its characters. An empty text has no tokens. If source starts with
+-- a frontmatter, this is the first token, and the text after it is lexed as a fragment. Otherwise
+-- the first token is a token of the edition, followed by the tokens of the text after it
 pub data AreTokens : Mode → Chars → List Token → Type 0 where
   nothing : {mode : Mode} → AreTokens mode [] []
   something : {mode : Mode} {kind : TokenKind} {c : ℕ} {w next : Chars} {tokens : List Token}
@@ -117,7 +117,7 @@ pub data AreTokens : Mode → Chars → List Token → Type 0 where
       → AreTokens (source edition) (opening ++ (body ++ next))
       (frontmatter_token opening bad_label body ∷ tokens)
 
--- if the premise holds, the answer is allowed and no other is
+-- if the premise holds, `answer` is allowed and nothing else is
 pub record TheOnly {A : Type 0} (premise : Type 0) (Allows : A → Type 0) : Type 0 where
   pub answer : A
   pub only : premise → (other : A) → Allows other ↔ (other ≡ answer)
