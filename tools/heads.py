@@ -1,6 +1,6 @@
 """Reads the heads of the proved sources: of functions, of blocks, and of what a library passes on.
 
-`tests/claim` and `tools/promises` ask which functions are public. A form that none of these reads is an `Unread`, so that no
+`tests/proof/claim` and `tools/promises` ask which functions are public. A form that none of these reads is an `Unread`, so that no
 function stays unseen.
 """
 import re

@@ -1,4 +1,4 @@
-//! What the page calls, without a browser: `tests/page` has the page itself.
+//! What the page calls, without a browser: `tests/manual/page` has the page itself.
 
 use crate::editions;
 use crate::json::push_text;

@@ -1,10 +1,10 @@
-// A browser that opens the page and is told what to do, over a pipe (DevTools). tests/page calls it.
+// A browser that opens the page and is told what to do, over a pipe (DevTools). tests/manual/page calls it.
 //
-// usage: node tests/page_browser.mjs PAGE check                    the page's check of itself
-//        node tests/page_browser.mjs PAGE keys                     real keys, and what the page then says
-//        node tests/page_browser.mjs PAGE tokens LEXDUMP FILE..    the listings of the page beside those of lexdump
-//        node tests/page_browser.mjs PAGE times FILE               the time of a key press in the text of a file
-//        node tests/page_browser.mjs PAGE pictures FOLDER SAMPLE   light, dark, narrow, and an edit; and the page SAMPLE
+// usage: node tests/manual/page_browser.mjs PAGE check                    the page's check of itself
+//        node tests/manual/page_browser.mjs PAGE keys                     real keys, and what the page then says
+//        node tests/manual/page_browser.mjs PAGE tokens LEXDUMP FILE..    the listings of the page beside those of lexdump
+//        node tests/manual/page_browser.mjs PAGE times FILE               the time of a key press in the text of a file
+//        node tests/manual/page_browser.mjs PAGE pictures FOLDER SAMPLE   light, dark, narrow, and an edit; and the page SAMPLE
 import { spawn, execFileSync } from 'node:child_process';
 import { existsSync, mkdtempSync, readFileSync, rmSync, writeFileSync } from 'node:fs';
 import { tmpdir } from 'node:os';
@@ -97,7 +97,7 @@ const setText = (text) => value(`text.value = ${JSON.stringify(text)}; text.setS
 // The label of an edition's button, as a reader finds it.
 const labelOf = (year) => `[...document.querySelectorAll('#edition label')].find((label) => label.textContent.trim() === '${year}')`;
 const setEdition = (year) => value(`${labelOf(year)}.click()`);
-const YEARS = [...readFileSync(new URL('../crates/rustc_lexer/src/edition.rt', import.meta.url), 'utf8')
+const YEARS = [...readFileSync(new URL('../../crates/rustc_lexer/src/edition.rt', import.meta.url), 'utf8')
   .matchAll(/^        Edition::E(\d+),$/gm)].map(([, year]) => Number(year));
 
 // A text whose tokens differ between editions, but for the first two, whose tokens are the same.

@@ -1,7 +1,7 @@
 // What page.js draws of an answer, and when, with no browser: plain objects stand in for the page and for its lexer.
-// The gate calls it; tests/page has the page itself.
+// The gate calls it; tests/manual/page has the page itself.
 //
-// usage: node tests/page_alone.mjs
+// usage: node tests/page/alone.mjs
 import { deepStrictEqual as same } from 'node:assert';
 import { readFileSync } from 'node:fs';
 import { runInNewContext } from 'node:vm';
@@ -33,7 +33,7 @@ part('bar').append(new Element(), new Element(), new Element());
 const calls = [];
 const delays = [];
 let answers;
-const page = runInNewContext(`${readFileSync(new URL('../page/page.js', import.meta.url), 'utf8')}
+const page = runInNewContext(`${readFileSync(new URL('../../page/page.js', import.meta.url), 'utf8')}
   years = [2015, 2024]; lexer = fake; ({ changed, LINE });`, {
   fake: new Proxy({ memory: { buffer: new ArrayBuffer(1 << 20) }, answer: () => 0, room: () => 0 }, {
     get: (own, name) => own[name] ?? ((...words) => {
