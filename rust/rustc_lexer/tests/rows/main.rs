@@ -9,8 +9,7 @@ use rustc_lexer::{
     Cursor, FrontmatterAllowed, Token, TokenKind, strip_shebang, tokenize, tokenize_as,
     tokenize_in, validate_raw_str,
 };
-use std::path::Path;
-use std::{fs, mem};
+use std::mem;
 
 #[allow(dead_code)]
 mod tables;
@@ -141,28 +140,5 @@ fn raw_strings() {
     assert_eq!(checks.len(), 39);
     for (text, _, (prefix_len, want)) in checks {
         assert_eq!(validate_raw_str(&text, prefix_len), want, "in {text:?}");
-    }
-}
-
-/// The texts as files, for the tests of the program in C (`tests/c_library`): in `no` and `yes`, by whether a frontmatter may
-/// stand in front, and those with a shebang line to look for in `shebang`. Those of an edition are left out.
-#[test]
-fn texts_for_c() {
-    let write = |folder: &str, number: usize, text: &str| {
-        let folder = Path::new(env!("CARGO_TARGET_TMPDIR"))
-            .join("rows")
-            .join(folder);
-        fs::create_dir_all(&folder).unwrap();
-        fs::write(folder.join(number.to_string()), text).unwrap();
-    };
-    for (number, case) in cases().iter().enumerate() {
-        match case.allowed() {
-            Some(FrontmatterAllowed::No) => write("no", number, &case.text),
-            Some(FrontmatterAllowed::Yes) => write("yes", number, &case.text),
-            None => {}
-        }
-    }
-    for (number, (text, _)) in shebang::ROWS.iter().enumerate() {
-        write("shebang", number, text);
     }
 }
