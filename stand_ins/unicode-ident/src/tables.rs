@@ -1,4 +1,4 @@
-//! Made by tools/cargo_copies from Unicode's data, whose licence is in LICENSE-UNICODE.
+//! Made by tools/unicode_tables from Unicode's data, whose licence is in LICENSE-UNICODE.
 pub const UNICODE_VERSION: (u8, u8, u8) = (18, 0, 0);
 /// The block of each 256 characters: first of those that start a word, then of those that continue one.
 pub static BLOCKS: [u16; 8704] = [
