@@ -121,12 +121,13 @@ fn came_to(process: Process, input: &[u8]) -> (u8, Vec<u8>, Vec<u8>) {
 
 /// When `fn` is written in colours, and when as it is.
 #[rustfmt::skip]
-const COLOURED: [(Process, bool); 13] = [
+const COLOURED: [(Process, bool); 14] = [
     ((Ok("highlight"), Err(NotPresent), Ok("xterm"), true), true),
     ((Ok("highlight"), Err(NotPresent), Ok("xterm"), false), false),
     ((Ok("highlight"), Ok(""), Err(NotPresent), true), true),
     ((Ok("highlight"), Ok(""), Err(NotPresent), false), false),
     ((Ok("highlight"), Ok("0"), Ok("xterm"), true), false),
+    ((Ok("highlight"), Ok(" "), Ok("xterm"), true), false),
     ((Ok("highlight"), Err(NotUnicode), Ok("xterm"), true), false),
     ((Ok(""), Err(NotPresent), Ok(""), true), true),
     ((Ok("highlight|--color|always"), Ok("1"), Ok("dumb"), false), true),

@@ -68,6 +68,10 @@ fn between_single_quotes() {
     for (contents, wanted) in [
         ("\r\n", (0..2, EscapeOnlyChar)),
         ("(\r\n", (0..3, MoreThanOneChar)),
+        // The range ends after the second character.
+        ("(\r\n)", (0..3, MoreThanOneChar)),
+        ("(\r)", (0..2, MoreThanOneChar)),
+        ("ab\r\n", (0..2, MoreThanOneChar)),
         ("\\\r\n", (0..3, InvalidEscape)),
         ("\\x1\r\n", (0..5, InvalidCharInHexEscape)),
         ("\r", (0..1, BareCarriageReturn)),

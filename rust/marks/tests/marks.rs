@@ -35,6 +35,9 @@ fn each_style_has_its_marks() {
         assert_eq!(whole(format, NEWEST, text), wanted);
         assert_eq!(first(format, NEWEST, 3, text), wanted);
     }
+    let text = "// \x1b";
+    assert_eq!(first(Format::Raw, NEWEST, 1, text), text);
+    assert_eq!(first(Format::NoColours, NEWEST, 1, text), "// \u{241b}");
 }
 
 #[test]

@@ -604,6 +604,7 @@ fn many_tokens_at_once() {
         let mut buffer = vec![token(TokenKind::Eof, 0); room];
         let mut tokens = tokenize(&text, FrontmatterAllowed::No);
         assert_eq!((tokens.fill(&mut buffer), tokens.as_str()), (70_000, ""));
+        assert_eq!(tokens.fill(&mut buffer), 0, "after the last token");
         assert!(buffer[..70_000] == wanted, "in a room for {room}");
     }
     let tokens = tokenize(&text, FrontmatterAllowed::No);

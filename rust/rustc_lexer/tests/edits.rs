@@ -690,8 +690,10 @@ fn what_is_equal_and_given_back() {
             assert_ne!($Kept::new("a"), $Kept::new("b"));
             for &left in Edition::ALL {
                 for &right in Edition::ALL {
-                    let equal = $Kept::new_in("a", left) == $Kept::new_in("a", right);
-                    assert_eq!(equal, left.year() == right.year(), "{left} and {right}");
+                    for text in ["", "a"] {
+                        let equal = $Kept::new_in(text, left) == $Kept::new_in(text, right);
+                        assert_eq!(equal, left.year() == right.year(), "{left} and {right}");
+                    }
                 }
             }
         };

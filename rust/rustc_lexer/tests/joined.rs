@@ -175,6 +175,10 @@ fn a_text_is_equal_shown_and_read() {
     assert_ne!(text, JoinedText::from_iter(["let"]));
     assert_eq!(format!("{text}{text:>5}"), "let  let");
     assert_eq!((text.len(), text.is_empty()), (3, false));
+    assert!(JoinedText::new().is_empty());
+    for whitespace in [" ", "\n", "\u{2028}"] {
+        assert!(!JoinedText::from_iter([whitespace]).is_empty());
+    }
     // It can be a piece.
     assert_eq!(JoinedText::from_iter([&text, &text]).as_ref(), "let let");
 }

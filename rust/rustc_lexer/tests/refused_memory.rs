@@ -361,6 +361,13 @@ fn the_longest_text() {
     };
     let answers = MAKE.map(|make| given(0, || make(text)));
     assert_eq!(answers, [Err(EditError::Memory); 4]);
+    let mut lexed = LexedText::new("ab");
+    let edits = [edit(0, 1, "c"), edit(1, 1, &text[2..])];
+    let answer = given(0, || lexed.edit_at_once(&edits));
+    assert_eq!(answer, Err(EditStop::Memory { at: 1 }));
+    let edits = [edit(0, 1, "cd"), edit(1, 1, &text[2..])];
+    let answer = given(0, || lexed.edit_at_once(&edits));
+    assert_eq!(answer, Err(EditStop::TooLong { at: 1 }));
 }
 
 /// The calls that answer no error say by a panic that an allocation failed. Nothing changes then.

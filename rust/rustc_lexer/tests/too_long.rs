@@ -144,10 +144,13 @@ fn texts_with_their_tokens() {
         LexedText::try_with(too_long(), Steps::new()).err(),
         given_back(LexedText::try_from_string_in(too_long_string(), edition).err()),
         given_back(LexedDocument::try_from_string_in(too_long_string(), edition).err()),
+        LexedText::try_from_string_in(too_long_string(), edition)
+            .err()
+            .map(EditError::from),
         LexedDocument::try_new_in(too_long(), edition).err(),
         LexedDocument::try_with(too_long(), Steps::new()).err(),
     ];
-    assert_eq!(texts, [Some(EditError::TooLong); 6]);
+    assert_eq!(texts, [Some(EditError::TooLong); 7]);
 }
 
 #[cfg(feature = "alloc")]
