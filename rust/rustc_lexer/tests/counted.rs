@@ -542,3 +542,28 @@ fn edits_by_steppers() {
     assert_eq!(counted.edit_all(&[]), Ok(()));
     assert_eq!(counted.steps() - before, 1, "steps of an empty list");
 }
+
+/// Typing a letter and deleting it lexes the tokens next to it, however long the text is.
+#[test]
+fn typing_lexes_few_tokens() {
+    for lines in [2, 1_000] {
+        let text = "fn main() {}\n".repeat(lines);
+        let mut held = Part::held(&text, NEWEST);
+        for (at, typed, deleted) in [
+            (
+                text.len() / 2,
+                &["}", "\n", "xfn"][..],
+                &["}", "\n", "fn"][..],
+            ),
+            (text.len(), &["}", "\n", "x"], &["}", "\n"]),
+        ] {
+            for (edit, lexed) in [(edit(at, at, "x"), typed), (edit(at, at + 1, ""), deleted)] {
+                let before = held.steps();
+                let relexed = Kept::try_edit(&mut held, &edit).unwrap();
+                let pieces = held.pieces_of_tokens(relexed.changed_tokens());
+                assert!(pieces.map(|piece| piece.text).eq(lexed.iter().copied()));
+                assert_eq!(held.steps() - before, lexed.len());
+            }
+        }
+    }
+}

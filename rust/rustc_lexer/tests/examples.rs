@@ -1,20 +1,55 @@
-//! Each example as a process: what it prints for an input. `cargo test` builds the examples, and `--test examples` alone does
-//! not: say `cargo build --examples` before it.
+//! Runs each example as a process and checks what it prints.
 #![cfg(feature = "alloc")]
 
 use std::io::Write;
-use std::path::PathBuf;
+use std::path::{Path, PathBuf};
 use std::process::{Command, Output, Stdio};
+use std::sync::LazyLock;
 use std::{env, fs, thread};
 
-/// Where Cargo puts examples: beside the folder of the tests.
-fn example(name: &str) -> Command {
+/// The folder of the examples, built with the profile and the features of this test: Cargo does not build examples for
+/// `--test examples`.
+static EXAMPLES: LazyLock<PathBuf> = LazyLock::new(|| {
+    let target = Path::new(env!("CARGO_TARGET_TMPDIR")).parent().unwrap();
     let test = env::current_exe().unwrap();
-    let folder = test.parent().unwrap().parent().unwrap().join("examples");
-    Command::new(folder.join(name).with_extension(env::consts::EXE_EXTENSION))
+    let folder = test.ancestors().nth(2).and_then(Path::file_name).unwrap();
+    let profile = if folder == "debug" {
+        "dev".as_ref()
+    } else {
+        folder
+    };
+    let build = |config: &[&str]| {
+        let mut cargo = Command::new(env!("CARGO"));
+        cargo.current_dir(env!("CARGO_MANIFEST_DIR")).args(config);
+        cargo.args(["build", "--examples", "--locked", "--offline"]);
+        if cfg!(feature = "portable") {
+            cargo.args(["--features", "portable"]);
+        }
+        cargo.arg("--profile").arg(profile);
+        cargo.arg("--target-dir").arg(target).output().unwrap()
+    };
+    // The dependencies are where this test found them: in Cargo's cache, or among the stand-ins of `cargo offline`.
+    let mut built = build(&[]);
+    if !built.status.success() {
+        built = build(&["--config", "../../stand_ins/offline.toml"]);
+    }
+    assert!(
+        built.status.success(),
+        "{}",
+        String::from_utf8_lossy(&built.stderr)
+    );
+    target.join(folder).join("examples")
+});
+
+fn example(name: &str) -> Command {
+    Command::new(
+        EXAMPLES
+            .join(name)
+            .with_extension(env::consts::EXE_EXTENSION),
+    )
 }
 
-/// What an example comes to over this input, which it need not read to the end.
+/// Runs an example with this input, which it need not read to the end.
 fn run(name: &str, args: &[&str], input: &str) -> Output {
     let pipe = Stdio::piped;
     let mut process = example(name)
@@ -23,7 +58,7 @@ fn run(name: &str, args: &[&str], input: &str) -> Output {
         .stdout(pipe())
         .stderr(pipe())
         .spawn()
-        .expect("the examples are built: see the head of this file");
+        .unwrap();
     let (mut to, input) = (process.stdin.take().unwrap(), input.to_owned());
     let writes = thread::spawn(move || to.write_all(input.as_bytes()));
     let output = process.wait_with_output().unwrap();
@@ -31,7 +66,7 @@ fn run(name: &str, args: &[&str], input: &str) -> Output {
     output
 }
 
-/// What an example prints, which ends well and says nothing else.
+/// Returns the output of an example that succeeds and reports nothing.
 fn prints(name: &str, args: &[&str], input: &str) -> String {
     let ended = run(name, args, input);
     let said = String::from_utf8(ended.stderr).unwrap();
@@ -42,7 +77,7 @@ fn prints(name: &str, args: &[&str], input: &str) -> String {
     String::from_utf8(ended.stdout).unwrap()
 }
 
-/// What an example says that fails and prints nothing.
+/// Returns the message of an example that fails and prints nothing.
 fn refuses(name: &str, args: &[&str], input: &str) -> String {
     let ended = run(name, args, input);
     assert!(
@@ -52,7 +87,7 @@ fn refuses(name: &str, args: &[&str], input: &str) -> String {
     String::from_utf8(ended.stderr).unwrap()
 }
 
-/// A file of this text, by its path.
+/// Writes a file and returns its path.
 fn file(name: &str, text: &str) -> String {
     let path = PathBuf::from(env!("CARGO_TARGET_TMPDIR")).join(name);
     fs::write(&path, text).unwrap();
