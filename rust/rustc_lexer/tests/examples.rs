@@ -142,6 +142,28 @@ fn tokens_that_nobody_reads() {
     assert!(ended.status.success() && ended.stderr.is_empty());
 }
 
+/// The program of the repository's README.
+#[test]
+fn an_edit_of_a_file() {
+    let package = Path::new(env!("CARGO_TARGET_TMPDIR")).join("package");
+    fs::create_dir_all(package.join("src")).unwrap();
+    fs::write(package.join("src/main.rs"), "use a;\nb").unwrap();
+    let output = example("edit").current_dir(package).output().unwrap();
+    let wanted = r#"0 Ident "use"
+3 Whitespace " "
+4 Ident "a"
+5 Semi ";"
+6 Whitespace "\n"
+7 Ident "b"
+5 tokens were kept. These were lexed:
+Ident "pub"
+Whitespace " "
+Ident "use"
+"#;
+    assert_eq!(String::from_utf8(output.stdout).unwrap(), wanted);
+    assert!(output.status.success());
+}
+
 #[test]
 fn typing_keeps_tokens() {
     let path = file("typed", "let ab = cd\nfn f() {}\n");
