@@ -209,27 +209,6 @@ fn an_error_is_one_of_the_output() {
     assert!(!marked(0, "#!/a") && marked(99, "#!/a"), "a shebang line");
 }
 
-/// A text of more than `u32::MAX` bytes is too long for either call, in a release, too.
-#[cfg(target_pointer_width = "64")]
-#[test]
-fn a_text_that_is_too_long() {
-    let zeros = vec![0; 1 << 32];
-    // SAFETY: U+0000 is one byte that is 0.
-    let text = unsafe { std::str::from_utf8_unchecked(&zeros) };
-    let calls: [&dyn Fn() -> fmt::Result; 3] = [
-        &|| write_marked(Format::Html, NEWEST, text, &mut Few(0)),
-        &|| write_first_tokens(Format::Html, NEWEST, 1, text, &mut Few(0)),
-        &|| write_first_tokens(Format::Html, NEWEST, 0, text, &mut Few(0)),
-    ];
-    for call in calls {
-        let said = std::panic::catch_unwind(std::panic::AssertUnwindSafe(call)).unwrap_err();
-        let wanted = "the text has more than u32::MAX bytes";
-        assert_eq!(said.downcast_ref::<&str>(), Some(&wanted));
-    }
-    // One byte fewer fits. This call reads only the front of it.
-    assert!(write_first_tokens(Format::Html, NEWEST, 0, &text[1..], &mut Few(0)).is_ok());
-}
-
 /// A format may be a key of a map.
 #[test]
 fn a_style_is_a_key() {
