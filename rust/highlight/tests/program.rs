@@ -1,5 +1,5 @@
-//! The program as a process, with standard streams that are closed, full or a terminal. The markup and the forms of arguments
-//! are tested in `highlight_run`.
+//! The program as a process, with standard streams that are closed, full or a terminal. The markup and the forms of
+//! arguments are tested in `highlight_run`.
 #![cfg(target_os = "linux")]
 
 #[path = "../../lexdump/tests/processes/mod.rs"]

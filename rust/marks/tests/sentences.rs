@@ -1,8 +1,8 @@
-//! The sentence about each fault, behind the stretch of a text that has it.
+//! The message of each error, after the stretch of text that has it.
 
 use marks::{Edition, Format, write_marked};
 
-/// What is written of texts: each of these without its sentences.
+/// The output for texts, each of which is this without its messages.
 const WRITTEN: [&str; 83] = [
     "a /* b [<- nothing closes this comment]",
     " --- [<- white space comes before this frontmatter, which begins its line]\n---\n",
@@ -89,7 +89,7 @@ const WRITTEN: [&str; 83] = [
     "b\"a\u{202e} [<- this character is not in ASCII, and so is no byte]\"",
 ];
 
-/// What is written without its sentences.
+/// Returns the output without its messages.
 fn text_of(written: &str) -> String {
     let mut parts = written.split(" [<- ");
     let mut text = parts.next().unwrap().to_string();
@@ -99,9 +99,9 @@ fn text_of(written: &str) -> String {
     text
 }
 
-/// Without colours a text is written with the sentence of each fault, and without one where nothing is wrong.
+/// Each error has its message, and a valid token has none.
 #[test]
-fn each_fault_has_its_sentence() {
+fn messages() {
     let hashes = "#".repeat(256);
     let sentence = "a raw string has at most 255 hashes on each side, and this one 256";
     let many = format!("r{hashes}\"a\"{hashes} [<- {sentence}]");

@@ -7,10 +7,10 @@ use std::process::{Command, Output, Stdio};
 use std::sync::LazyLock;
 use std::{env, fs, thread};
 
-/// The folder of the examples, built with the profile and the features of this test: Cargo does not build examples for
-/// `--test examples`.
+/// The folder of the examples, built with the profile and the features of this test. Cargo does not build examples for
+/// `--test examples`. A target folder of their own keeps the dependencies of other tests as they are.
 static EXAMPLES: LazyLock<PathBuf> = LazyLock::new(|| {
-    let target = Path::new(env!("CARGO_TARGET_TMPDIR")).parent().unwrap();
+    let target = Path::new(env!("CARGO_TARGET_TMPDIR")).join("examples");
     let test = env::current_exe().unwrap();
     let folder = test.ancestors().nth(2).and_then(Path::file_name).unwrap();
     let profile = if folder == "debug" {
@@ -26,18 +26,15 @@ static EXAMPLES: LazyLock<PathBuf> = LazyLock::new(|| {
             cargo.args(["--features", "portable"]);
         }
         cargo.arg("--profile").arg(profile);
-        cargo.arg("--target-dir").arg(target).output().unwrap()
+        cargo.arg("--target-dir").arg(&target).output().unwrap()
     };
-    // The dependencies are where this test found them: in Cargo's cache, or among the stand-ins of `cargo offline`.
+    // The dependencies are where this test found them: in Cargo's cache, or among the stand-ins.
     let mut built = build(&[]);
     if !built.status.success() {
         built = build(&["--config", "../../stand_ins/offline.toml"]);
     }
-    assert!(
-        built.status.success(),
-        "{}",
-        String::from_utf8_lossy(&built.stderr)
-    );
+    let errors = String::from_utf8_lossy(&built.stderr);
+    assert!(built.status.success(), "{errors}");
     target.join(folder).join("examples")
 });
 
@@ -95,7 +92,7 @@ fn file(name: &str, text: &str) -> String {
 }
 
 #[test]
-fn tokens_of_a_file_and_of_a_part() {
+fn tokens() {
     let path = file("shebang", "#!/a\nb \"");
     let wanted = r#"4 1 Whitespace "\n"
 5 1 Ident "b"
@@ -127,9 +124,9 @@ fn tokens_of_a_file_and_of_a_part() {
     }
 }
 
-/// As after `| head -n 1`: nobody reads on, and that is no fault.
+/// A closed pipe, as after `| head -n 1`, is no error.
 #[test]
-fn tokens_that_nobody_reads() {
+fn tokens_into_a_closed_pipe() {
     let mut process = example("tokens")
         .stdin(Stdio::piped())
         .stdout(Stdio::piped())
@@ -144,7 +141,7 @@ fn tokens_that_nobody_reads() {
 
 /// The program of the repository's README.
 #[test]
-fn an_edit_of_a_file() {
+fn edit() {
     let package = Path::new(env!("CARGO_TARGET_TMPDIR")).join("package");
     fs::create_dir_all(package.join("src")).unwrap();
     fs::write(package.join("src/main.rs"), "use a;\nb").unwrap();
@@ -165,7 +162,7 @@ Ident "use"
 }
 
 #[test]
-fn typing_keeps_tokens() {
+fn typing() {
     let path = file("typed", "let ab = cd\nfn f() {}\n");
     let wanted = r#"9 Ident "cde"
 16 kept
@@ -183,20 +180,20 @@ fn typing_keeps_tokens() {
 }
 
 #[test]
-fn kinds_are_counted() {
+fn kinds() {
     assert_eq!(
         prints("kinds", &[], "a + \"b\""),
         "1 Ident\n1 Plus\n1 Str\n2 Whitespace\n"
     );
 }
 
-/// A shebang line, a frontmatter, comments for documents and not, a raw string that ends with its line, a form feed, a string
-/// over lines, blanks before a carriage return, indentation, and blanks at the end.
+/// A shebang line, a frontmatter, comments and doc comments, `r#` at the end of a line, a form feed, a string of
+/// several lines, a tab before CRLF, indentation, and trailing whitespace.
 const LINED: &str = "#!/bin/sh \n---\na \n---\n\n// b  \n/// g\n/** h */\nr#\n \ni \x0c \nfn \t\r\n  f() {  \n\n\t\n    \"c  // d\n\n\" /* e \n\n */ } \n \t";
 const TRIMMED: &str = "#!/bin/sh \n---\na \n---\n\n// b  \n/// g\n/** h */\nr#\n\ni \x0c\nfn\r\n  f() {\n\n\n    \"c  // d\n\n\" /* e \n\n */ }\n";
 
 #[test]
-fn lines_are_counted_and_trimmed() {
+fn lines_and_trim() {
     assert_eq!(prints("trim", &[], LINED), TRIMMED);
     let [lined, empty, trimmed] = [("lined", LINED), ("empty", ""), ("trimmed", TRIMMED)]
         .map(|(name, text)| file(name, text));
@@ -207,17 +204,17 @@ fn lines_are_counted_and_trimmed() {
 }
 
 #[test]
-fn squeezing_keeps_tokens() {
+fn squeeze() {
     let long = "#!/bin/sh\n---\na\n---\n\n// b\n//! c\nfn f() {\n    /// d\n    let x = 0..=y; // e\n    r \"g\" /* h */ & & - 1. .max()\n}\n";
     let wanted = "#!/bin/sh\n---\na\n---\n//! c\nfn f(){/// d\nlet x=0..=y;r \"g\"&&-1. .max()}";
     assert_eq!(prints("squeeze", &[], long), wanted);
-    // no shebang line, and a comment that nothing closes
+    // no shebang line, and an unterminated comment
     assert_eq!(prints("squeeze", &[], " fn f ( ) { } /* a"), "fn f(){}/* a");
 }
 
 /// `0.` is a number, and `z"` is reserved.
 #[test]
-fn printing_separates_tokens() {
+fn print() {
     let tokens = "let\nx\n=\n0\n.\n.\n// a\nz\n\"b\"\n&\n&\n";
     assert_eq!(prints("print", &[], tokens), "let x=0 ..// a\nz \"b\"&&\n");
     for (tokens, why) in [
@@ -230,34 +227,34 @@ fn printing_separates_tokens() {
     }
 }
 
-/// The rows of how a stream comes are in `streams.rs`.
+/// `streams.rs` tests how the input is cut.
 #[test]
-fn a_stream_is_printed() {
+fn stream() {
     assert_eq!(
         prints("stream", &[], "let é"),
         "0 Ident \"let\"\n3 Whitespace \" \"\n4 Ident \"é\"\n"
     );
 }
 
-/// A key in the code, a place that is not there, words with blanks, the closing fence goes and comes, another shebang line: the
-/// document that is shown at the end is as if painted anew.
+/// A letter, an invalid range, an insertion with spaces, the closing fence removed and restored, another shebang line:
+/// at the end the document is painted like a new one.
 #[test]
-fn colours_follow_edits() {
+fn highlight() {
     let typed = file("painted", "#!/bin/sh\n---\na\n---\nfn f() {}\n");
-    let made = file(
+    let edited = file(
         "repainted",
         "#!/bin/bash\n---\na\n---\nfn fg() {\"a b\"; 1}\n",
     );
     let edits = "24 24 g\n99 99 x\n29 29 \"a b\"; 1\n16 19 \n16 16 ---\n7 9 bash\n";
-    let said = prints("highlight", &[&typed], edits);
-    let anew = prints("highlight", &[&made], "");
-    assert!(said.ends_with(&anew), "{said:?}");
-    let first = said.lines().next().unwrap();
+    let printed = prints("highlight", &[&typed], edits);
+    let wanted = prints("highlight", &[&edited], "");
+    assert!(printed.ends_with(&wanted), "{printed:?}");
+    let first = printed.lines().next().unwrap();
     assert!(
         first.contains("fg") && first.ends_with("(10 tokens kept)"),
         "{first:?}"
     );
-    // green, cyan, magenta, blue, and a raw word in no colour
+    // green, cyan, magenta, blue, and a raw identifier without a colour
     let path = file("colours", "#!/f\n---\n---\n/*a*/\"b\" c r#e//d");
     let parts = [
         (32, "#!/f"),

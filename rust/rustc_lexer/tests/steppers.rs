@@ -1,4 +1,4 @@
-//! Steppers of a caller that break a rule or panic: what the calls of a kept text say then, and what it has afterwards.
+//! Steppers that break a rule or panic: the messages of the calls, and the text and tokens afterwards.
 
 mod panics;
 
@@ -6,7 +6,7 @@ use panics::panic_message;
 use rustc_lexer::{Edit, EditError, LexedDocument, LexedText, Relexed, Stepper, Token, TokenKind};
 use std::panic::{AssertUnwindSafe, catch_unwind};
 
-/// Its tokens have one byte, but those at `!` have this many.
+/// A stepper whose tokens have one byte, but this many at `!`.
 #[derive(Clone, PartialEq)]
 struct Bytes(u32);
 
@@ -18,7 +18,7 @@ impl Stepper for Bytes {
     }
 }
 
-/// Its tokens have one byte, and it has this many of them.
+/// A stepper with this many tokens of one byte.
 #[derive(Clone, PartialEq)]
 struct Few(u32);
 
@@ -38,7 +38,7 @@ fn edit_at(start: usize, insert: &str) -> Edit<'_> {
     }
 }
 
-/// What is said of a token of `len` bytes of a text of `left`.
+/// The message for a token of `len` bytes in a text of `left`.
 fn broken(len: u32, left: usize) -> String {
     format!(
         "`Stepper::step` returned a token of {len} bytes for a text of {left}: \
@@ -46,10 +46,10 @@ fn broken(len: u32, left: usize) -> String {
     )
 }
 
-/// What is said by calls that need the tokens, once a step panicked.
+/// The message of calls that need the tokens after a step has panicked.
 const LEFT: &str = "a panic in `Stepper::step` left this text without tokens";
 
-/// The text has the edit in which a step panicked, and no tokens.
+/// Asserts that the text includes the edit in which a step panicked, and has no tokens.
 macro_rules! has_no_tokens {
     ($lexed:expr, $text:expr) => {
         let mut lexed = $lexed;
@@ -62,7 +62,7 @@ macro_rules! has_no_tokens {
         assert_eq!(panic_message(|| lexed.piece_at(0).is_some()), LEFT);
         assert_eq!(panic_message(|| lexed.edit(0..0, "")), LEFT);
         assert_eq!(panic_message(|| lexed.try_edit(0..0, "")), LEFT);
-        // A text that makes a step panic again changes nothing.
+        // If a step panics again in `set_text`, nothing changes.
         assert_ne!(panic_message(|| lexed.set_text($text)), LEFT);
         assert_eq!(panic_message(|| lexed.tokens().len()), LEFT);
         assert_eq!(lexed.try_edit(0..99, ""), Err(EditError::Range));
@@ -82,7 +82,7 @@ macro_rules! has_no_tokens {
     };
 }
 
-/// Tokens with no length, past the end, and that end inside a character, which follows the `!`.
+/// Tokens that are empty, end after the text, or end inside the character after the `!`.
 #[test]
 fn tokens_that_break_the_rule() {
     macro_rules! calls {
@@ -108,7 +108,7 @@ fn tokens_that_break_the_rule() {
                 assert_eq!(panic_message(|| lexed.edit_each(&bad)), broken(len, 4));
                 has_no_tokens!(lexed, "ca!éb");
             }
-            // The whole of what is left is a token, and so is all but the last character.
+            // A token can be the whole remaining text, or all but its last character.
             let lexed = $Kept::try_with("a!é", Bytes(3)).unwrap();
             assert_eq!(lexed.tokens().len(), 2);
             let lexed = $Kept::try_with("a!éb", Bytes(3)).unwrap();
@@ -119,10 +119,9 @@ fn tokens_that_break_the_rule() {
     calls!(LexedDocument);
 }
 
-/// Of a document the body alone is lexed by steps. Where it begins is told by its text, and not known without tokens; nor
-/// is what is settled of a part.
+/// Steps lex only the body of a document. Without tokens, neither its start nor the final part of a fragment is known.
 #[test]
-fn calls_of_one_kind() {
+fn calls_of_documents_and_fragments() {
     let mut lexed = LexedDocument::try_with("#!a\nb", Bytes(0)).unwrap();
     assert_eq!((lexed.shebang_len(), lexed.tokens().len()), (3, 2));
     assert_eq!(panic_message(|| lexed.edit(0..4, "!")), broken(0, 2));
@@ -135,9 +134,9 @@ fn calls_of_one_kind() {
     assert_eq!(panic_message(|| lexed.settled()), LEFT);
 }
 
-/// A new text is lexed anew, head and all, and then its tokens are kept again.
+/// `set_text` lexes the whole text, and then tokens are kept again.
 #[test]
-fn a_new_text_heals() {
+fn set_text_after_a_panic() {
     let mut lexed = LexedText::try_with("ab!", Bytes(1)).unwrap();
     assert_eq!(
         lexed.set_text("ab"),
@@ -168,7 +167,7 @@ fn a_panic_at_each_step() {
                 let text = || $Kept::try_with("abcde", Few(steps));
                 assert_eq!(panic_message(text), "no step is left");
             }
-            // Of six tokens two are kept in front and one at the back.
+            // Of six tokens, two are kept at the front and one at the back.
             let (mut panicked, mut edited) = (0, 0);
             for steps in 5..9 {
                 let mut lexed = $Kept::try_with("abcde", Few(steps)).unwrap();
@@ -187,7 +186,7 @@ fn a_panic_at_each_step() {
                 }
             }
             assert_eq!((panicked, edited), (3, 1));
-            // A list of any length is made one edit after another, so the text is that after one of them.
+            // A list is applied edit by edit, so the text is that after one of them.
             let mut lexed = $Kept::try_with("a;".repeat(70), Few(140 + 90)).unwrap();
             let edits: Vec<_> = (0..70).map(|at| edit_at(3 * at, "b")).collect();
             assert_eq!(panic_message(|| lexed.edit_each(&edits)), "no step is left");
@@ -196,10 +195,13 @@ fn a_panic_at_each_step() {
             let text = "ba;".repeat(made) + &"a;".repeat(70 - made);
             assert_eq!(lexed.text(), text);
             assert_eq!(panic_message(|| lexed.tokens().len()), LEFT);
-            // All edits at once have too few, and then the text has all of them.
+            // All edits at once have too few steps, and then the text includes all of them.
             let mut lexed = $Kept::try_with("ab", Few(3)).unwrap();
             let edits = [edit_at(0, "c"), edit_at(2, "d")];
-            assert_eq!(panic_message(|| lexed.edit_at_once(&edits)), "no step is left");
+            assert_eq!(
+                panic_message(|| lexed.edit_at_once(&edits)),
+                "no step is left"
+            );
             has_no_tokens!(lexed, "cabd");
             // The first edit of a list takes its two steps, and the second has none.
             for each in [false, true] {
@@ -218,26 +220,26 @@ fn a_panic_at_each_step() {
     calls!(LexedDocument);
 }
 
-/// What is refused before a step is taken leaves text and tokens.
+/// A call that is rejected before its first step changes neither text nor tokens.
 #[test]
-fn an_edit_with_no_step() {
+fn edits_without_a_step() {
     let mut lexed = LexedText::try_with("ab", Few(2)).unwrap();
     assert!(lexed.try_edit(0..9, "").is_err());
     assert!(lexed.edit_all(&[edit_at(9, "")]).is_err());
     assert_eq!((lexed.text(), lexed.tokens().len()), ("ab", 2));
-    // All is taken out, so no step is left to take.
+    // The whole text is removed, which takes no step.
     lexed.edit(0..2, "");
     assert_eq!((lexed.text(), lexed.tokens().len()), ("", 0));
 }
 
-/// Equal texts by steppers that are not equal are not.
+/// Equal texts with different steppers are not equal.
 #[test]
-fn equal_steppers() {
+fn different_steppers() {
     let text = LexedText::try_with("ab", Few(2)).unwrap();
     assert!(text == LexedText::try_with("ab", Few(2)).unwrap());
     assert!(text != LexedText::try_with("ab", Few(3)).unwrap());
     assert!(text != LexedText::try_with("abc", Few(3)).unwrap());
-    // One that lost its tokens in an edit has another text.
+    // A value that lost its tokens in an edit has another text.
     let mut lost = text.clone();
     panic_message(|| lost.edit(2..2, "c"));
     assert_ne!(text, lost);

@@ -1,5 +1,5 @@
-//! The rows of `crates/lex_vectors`, texts with the tokens that they should give, through the crate for plain Rust. The package
-//! does not have them.
+//! The test vectors of `crates/lex_vectors`, texts with their tokens, in the generated crate. They are not part of the
+//! package.
 
 use crate::tables::all::all;
 use crate::tables::raw_strings::CHECKS;
@@ -23,7 +23,7 @@ struct Case {
 }
 
 impl Case {
-    /// Whether a frontmatter may stand in front, where the call is `tokenize`.
+    /// Whether a frontmatter is allowed, if the call is `tokenize`.
     fn allowed(&self) -> Option<FrontmatterAllowed> {
         match self.way {
             Way::Newest(allowed) => Some(allowed),
@@ -32,7 +32,7 @@ impl Case {
     }
 }
 
-/// A text with its tokens, and what it is for.
+/// A text with its tokens and its purpose.
 type Text<M> = (String, Vec<(TokenKind, u32)>, M);
 
 /// The texts of a table.
@@ -75,7 +75,7 @@ fn cases() -> Vec<Case> {
 #[test]
 fn tokens() {
     let cases = cases();
-    // A row more or less is a number more or less here, so that none is lost.
+    // No row is lost.
     assert_eq!(cases.len(), 632);
     for case in cases {
         let mut left = match case.way {
@@ -144,8 +144,8 @@ fn raw_strings() {
     }
 }
 
-/// The texts as files, for the tests of the program in C (`tests/c_library`): in `no` and `yes`, by whether a frontmatter may
-/// stand in front, and those with a shebang line to look for in `shebang`. Those of an edition are left out.
+/// Writes the texts to files for the tests from C: to `no` and `yes` by whether a frontmatter is allowed, and to
+/// `shebang`. Texts of an edition are left out.
 #[test]
 fn texts_for_c() {
     let write = |folder: &str, number: usize, text: &str| {
