@@ -1,6 +1,8 @@
-//! Tests of `rustc_lexer` from outside: texts and their tokens.
+//! Tests of `rustc_lexer` and `examples` from outside. A crate with tests is proved twice, so those two have none.
 #![tactic(auto)]
 
+#[cfg(test)]
+mod callers;
 #[cfg(test)]
 mod cursors;
 #[cfg(test)]

@@ -4,12 +4,11 @@ ghost use Rattle.lex_vectors.specs.Characters.{character};
 
 use rustc_lexer::{Edition, Stepper, Steps, Token, TokenKind};
 
-/// A `Steps` that counts its calls, and the bytes of the tokens that it gave, each as far as a `u64` goes.
+/// A `Steps` that counts its calls, up to `u64::MAX`.
 #[derive(Drop)]
 pub struct Counting {
     steps: Steps,
     pub calls: u64,
-    pub bytes: u64,
 }
 
 impl Counting {
@@ -20,7 +19,6 @@ impl Counting {
         Counting {
             steps: Steps::new_in(edition),
             calls: 0,
-            bytes: 0,
         }
     }
 }
@@ -35,7 +33,6 @@ impl Stepper for Counting {
     fn step(&mut self, rest: &str) -> Token {
         let token = self.steps.step(rest);
         self.calls = self.calls.saturating_add(1);
-        self.bytes = self.bytes.saturating_add(u64::from(token.len));
         token
     }
 }

@@ -1,4 +1,4 @@
-//! Streams that are watched, and what reads and writes over them; the arguments past the name; why a program stops.
+//! Watched streams, and reading and writing all; the arguments after the name; why a program stops.
 
 mod failing;
 
@@ -14,9 +14,9 @@ use rattle_std::io::{Read, Write};
 const FAILED: Turn = Turn::Fails(Other);
 const CLOSED: Turn = Turn::Fails(BrokenPipe);
 
-/// A reader hands each answer on, has failed once a read failed, and stays so when it goes on.
+/// A watched reader passes on each result. Once a read has failed, it stays failed.
 #[test]
-fn answers_of_a_reader() {
+fn watched_reader() {
     let script = BYTES.but_at(1, Turn::Fails(Interrupted));
     let mut input = script.reader(b"ab");
     let mut piece = [0; 4];
@@ -29,10 +29,10 @@ fn answers_of_a_reader() {
     assert!(input.failed());
 }
 
-/// A writer hands each answer on, also of a flush, has failed once a call failed, and stays so when it goes on. It is closed
-/// if the first call that failed did since nobody reads, and stays so.
+/// A watched writer passes on each result. Once a write or a flush has failed, it stays failed, and closed if the first
+/// failure was a closed pipe.
 #[test]
-fn answers_of_a_writer() {
+fn watched_writer() {
     for (first, second) in [(BrokenPipe, Other), (Other, BrokenPipe)] {
         let script = BYTES.but_at(1, Turn::Fails(first));
         let mut output = script.but_flush(second).writer();
@@ -49,9 +49,9 @@ fn answers_of_a_writer() {
     }
 }
 
-/// A write that takes none of the bytes that it is given is a failure, and a flush that fails. A write of no bytes is none.
+/// A write of 0 of some bytes is a failure, and so is a failed flush. A write of no bytes is not.
 #[test]
-fn a_writer_that_has_failed() {
+fn failed_writer() {
     let mut output = BYTES.but_at(1, Turn::MovesNothing).writer();
     assert!(output.write(b"").is_ok_and(|count| count == 0) && !output.failed());
     assert!(output.write(b"a").is_ok_and(|count| count == 0) && output.failed());
@@ -59,7 +59,7 @@ fn a_writer_that_has_failed() {
     assert!(output.flush().is_err() && output.failed());
 }
 
-/// All bytes up to the end, or why they are not read: a closed pipe is a failed read, too.
+/// All bytes up to the end, or the error: a closed pipe is a failed read too.
 #[test]
 fn all_that_is_read() {
     let mut input = BYTES.reader(b"ab");
@@ -80,7 +80,7 @@ fn all_that_is_read() {
 
 type Call = fn(&mut Watched<Writer>) -> Result<(), Fault>;
 
-/// Calls that write `ab`, and how often each flushes.
+/// Calls that write `ab`, and the number of their flushes.
 const WRITES: [(Call, usize); 5] = [
     (|output| write_bytes(output, b"ab"), 0),
     (|output| write_all(output, b"ab"), 1),
@@ -89,7 +89,7 @@ const WRITES: [(Call, usize); 5] = [
     (|output| put(output, "ab"), 1),
 ];
 
-/// All is written, or what stands before the write that fails; then nothing is flushed. A flush that fails stops it, too.
+/// All is written, or everything before a failed write, with no flush. A failed flush is an error too.
 #[test]
 fn all_that_is_written() {
     for (row, (call, flushes)) in WRITES.into_iter().enumerate() {
@@ -120,7 +120,7 @@ fn all_that_is_written() {
     }
 }
 
-/// Why a program stops, its status, and what it says.
+/// The cause, the status and the message of a program that stops.
 #[rustfmt::skip]
 const FAULTS: [(Fault, u8, &str); 10] = [
     (Fault::Arguments, 2, "name: no such words\n"),
@@ -135,10 +135,10 @@ const FAULTS: [(Fault, u8, &str); 10] = [
     (Fault::Write, 7, "name: write failed\n"),
 ];
 
-/// What is said is flushed, and where it cannot be said the status is the same. A run that did not stop says nothing. Nor
-/// does a quiet one whose write failed, which is none of its faults.
+/// The message is flushed, and the status is the same if it cannot be written. A run that succeeds has no message, and
+/// neither has a quiet one whose write failed.
 #[test]
-fn statuses_and_lines() {
+fn statuses_and_messages() {
     let told = |outcome, is_quiet, script: Script| {
         let mut errors = script.writer();
         let answer = report("name: ", "no such words", &outcome, is_quiet, &mut errors);
@@ -164,9 +164,9 @@ fn statuses_and_lines() {
     }
 }
 
-/// The arguments past the name, of which there may be none. No arguments at all are refused memory.
+/// The arguments after the name, if any. No arguments at all mean out of memory.
 #[test]
-fn words_past_the_name() {
+fn arguments() {
     for (line, rest) in [
         ("name|one|two", &["one", "two"][..]),
         ("name", &[]),

@@ -1,4 +1,4 @@
-//! The arguments of `highlight`; when there are colours; what it writes and says, also over streams that fail.
+//! The arguments of `highlight`, its choice of colours, its output and its messages, also with streams that fail.
 
 #[path = "../../ends/tests/failing/mod.rs"]
 mod failing;
@@ -14,8 +14,8 @@ use rattle_std::io::ErrorKind;
 use rattle_std::prelude::String;
 use rustc_lexer::Edition::{self, E2015, E2018, E2021, E2024};
 
-/// Arguments with bars between them, whether the output is a terminal that takes colours, and the format and the
-/// edition that they ask for.
+/// Arguments with bars between them, whether the output can show colours, and the format and the edition that they
+/// select.
 const SHOWN: [(&str, bool, Format, Edition); 25] = [
     ("", true, Colours, E2024),
     ("", false, NoColours, E2024),
@@ -44,7 +44,7 @@ const SHOWN: [(&str, bool, Format, Edition); 25] = [
     ("--color=always|--raw|--edition|2018", true, Raw, E2018),
 ];
 
-/// Arguments that are refused, and the one that is named.
+/// Arguments that are rejected, and the one that the message names.
 const REFUSED: [(&str, &str); 27] = [
     ("html", "html"),
     ("x|--html", "x"),
@@ -75,7 +75,6 @@ const REFUSED: [(&str, &str); 27] = [
     ("-", "-"),
 ];
 
-/// Each form of arguments is read as its job; of others one is named.
 #[test]
 fn jobs() {
     for (line, colours, format, edition) in SHOWN {
@@ -95,8 +94,7 @@ fn jobs() {
     }
 }
 
-/// What a process is given: its arguments, or why it has none, `NO_COLOR`, `TERM`, and whether the output is a
-/// terminal.
+/// A process: its arguments or the error of reading them, `NO_COLOR`, `TERM`, and whether the output is a terminal.
 type Process = (
     Result<&'static str, ErrorKind>,
     Result<&'static str, VarError>,
@@ -104,8 +102,8 @@ type Process = (
     bool,
 );
 
-/// The status of a program with this input, what it writes, and what it says.
-fn came_to(process: Process, input: &[u8]) -> (u8, Vec<u8>, Vec<u8>) {
+/// Runs the program on an input. Returns its status, its output and its errors.
+fn run_program(process: Process, input: &[u8]) -> (u8, Vec<u8>, Vec<u8>) {
     let (args, no_color, term, is_terminal) = process;
     let start = Start {
         args: args.map(|line| words_of(line).into_iter()),
@@ -119,14 +117,15 @@ fn came_to(process: Process, input: &[u8]) -> (u8, Vec<u8>, Vec<u8>) {
     (status, output.into_inner().bytes, errors.into_inner().bytes)
 }
 
-/// When `fn` is written in colours, and when as it is.
+/// Whether `fn` is written in colours.
 #[rustfmt::skip]
-const COLOURED: [(Process, bool); 13] = [
+const COLOURED: [(Process, bool); 14] = [
     ((Ok("highlight"), Err(NotPresent), Ok("xterm"), true), true),
     ((Ok("highlight"), Err(NotPresent), Ok("xterm"), false), false),
     ((Ok("highlight"), Ok(""), Err(NotPresent), true), true),
     ((Ok("highlight"), Ok(""), Err(NotPresent), false), false),
     ((Ok("highlight"), Ok("0"), Ok("xterm"), true), false),
+    ((Ok("highlight"), Ok(" "), Ok("xterm"), true), false),
     ((Ok("highlight"), Err(NotUnicode), Ok("xterm"), true), false),
     ((Ok(""), Err(NotPresent), Ok(""), true), true),
     ((Ok("highlight|--color|always"), Ok("1"), Ok("dumb"), false), true),
@@ -137,32 +136,31 @@ const COLOURED: [(Process, bool); 13] = [
     ((Ok("highlight|--color|always"), Err(NotPresent), Ok("xterm"), true), true),
 ];
 
-/// A keyword has its colour where there are colours.
 #[test]
 fn colours() {
     for (row, (process, coloured)) in COLOURED.into_iter().enumerate() {
         let written = if coloured { "\x1b[35mfn\x1b[0m" } else { "fn" };
         let wanted = (0, written.into(), vec![]);
-        assert_eq!(came_to(process, b"fn"), wanted, "row {row}");
+        assert_eq!(run_program(process, b"fn"), wanted, "row {row}");
     }
 }
 
-/// The usage is written for `--help`, and the package's version for `--version`; no input is looked at.
+/// `--help` prints the usage and `--version` the version of the package. Neither reads the input.
 #[test]
 fn help_and_version() {
     for word in ["highlight|--help", "highlight|-h"] {
         let asked = (Ok(word), Err(NotPresent), Err(NotPresent), true);
-        let (status, usage, errors) = came_to(asked, b"\xff");
+        let (status, usage, errors) = run_program(asked, b"\xff");
         assert!(status == 0 && usage.starts_with(b"highlight < FILE ") && errors.is_empty());
     }
     let version = concat!("highlight ", env!("CARGO_PKG_VERSION"), "\n");
     for word in ["highlight|--version", "highlight|-V"] {
         let asked = (Ok(word), Err(NotPresent), Err(NotPresent), true);
-        assert_eq!(came_to(asked, b"\xff"), (0, version.into(), vec![]));
+        assert_eq!(run_program(asked, b"\xff"), (0, version.into(), vec![]));
     }
 }
 
-/// A run writes the text in its format and edition, for a page with what stands around it.
+/// A run writes the text in a format and an edition, as HTML inside a whole page.
 #[test]
 fn runs() {
     let written = |format, edition| {
@@ -181,11 +179,11 @@ fn runs() {
     assert!(page.starts_with("<!DOCTYPE html>\n") && page.ends_with(end));
 }
 
-/// What is said behind a word that is refused.
+/// The end of the message for an argument that the program does not take.
 const TAKEN: &str = "it takes a source on standard input, as < FILE does, --html or --raw, --edition 2015, 2018, 2021 or 2024, \
     --color auto, always or never, --help, --version";
 
-/// A process and its input, and the status and the message; what is taken follows where it ends in `; `.
+/// A process, its input, its status and its message. `TAKEN` follows a message that ends in `; `.
 #[rustfmt::skip]
 const STOPPED: [(Process, &[u8], u8, &str); 8] = [
     ((Ok("highlight"), Err(NotPresent), Err(NotPresent), true), b"\xff", 3, "input is not UTF-8"),
@@ -198,20 +196,20 @@ const STOPPED: [(Process, &[u8], u8, &str); 8] = [
     ((Ok("highlight|"), Err(NotPresent), Err(NotPresent), true), b"fn", 2, "cannot take ''; "),
 ];
 
-/// A program that stops writes a line with its message alone.
+/// A program that stops prints only its message.
 #[test]
 fn stops() {
     for (process, input, status, message) in STOPPED {
         let taken = if message.ends_with("; ") { TAKEN } else { "" };
         let line = format!("highlight: {message}{taken}\n");
         let wanted = (status, vec![], line.into());
-        assert_eq!(came_to(process, input), wanted, "{message}");
+        assert_eq!(run_program(process, input), wanted, "{message}");
     }
 }
 
-/// The program over ends that fail, one call after another. That nobody reads its output is no failure.
+/// Each call of a stream fails in turn. A closed output is no failure.
 #[test]
-fn program_over_failing_ends() {
+fn failing_streams() {
     Program {
         run: &|input, output, errors| {
             let start = Start {

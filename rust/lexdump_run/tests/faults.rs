@@ -1,4 +1,4 @@
-//! Why a run stops: texts that it refuses, streams that fail; and what the program says then.
+//! Why a run stops, at input that it rejects or streams that fail, and the messages of the program.
 
 #[path = "../../ends/tests/failing/mod.rs"]
 mod failing;
@@ -10,7 +10,7 @@ use rattle_std::alloc::Global;
 use rattle_std::io::ErrorKind;
 use rustc_lexer::Edition::E2024;
 
-/// Arguments, bytes, and the fault of the run with its status.
+/// Arguments, the input, and the error of the run with its status.
 const STOPPED: [(&str, &[u8], Fault, u8); 6] = [
     ("", b"\xff", Fault::NotUtf8, 3),
     ("", b"a\xc3", Fault::NotUtf8, 3),
@@ -20,7 +20,7 @@ const STOPPED: [(&str, &[u8], Fault, u8); 6] = [
     ("edit|0|3||1|9|", b"ab cd", Fault::EditRange { at: 1 }, 5),
 ];
 
-/// Nothing is written or flushed of a text that is refused, and no end has failed.
+/// For input that is rejected nothing is written or flushed, and no stream has failed.
 #[test]
 fn stops() {
     for (line, bytes, fault, wanted) in STOPPED {
@@ -43,8 +43,8 @@ fn stops() {
 const TEXT: &[u8] = b"ab cd";
 const LISTING: &[u8] = b"0 2 Ident\n2 1 Whitespace\n3 2 Ident\n";
 
-/// A run over these ends stops with `Read` if its input has failed, and with `Write` if its output has; that end alone has
-/// failed, and this was written.
+/// Asserts that a run stops with `Read` if its input has failed and with `Write` if its output has, that no other
+/// stream has failed, and that this was written.
 fn stops_with(input: (&[u8], Script), output: Script, fault: Fault, written: &[u8]) {
     let job = Job::Plain { edition: E2024 };
     let row = (input, output);
@@ -56,10 +56,10 @@ fn stops_with(input: (&[u8], Script), output: Script, fault: Fault, written: &[u
     assert_eq!(output.into_inner().bytes, written, "{row:?}");
 }
 
-/// A reader that fails is `Read`, and nothing is written. A writer that fails, takes nothing or fails to flush is `Write`,
-/// and all before that is written. Only the end that fails has failed.
+/// A failed read is `Read`, and nothing is written. A failed write, a write of 0 bytes or a failed flush is `Write`,
+/// and everything before it is written.
 #[test]
-fn faults_of_failing_ends() {
+fn errors_of_failing_streams() {
     let fails = Turn::Fails(ErrorKind::Other);
     for call in 0..3 {
         let input = (TEXT, BYTES.but_at(call, fails));
@@ -77,8 +77,7 @@ fn faults_of_failing_ends() {
     }
 }
 
-/// Arguments, which begin with the program's name, if there are any; the output for `ab`, the line on standard error, and
-/// the status.
+/// Arguments, which start with the program's name, if there are any; the output for `ab`, the message and the status.
 #[rustfmt::skip]
 const PROGRAMS: [(Option<&str>, &str, &str, u8); 7] = [
     (Some("lexdump"), "0 2 Ident\n", "", 0),
@@ -90,7 +89,7 @@ const PROGRAMS: [(Option<&str>, &str, &str, u8); 7] = [
     (None, "", "lexdump: no memory\n", 6),
 ];
 
-/// The program writes its output or its line, and ends with its status.
+/// The program writes its output or its message, and exits with its status.
 #[test]
 fn programs() {
     for (line, listing, message, want) in PROGRAMS {
@@ -104,7 +103,7 @@ fn programs() {
     }
 }
 
-/// The program over ends that fail, one call after another. That nobody reads its output is a failure.
+/// Each call of a stream fails in turn. A closed output is a failure.
 #[test]
 fn program_over_failing_ends() {
     Program {

@@ -1,4 +1,4 @@
-//! What arguments ask for.
+//! The job that the arguments describe.
 
 #[path = "../../ends/tests/failing/mod.rs"]
 mod failing;
@@ -18,7 +18,7 @@ enum Wanted {
     Edits(Edition, &'static [(usize, usize, &'static str)]),
 }
 
-/// Arguments with bars between them, and what they ask for.
+/// Arguments with bars between them, and their job.
 #[rustfmt::skip]
 const JOBS: [(&str, Wanted); 13] = [
     ("", Plain(E2024)),
@@ -36,7 +36,7 @@ const JOBS: [(&str, Wanted); 13] = [
     ("edit|0|0||0|0||7|70|b", Edits(E2024, &[(0, 0, ""), (0, 0, ""), (7, 70, "b")])),
 ];
 
-/// Arguments that ask for nothing.
+/// Arguments that are rejected.
 #[rustfmt::skip]
 const NOTHING: [&str; 23] = [
     "x", "front|front", "edit", "edit|1|2", "edit|1|2|x|3|4", "edit |1|2|x", "edit|4294967296|0|z",
@@ -46,7 +46,6 @@ const NOTHING: [&str; 23] = [
     "--edition|2018|--edition|2018", "front|--edition|2018", "edit|0|0|x|--edition|2018",
 ];
 
-/// Each form of arguments is read as its job, and others are bad arguments.
 #[test]
 fn jobs() {
     for (line, wanted) in JOBS {

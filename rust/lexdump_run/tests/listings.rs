@@ -1,4 +1,4 @@
-//! What is listed of a text, with one byte for each read and write, and in blocks.
+//! The listings of texts, with one byte for each read and write, and in blocks.
 
 #[path = "../../ends/tests/failing/mod.rs"]
 mod failing;
@@ -9,8 +9,8 @@ use rattle_std::alloc::Global;
 use rustc_lexer::Edition::E2024;
 use rustc_lexer::{Token, TokenKind};
 
-/// Arguments, a text, and the listing. The last texts have a U+0000 or nothing after an opening, of which a careless
-/// program lists wrong tokens.
+/// Arguments, a text, and the listing. The last texts have U+0000 or nothing after an opening, which a careless program
+/// lists wrong.
 #[rustfmt::skip]
 const LISTED: [(&str, &str, &str); 21] = [
     ("", "fn main() {}\n", "0 2 Ident\n2 1 Whitespace\n3 4 Ident\n7 1 OpenParen\n8 1 CloseParen\n9 1 Whitespace\n10 1 OpenBrace\n11 1 CloseBrace\n12 1 Whitespace\n"),
@@ -36,8 +36,8 @@ const LISTED: [(&str, &str, &str); 21] = [
     ("", "'\\", "0 2 Literal kind=Char terminated=false suffix_start=2\n"),
 ];
 
-/// Arguments, the parts of a text that makes a careless program slow or overflow its stack, with how often each is
-/// repeated, and the listing.
+/// Arguments, the parts of a text with their repetitions, and the listing. The texts make a careless program slow or
+/// overflow its stack.
 type Repeated<'a> = (&'a str, &'a [(&'a str, usize)], &'a str);
 
 #[rustfmt::skip]
@@ -49,7 +49,7 @@ const REPEATED: [Repeated<'_>; 5] = [
     ("", &[("r", 1), ("#", 300), ("\"a\"", 1), ("#", 300), ("x", 1)], "0 604 Literal kind=RawStr n_hashes=none suffix_start=604\n604 1 Ident\n"),
 ];
 
-/// The writer after a run that ends well.
+/// The writer after a run that succeeds.
 fn dump(line: &str, text: &str, script: Script) -> Writer {
     let words = words_of(line);
     let job = read_job(Global, &words).unwrap();
@@ -67,7 +67,6 @@ fn listed(line: &str, text: &str) -> String {
     String::from_utf8(output.bytes).unwrap()
 }
 
-/// Each text has its listing.
 #[test]
 fn listings() {
     for (line, text, listing) in LISTED {
@@ -80,7 +79,7 @@ fn listings() {
     }
 }
 
-/// 301 hashes are 150 prefixes of guarded strings, and a hash.
+/// 301 hashes are 150 prefixes of guarded strings and a hash.
 #[test]
 fn many_hashes() {
     let pairs = (0..150).map(|pair| format!("{} 2 GuardedStrPrefix\n", pair * 2));
@@ -88,9 +87,9 @@ fn many_hashes() {
     assert_eq!(listed("", &"#".repeat(301)), listing);
 }
 
-/// Tokens are listed from the start that is given, and flushed.
+/// Tokens are listed with offsets from a start, and flushed.
 #[test]
-fn listing_of_some_tokens() {
+fn listing_from_an_offset() {
     let token = |kind, len| Token { kind, len };
     let tokens = [token(TokenKind::Semi, 1), token(TokenKind::Ident, 20)];
     let mut output = WHOLE.writer();
@@ -100,13 +99,13 @@ fn listing_of_some_tokens() {
     assert_eq!(output.flushes, 1);
 }
 
-/// 100,000 names of a letter, each with a blank behind it, and their listing.
+/// 100,000 names of one letter, each with a space after it, and their listing.
 fn long_text() -> (String, String) {
     let line = |at: usize| format!("{at} 1 {}\n", ["Ident", "Whitespace"][at % 2]);
     ("x ".repeat(100_000), (0..200_000).map(line).collect())
 }
 
-/// Each block of a long listing is short of full by less than one name of 65536 bytes, so there are 52.
+/// Each block is less than one name of 65,536 bytes short of full, so there are 52.
 #[test]
 fn blocks_of_a_long_listing() {
     let (text, listing) = long_text();
@@ -116,9 +115,9 @@ fn blocks_of_a_long_listing() {
     assert_eq!((output.calls, output.flushes), (52, 1));
 }
 
-/// A block that is not taken stops a run, with those before it written, and no flush.
+/// A block that cannot be written stops a run, without a flush.
 #[test]
-fn blocks_that_are_not_taken() {
+fn blocks_that_cannot_be_written() {
     let (text, listing) = long_text();
     let job = Job::Plain { edition: E2024 };
     for block in [0, 1, 50, 51] {

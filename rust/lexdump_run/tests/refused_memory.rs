@@ -1,4 +1,4 @@
-//! Each request for memory of a run, refused in turn: nothing is written then. Its ends take no memory.
+//! Each allocation of a run fails in turn: then nothing is written. Its streams allocate nothing.
 
 #[path = "../../rattle_support/tests/refusing/mod.rs"]
 mod refusing;
@@ -10,7 +10,7 @@ use rattle_std::prelude::String;
 use refusing::{given, in_turn};
 use std::io::Cursor;
 
-/// Bytes in place of a stream.
+/// A stream of bytes in memory.
 struct End<T>(T);
 
 impl<T: std::io::Read> Read for End<T> {
@@ -34,7 +34,7 @@ fn words_of(line: &str) -> Vec<String> {
     words.map(String::from).collect()
 }
 
-/// Arguments, how many requests they make to be read, an input, and the listing of it.
+/// Arguments, the number of allocations to read them, an input, and its listing.
 const RUNS: [(&str, usize, &str, &str); 5] = [
     ("", 0, "1.", FLOAT),
     ("--edition 2015", 0, "1.", FLOAT),
@@ -56,7 +56,7 @@ const RUNS: [(&str, usize, &str, &str); 5] = [
 
 const FLOAT: &str = "0 2 Literal kind=Float base=10 empty_exponent=false suffix_start=2\n";
 
-/// Arguments ask for memory only for edits, and only if they are good; a run ends with `Memory`, or writes its listing.
+/// Only valid edits among the arguments are allocated. A run ends with `Memory` or writes its listing.
 #[test]
 fn runs() {
     for (line, requests, text, listing) in RUNS {

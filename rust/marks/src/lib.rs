@@ -163,3 +163,8 @@ pub fn write_first_tokens<W: fmt::Write>(
 ) -> fmt::Result {
     erased::write_first_tokens(format, edition, count, fitting(text), output)
 }
+
+// The program of the README.
+#[cfg(doctest)]
+#[doc = include_str!("../README.md")]
+mod readme {}

@@ -1,46 +1,39 @@
-//! Where a call with a text that is too long panics: at the caller's line.
+//! A call with a text that is too long panics at the caller's line, also in release builds, with the same message.
 #![cfg(target_pointer_width = "64")]
 
+#[macro_use]
+#[path = "../../rustc_lexer/tests/panics/mod.rs"]
+mod panics;
+
 use marks::{Edition, Format, fault_of, write_first_tokens, write_marked};
+use panics::{panic_message, too_long};
 use rustc_lexer::TokenKind;
-use std::panic::{self, AssertUnwindSafe, catch_unwind};
-use std::sync::Mutex;
 
-/// The file and the line of the last panic.
-static LAST: Mutex<(String, u32)> = Mutex::new((String::new(), 0));
-
-/// The call panics in this line.
-macro_rules! panics_here {
-    ($call:expr) => {
-        assert!(catch_unwind(AssertUnwindSafe(|| $call)).is_err());
-        let last = LAST.lock().unwrap().clone();
-        assert_eq!(last, (file!().to_string(), line!()));
-    };
+#[test]
+fn texts_that_are_too_long() {
+    let (html, newest) = (Format::Html, Edition::NEWEST);
+    let long = too_long();
+    let mut output = String::new();
+    panics_here!(fault_of(TokenKind::Ident, &long));
+    panics_here!(write_marked(html, newest, &long, &mut output));
+    for count in [0, 1] {
+        panics_here!(write_first_tokens(html, newest, count, &long, &mut output));
+    }
+    assert_eq!(output, "");
 }
 
 #[test]
-fn a_text_that_is_too_long() {
-    let told = panic::take_hook();
-    panic::set_hook(Box::new(move |info| {
-        let at = info.location().expect("there is one");
-        *LAST.lock().unwrap() = (at.file().to_string(), at.line());
-        told(info);
-    }));
-    // SAFETY: U+0000 is one byte that is 0.
-    let long = unsafe { String::from_utf8_unchecked(vec![0; 1 << 32]) };
+fn messages() {
+    let (html, newest) = (Format::Html, Edition::NEWEST);
+    let long = too_long();
     let mut output = String::new();
-    panics_here!(fault_of(TokenKind::Ident, &long));
-    panics_here!(write_marked(
-        Format::Html,
-        Edition::E2024,
-        &long,
-        &mut output
-    ));
-    panics_here!(write_first_tokens(
-        Format::Html,
-        Edition::E2024,
-        1,
-        &long,
-        &mut output
-    ));
+    let messages = [
+        panic_message(|| fault_of(TokenKind::Unknown, &long)),
+        panic_message(|| write_marked(html, newest, &long, &mut output)),
+        panic_message(|| write_first_tokens(html, newest, 0, &long, &mut output)),
+        panic_message(|| write_first_tokens(html, newest, 1, &long, &mut output)),
+    ];
+    assert_eq!(messages, ["the text has more than u32::MAX bytes"; 4]);
+    // A text of `u32::MAX` bytes fits. This call reads only its start.
+    assert!(write_first_tokens(html, newest, 0, &long[1..], &mut output).is_ok());
 }

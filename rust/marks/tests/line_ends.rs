@@ -1,5 +1,5 @@
-//! Literals of files whose lines end in CR LF, which rustc reads as a newline. Each row is what rustc says of the literal: its
-//! errors and warnings, and from where to where each goes.
+//! Literals in files with CRLF line endings, which rustc reads as newlines. Each row has the errors and warnings that
+//! rustc reports, with their ranges.
 
 use core::ops::Range;
 use marks::FaultsInFile;
@@ -13,7 +13,7 @@ fn faults(contents: &str, mode: Mode) -> Vec<(Range<usize>, EscapeError)> {
 }
 
 #[test]
-fn strings_over_lines() {
+fn strings() {
     for (contents, wanted) in [
         ("a\r\nb", vec![]),
         ("\r\n", vec![]),
@@ -55,7 +55,7 @@ fn strings_over_lines() {
 }
 
 #[test]
-fn raw_strings_over_lines() {
+fn raw_strings() {
     for mode in RAW_STRINGS {
         assert_eq!(faults("a\r\n\\\r\nb", mode), []);
         let wanted = [(1..2, BareCarriageReturnInRawString)];
@@ -64,10 +64,14 @@ fn raw_strings_over_lines() {
 }
 
 #[test]
-fn between_single_quotes() {
+fn characters_and_bytes() {
     for (contents, wanted) in [
         ("\r\n", (0..2, EscapeOnlyChar)),
         ("(\r\n", (0..3, MoreThanOneChar)),
+        // The range ends after the second character.
+        ("(\r\n)", (0..3, MoreThanOneChar)),
+        ("(\r)", (0..2, MoreThanOneChar)),
+        ("ab\r\n", (0..2, MoreThanOneChar)),
         ("\\\r\n", (0..3, InvalidEscape)),
         ("\\x1\r\n", (0..5, InvalidCharInHexEscape)),
         ("\r", (0..1, BareCarriageReturn)),

@@ -1,4 +1,4 @@
-//! The example of a language server: what it answers is what walking over the whole text from scratch gives.
+//! The example of a language server: its answers equal those of a walk over the whole text.
 
 #[allow(dead_code)]
 #[path = "../examples/lsp.rs"]
@@ -19,7 +19,7 @@ fn full(text: &str) -> Vec<u32> {
     open(text).full()
 }
 
-/// The place after a character, by that character and the next one.
+/// The position after a character, given that character and the next one.
 fn step((line, character): Position, c: char, next: Option<char>) -> Position {
     match c {
         '\n' => (line + 1, 0),
@@ -56,7 +56,7 @@ fn paint(class: Class, word: Option<KeywordKind>) -> Option<(&'static str, u32)>
     }
 }
 
-/// Each part of a token on a line: the token's bytes, where the part begins, its length, its type and its modifiers.
+/// One line of a token: the token's bytes, the start of the line's part, its length, type and modifiers.
 type Part = (Range<usize>, Position, usize, &'static str, u32);
 
 /// The parts of all tokens, character by character.
@@ -90,7 +90,7 @@ fn parts(text: &str) -> Vec<Part> {
     parts
 }
 
-/// The five numbers of each part, from the one before.
+/// The five numbers of each part, relative to the previous one.
 fn numbers(parts: &[Part]) -> Vec<u32> {
     let (mut numbers, mut last) = (Vec::new(), (0, 0));
     for (_, (line, character), length, name, modifiers) in parts {
@@ -104,25 +104,25 @@ fn numbers(parts: &[Part]) -> Vec<u32> {
     numbers
 }
 
-/// Makes the change that an answer asks for.
+/// Applies the change that an answer requests.
 fn apply(sent: &mut Vec<u32>, delta: Delta) {
     sent.splice(delta.start..delta.start + delta.deleted, delta.data);
 }
 
 #[test]
-fn tokens_are_cut_at_line_ends() {
+fn tokens_are_split_at_line_ends() {
     assert_eq!(full(""), []);
     assert_eq!(full("fn"), [0, 0, 2, 1, 0]);
-    // CRLF in a comment and after it, and a carriage return alone
+    // CRLF in a comment and after it, and a bare CR
     let lines = "/* a\r\n b */\r\n\r /// c\r\nfn 'a 1u8";
     #[rustfmt::skip]
     assert_eq!(full(lines), [
         0, 0, 4, 0, 0,  1, 0, 5, 0, 0,  2, 1, 5, 0, 1,
         1, 0, 2, 1, 0,  0, 3, 2, 5, 0,  0, 3, 3, 4, 0,
     ]);
-    // a line of a string may be empty, and plain names and symbols are not shown
+    // a line of a string can be empty, and plain names and symbols are not sent
     assert_eq!(full("a + \"\n\nb\""), [0, 4, 1, 3, 0, 2, 0, 2, 3, 0]);
-    // a shebang line is no token, and a frontmatter is told as a doc comment
+    // a shebang line is no token, and a frontmatter is sent as a doc comment
     #[rustfmt::skip]
     assert_eq!(full("#!/a\n---\nb\n---\nC"), [
         1, 0, 3, 0, 1,  1, 0, 1, 0, 1,  1, 0, 3, 0, 1,  1, 0, 1, 2, 0,
@@ -130,20 +130,20 @@ fn tokens_are_cut_at_line_ends() {
 }
 
 #[test]
-fn words_go_by_the_edition() {
+fn keywords_depend_on_the_edition() {
     let full = |edition| Document::open("async try", edition).unwrap().full();
     assert_eq!(full(Edition::E2015), []);
     assert_eq!(full(Edition::E2018), [0, 0, 5, 1, 0, 0, 6, 3, 1, 0]);
 }
 
 #[test]
-fn positions_count_units_of_utf_16() {
+fn positions_are_in_utf_16_units() {
     let mut document = open("\"é😀\" fn\r\nlet");
     assert_eq!(
         document.full(),
         [0, 0, 5, 3, 0, 0, 6, 2, 1, 0, 1, 0, 3, 1, 0]
     );
-    // past the smiley, inside it, past the line, and past the text
+    // after the smiley, inside it, after the line, and after the text
     document.change(Some((0, 4)..(0, 4)), "b").unwrap();
     document.change(Some((0, 3)..(0, 4)), "c").unwrap();
     document.change(Some((0, 9)..(0, 99)), " //").unwrap();
@@ -160,7 +160,7 @@ fn positions_count_units_of_utf_16() {
 }
 
 #[test]
-fn a_change_tells_little() {
+fn a_delta_is_small() {
     let mut document = open("fn f() { 1 }\n");
     assert_eq!(document.full(), [0, 0, 2, 1, 0, 0, 9, 1, 4, 0]);
     let nothing = |start| Delta {
@@ -197,7 +197,7 @@ fn a_change_tells_little() {
             data: vec![0, 0, 2, 5, 0]
         }
     );
-    // a name in the midst of a long text: the number after it moves, and nothing else is told
+    // a name in the middle of a long text: the number after it moves, and nothing else is sent
     document
         .change(None, &"fn f() { 1 }\n".repeat(1000))
         .unwrap();
@@ -211,7 +211,7 @@ fn a_change_tells_little() {
             data: vec![0, 10, 1, 4, 0]
         }
     );
-    // and a comment that is opened takes all lines after it
+    // a comment that is opened includes all lines after it
     document.change(Some((999, 0)..(999, 0)), "/*").unwrap();
     assert_eq!(
         document.delta(),
@@ -230,7 +230,7 @@ fn a_change_tells_little() {
 }
 
 #[test]
-fn changes_one_after_another() {
+fn successive_changes() {
     let mut document = open("fn f() {}\n/* a\nb */ 1\n'a'");
     let mut sent = document.full();
     document.change(Some((3, 1)..(3, 2)), "\\n").unwrap();
@@ -242,7 +242,7 @@ fn changes_one_after_another() {
         0, 0, 3, 1, 0,  0, 4, 2, 1, 0,
         1, 0, 7, 0, 0,  0, 8, 1, 4, 0,  1, 0, 4, 3, 0,
     ]);
-    // what is in view: the comment from its start on
+    // the visible lines: the comment from its start on
     assert_eq!(
         document.viewport((1, 5)..(1, 9)),
         [1, 0, 7, 0, 0, 0, 8, 1, 4, 0]
@@ -250,7 +250,7 @@ fn changes_one_after_another() {
     assert_eq!(document.viewport((1, 5)..(1, 5)), []);
 }
 
-/// Knuth's linear congruence of 64 bits.
+/// Knuth's linear congruential generator with 64 bits.
 struct Random(u64);
 
 impl Random {
@@ -260,7 +260,7 @@ impl Random {
         ((self.0 >> 33) as usize) % bound
     }
 
-    /// A text of at most so many pieces.
+    /// Returns a text of at most this many pieces.
     fn text(&mut self, most: usize) -> String {
         const PIECES: &str = "fn |a|B| |\n|\r\n|\r|/*|*/|//|/// |\"|'|'c |1.5|é|😀|\u{2028}|#!/b\n|---\n|r#\"|{}|async";
         let pieces: Vec<&str> = PIECES.split('|').collect();
@@ -270,7 +270,7 @@ impl Random {
             .collect()
     }
 
-    /// An offset that a position can have, at most so many bytes after another one.
+    /// Returns an offset that a position can have, at most this many bytes after another one.
     fn place(&mut self, text: &str, from: usize, most: usize) -> usize {
         let mut at = from + self.below(most.min(text.len() - from) + 1);
         while !text.is_char_boundary(at)
@@ -288,7 +288,7 @@ impl Random {
 }
 
 #[test]
-fn answers_are_those_from_scratch() {
+fn random_changes() {
     for seed in 0..400 {
         let mut random = Random(seed);
         let mut text = random.text(40);

@@ -1,10 +1,10 @@
-//! What is written of a whole text: colours and tags, shebang lines, faults over lines, control characters, editions.
+//! The output for whole texts: colours and tags, shebang lines, errors of several lines, control characters, editions.
 
 use marks::Edition::{self, E2015, E2018, E2021, E2024};
 use marks::Format::{self, Colours, Html, NoColours, Raw};
 use marks::write_marked;
 
-/// A format, an edition, a text, and what is written.
+/// A format, an edition, a text, and the output.
 type Row<'a> = (Format, Edition, &'a str, &'a str);
 
 /// Colours, escapes, tags and entities.
@@ -28,7 +28,7 @@ const FORMATS: [Row<'_>; 16] = [
     (Html, E2024, "é", "é"),
 ];
 
-/// Shebang lines, faults over lines, and words that are names too.
+/// Shebang lines, errors of several lines, and weak keywords.
 #[rustfmt::skip]
 const LINES: [Row<'_>; 23] = [
     (Colours, E2024, "#!/usr/bin/env rust\n---\na\n---\nfn", "\x1b[90m#!/usr/bin/env rust\x1b[0m\n\x1b[36m---\na\n---\x1b[0m\n\x1b[35mfn\x1b[0m"),
@@ -81,7 +81,7 @@ const CONTROLS: [Row<'_>; 20] = [
     (NoColours, E2018, "\u{fefe}", "\u{fefe} [<- no token begins with this character]"),
 ];
 
-/// Tokens that editions read in their own ways.
+/// Tokens that depend on the edition.
 #[rustfmt::skip]
 const EDITIONS: [Row<'_>; 16] = [
     (NoColours, E2024, "#\"a\"", "#\" [<- these marks are reserved for strings to come]a [<- no literal has this prefix]\" [<- nothing closes this string]"),
@@ -102,9 +102,8 @@ const EDITIONS: [Row<'_>; 16] = [
     (Colours, E2018, "#!/bin/sh\nz'a'", "\x1b[90m#!/bin/sh\x1b[0m\nz\x1b[32m'a'\x1b[0m"),
 ];
 
-/// Each text is written as its row says.
 #[test]
-fn rows() {
+fn output_of_texts() {
     for (format, edition, text, wanted) in FORMATS
         .into_iter()
         .chain(LINES)

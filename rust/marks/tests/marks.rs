@@ -1,4 +1,4 @@
-//! The calls by hand: what they write, in each format and edition, and an output that fails.
+//! The hand-written calls: their output in each format and edition, and a writer that fails.
 
 use core::fmt;
 use marks::{Edition, Format, literal_contents, write_first_tokens, write_marked};
@@ -7,14 +7,14 @@ use rustc_literal_escaper::Mode;
 
 const NEWEST: Edition = Edition::NEWEST;
 
-/// What is written of the first tokens of a text.
+/// Returns the output for the first tokens of a text.
 fn first(format: Format, edition: Edition, count: usize, text: &str) -> String {
     let mut written = String::new();
     write_first_tokens(format, edition, count, text, &mut written).unwrap();
     written
 }
 
-/// What is written of a whole text.
+/// Returns the output for a whole text.
 fn whole(format: Format, edition: Edition, text: &str) -> String {
     let mut written = String::new();
     write_marked(format, edition, text, &mut written).unwrap();
@@ -22,7 +22,7 @@ fn whole(format: Format, edition: Edition, text: &str) -> String {
 }
 
 #[test]
-fn each_style_has_its_marks() {
+fn formats() {
     let text = "let \u{b7}";
     let page = "<span class=\"keyword\">let</span> <mark title=\"no token begins with this character\">\u{b7}</mark>";
     let colours = "\x1b[35mlet\x1b[0m \x1b[4;31m\u{b7}\x1b[0;31m [<- no token begins with this character]\x1b[0m";
@@ -35,10 +35,13 @@ fn each_style_has_its_marks() {
         assert_eq!(whole(format, NEWEST, text), wanted);
         assert_eq!(first(format, NEWEST, 3, text), wanted);
     }
+    let text = "// \x1b";
+    assert_eq!(first(Format::Raw, NEWEST, 1, text), text);
+    assert_eq!(first(Format::NoColours, NEWEST, 1, text), "// \u{241b}");
 }
 
 #[test]
-fn what_is_between_the_quotes() {
+fn contents_of_literals() {
     for (text, wanted) in [
         (r"'a'", Some((Mode::Char, "a"))),
         (r"b'\''", Some((Mode::Byte, r"\'"))),
@@ -61,9 +64,9 @@ fn what_is_between_the_quotes() {
     }
 }
 
-/// The place of an error counts from the start of the range, also where characters of two bytes come before.
+/// Ranges are in bytes.
 #[test]
-fn where_it_is_between_the_quotes() {
+fn ranges_of_contents() {
     for (text, wanted) in [
         ("'a'", 1..2),
         ("b'a'x", 2..3),
@@ -78,7 +81,7 @@ fn where_it_is_between_the_quotes() {
 }
 
 #[test]
-fn a_part_has_no_shebang_line() {
+fn a_fragment_has_no_shebang_line() {
     let text = "#!/a\nb";
     let marked = "<span class=\"comment\">#!/a</span>\nb";
     assert_eq!(whole(Format::Html, NEWEST, text), marked);
@@ -88,7 +91,7 @@ fn a_part_has_no_shebang_line() {
 }
 
 #[test]
-fn so_many_tokens_are_written() {
+fn the_first_tokens() {
     for (count, wanted) in [
         (0, ""),
         (1, "a"),
@@ -114,7 +117,7 @@ fn so_many_tokens_are_written() {
 }
 
 #[test]
-fn an_edition_has_its_tokens() {
+fn editions() {
     let lifetime =
         "<mark title=\"no lifetime has this prefix\"><span class=\"lifetime\">'a</span></mark>#b";
     assert_eq!(first(Format::Html, Edition::E2021, 3, "'a#b"), lifetime);
@@ -140,9 +143,9 @@ fn an_edition_has_its_tokens() {
     }
 }
 
-/// A carriage return in front of a newline is part of the line end.
+/// A carriage return before a newline is part of the line ending.
 #[test]
-fn a_literal_over_line_ends() {
+fn literals_of_several_lines() {
     let bare = "[<- a carriage return cannot stand here itself: it is written as \\r]";
     let raw = "[<- a raw string cannot hold a carriage return]";
     let lines = "[<- more than one line end is skipped here]";
@@ -175,9 +178,9 @@ fn a_literal_over_line_ends() {
     }
 }
 
-/// A frontmatter stands in front of a whole text alone: to a part its dashes are symbols.
+/// Only a whole text can start with a frontmatter: in a fragment its dashes are symbols.
 #[test]
-fn a_whole_text_has_a_frontmatter() {
+fn only_a_document_has_a_frontmatter() {
     let text = "---\na\n---\nfn";
     let marked = whole(Format::Html, NEWEST, text);
     let (front, rest) = marked.split_once(">---\na\n---</span>\n").unwrap();
@@ -185,7 +188,7 @@ fn a_whole_text_has_a_frontmatter() {
     assert_eq!(first(Format::Html, NEWEST, 3, text), "---");
 }
 
-/// An output that takes so many calls.
+/// A writer that fails after this many calls.
 struct Few(usize);
 
 impl fmt::Write for Few {
@@ -196,7 +199,7 @@ impl fmt::Write for Few {
 }
 
 #[test]
-fn an_error_is_one_of_the_output() {
+fn errors_of_the_writer() {
     let takes = |calls, count| {
         write_first_tokens(Format::Html, NEWEST, count, "a+1", &mut Few(calls)).is_ok()
     };
@@ -206,30 +209,9 @@ fn an_error_is_one_of_the_output() {
     assert!(!marked(0, "#!/a") && marked(99, "#!/a"), "a shebang line");
 }
 
-/// A text of more than `u32::MAX` bytes is too long for either call, in a release, too.
-#[cfg(target_pointer_width = "64")]
+/// A format can be a key of a map.
 #[test]
-fn a_text_that_is_too_long() {
-    let zeros = vec![0; 1 << 32];
-    // SAFETY: U+0000 is one byte that is 0.
-    let text = unsafe { std::str::from_utf8_unchecked(&zeros) };
-    let calls: [&dyn Fn() -> fmt::Result; 3] = [
-        &|| write_marked(Format::Html, NEWEST, text, &mut Few(0)),
-        &|| write_first_tokens(Format::Html, NEWEST, 1, text, &mut Few(0)),
-        &|| write_first_tokens(Format::Html, NEWEST, 0, text, &mut Few(0)),
-    ];
-    for call in calls {
-        let said = std::panic::catch_unwind(std::panic::AssertUnwindSafe(call)).unwrap_err();
-        let wanted = "the text has more than u32::MAX bytes";
-        assert_eq!(said.downcast_ref::<&str>(), Some(&wanted));
-    }
-    // One byte fewer fits. This call reads only the front of it.
-    assert!(write_first_tokens(Format::Html, NEWEST, 0, &text[1..], &mut Few(0)).is_ok());
-}
-
-/// A format may be a key of a map.
-#[test]
-fn a_style_is_a_key() {
+fn a_format_is_a_key() {
     fn is_key<T: Copy + Eq + std::hash::Hash>() {}
     is_key::<Format>();
 }

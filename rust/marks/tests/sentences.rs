@@ -1,9 +1,9 @@
-//! The sentence about each fault, behind the stretch of a text that has it.
+//! The message of each error, after the stretch of text that has it.
 
 use marks::{Edition, Format, write_marked};
 
-/// What is written of texts: each of these without its sentences.
-const WRITTEN: [&str; 79] = [
+/// The output for texts, each of which is this without its messages.
+const WRITTEN: [&str; 83] = [
     "a /* b [<- nothing closes this comment]",
     " --- [<- white space comes before this frontmatter, which begins its line]\n---\n",
     "---a b [<- the first line of this frontmatter holds more than a name]\n---\n",
@@ -66,6 +66,7 @@ const WRITTEN: [&str; 79] = [
     "r#crate [<- this word cannot be a raw name]",
     "r#_ [<- this word cannot be a raw name]",
     "'r#self [<- this word cannot be a raw name]",
+    "'r#super [<- this word cannot be a raw name]",
     "'r#_ [<- this word cannot be a raw name]",
     "r#as 'r#static r#_a selfr",
     "\"a\"_ [<- an underscore alone is no suffix]",
@@ -74,8 +75,11 @@ const WRITTEN: [&str; 79] = [
     "\"a\"__ 'a'_a 1_ 1.0_ 0b1_",
     "/// a [<- a doc comment cannot hold a carriage return that no newline follows]\rb",
     "/** a [<- a doc comment cannot hold a carriage return that no newline follows]\rb */",
+    "/// a [<- a doc comment cannot hold a carriage return that no newline follows]\r\r\n",
+    "/** a [<- a doc comment cannot hold a carriage return that no newline follows]\r\r\n */",
     "/// a\r\n/** a\r\n*/ // a\rb\n/* a\rb */ /*** a\rb */",
     "--- [<- a frontmatter cannot hold a carriage return that no newline follows]\na\rb\n---\n",
+    "--- [<- a frontmatter cannot hold a carriage return that no newline follows]\na\r\r\nb\n---\n",
     "---\na\r\nb\n---\n",
     "// \u{202e} [<- a character here turns the direction of text, so that code looks other than it is]",
     "/** \u{2066} */ [<- a character here turns the direction of text, so that code looks other than it is]",
@@ -85,7 +89,7 @@ const WRITTEN: [&str; 79] = [
     "b\"a\u{202e} [<- this character is not in ASCII, and so is no byte]\"",
 ];
 
-/// What is written without its sentences.
+/// Returns the output without its messages.
 fn text_of(written: &str) -> String {
     let mut parts = written.split(" [<- ");
     let mut text = parts.next().unwrap().to_string();
@@ -95,16 +99,17 @@ fn text_of(written: &str) -> String {
     text
 }
 
-/// Without colours a text is written with the sentence of each fault, and without one where nothing is wrong.
+/// Each error has its message, and a valid token has none.
 #[test]
-fn each_fault_has_its_sentence() {
+fn messages() {
     let hashes = "#".repeat(256);
     let sentence = "a raw string has at most 255 hashes on each side, and this one 256";
     let many = format!("r{hashes}\"a\"{hashes} [<- {sentence}]");
     let dashes = "-".repeat(256);
     let sentence = "a frontmatter has at most 255 dashes on each side, and this one 256";
     let long = format!("{dashes} [<- {sentence}]\n{dashes}\n");
-    for wanted in WRITTEN.into_iter().chain([&*many, &long]) {
+    let longest = format!("{0}\n{0}\n", &dashes[1..]);
+    for wanted in WRITTEN.into_iter().chain([&*many, &long, &longest]) {
         let (text, mut written) = (text_of(wanted), String::new());
         write_marked(Format::Raw, Edition::E2024, &text, &mut written).unwrap();
         assert_eq!(written, wanted);

@@ -1,4 +1,4 @@
-//! What a single token is: its class, the sort of a keyword, and its fault.
+//! The class, the kind of keyword and the error of a single token.
 
 use marks::Edition::{self, E2015, E2018, E2021, E2024};
 use marks::KeywordKind::{self, Reserved, Strict, Weak};
@@ -11,11 +11,11 @@ use std::error::Error;
 const STRICT: &str = "_ as break const continue crate else enum extern false fn for if impl in let loop match mod move \
     mut pub ref return self Self static struct super trait true type unsafe use where while";
 
-/// The reserved ones.
+/// The reserved keywords of all editions.
 const RESERVED: &str =
     "abstract become box do final macro override priv typeof unsized virtual yield";
 
-/// Words that editions took, and words that are none: what each is in the four editions, in their order.
+/// Keywords of some editions, and words that are none: the kind in each of the four editions.
 #[rustfmt::skip]
 const WORDS: [(&str, [Option<KeywordKind>; 4]); 26] = [
     ("async", [None, Some(Strict), Some(Strict), Some(Strict)]),
@@ -47,7 +47,7 @@ const WORDS: [(&str, [Option<KeywordKind>; 4]); 26] = [
 ];
 
 #[test]
-fn words_are_keywords_by_edition() {
+fn keywords() {
     for &edition in Edition::ALL {
         for word in STRICT.split(' ').filter(|word| !word.is_empty()) {
             assert_eq!(
@@ -70,9 +70,8 @@ fn words_are_keywords_by_edition() {
     }
 }
 
-/// The class of each token of texts.
 #[test]
-fn tokens_have_classes() {
+fn classes() {
     use Class::*;
     for (text, wanted) in [
         ("// a", Comment),
@@ -104,7 +103,7 @@ fn tokens_have_classes() {
         assert_eq!(token.len as usize, text.len(), "{text}");
         assert_eq!(class_of(token.kind, text, Edition::E2024), wanted, "{text}");
     }
-    // A word goes by the edition: `dyn` is a name in the first.
+    // `dyn` is not a keyword in the first edition.
     for (edition, wanted) in [
         (E2015, Plain),
         (E2018, Keyword),
@@ -121,18 +120,18 @@ fn tokens_have_classes() {
     );
 }
 
-/// They go into a `Box<dyn Error>`, and with classes and keywords into sets.
+/// A `Fault` is an `Error` and, like classes and keywords, can be stored in a set.
 #[test]
-fn faults_are_errors() {
+fn traits() {
     let error: Box<dyn Error> = Box::new(Fault::UnterminatedByte);
     assert_eq!(error.to_string(), "nothing closes this byte");
     let seen = [1, 2, 1].map(|found| (Fault::TooManyHashes { found }, Class::Text, Strict));
     assert_eq!(HashSet::from(seen).len(), 2);
 }
 
-/// The numbers that `c/rustc_lexer.h` has.
+/// The numbers of `c/rustc_lexer.h`.
 #[test]
-fn numbers_of_classes_and_faults() {
+fn numbers_of_classes_and_errors() {
     assert_eq!(
         [Class::Plain, Class::Doc, Class::Lifetime].map(Class::number),
         [1, 3, 9]
@@ -150,10 +149,10 @@ fn numbers_of_classes_and_faults() {
     assert_eq!(faults.map(Fault::number), [1, 6, 17, 22]);
 }
 
-/// How the frontmatter that a text begins with ends. rustc has an error for each of these: of an unclosed frontmatter, of
-/// white space before its closing dashes, of their number, and of what follows them. It reads CR LF as a newline.
+/// rustc has an error for an unclosed frontmatter, for whitespace before the closing fence, for the number of its
+/// dashes, and for text after it. It reads CRLF as a newline.
 #[test]
-fn frontmatters_end_well_or_not() {
+fn errors_of_frontmatters() {
     use Fault::*;
     let dashes = |opening, closing| Some(FrontmatterCloseMismatch { opening, closing });
     for (text, wanted) in [
@@ -213,9 +212,9 @@ fn frontmatters_end_well_or_not() {
     }
 }
 
-/// The fault of a token depends on its text only where its kind does not tell.
+/// Errors with details from the text.
 #[test]
-fn a_fault_has_what_its_text_has() {
+fn errors_with_details() {
     let kind = LiteralKind::RawStr { n_hashes: None };
     let suffix_start = 0;
     let token = TokenKind::Literal { kind, suffix_start };

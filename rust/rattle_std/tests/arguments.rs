@@ -1,5 +1,5 @@
-//! Arguments of which one is no text. Rust's harness for tests takes none of these, so this is a program without it, which
-//! runs itself with them.
+//! Arguments, one of which is not UTF-8. Rust's test harness rejects them, so this is a program without it that runs
+//! itself.
 
 #[cfg(unix)]
 fn main() {

@@ -1,14 +1,14 @@
-//! The standard streams, the arguments and the environment of this process, and of it run again with others.
+//! The standard streams, the arguments and the environment of this process, which runs itself again with others.
 
 #[cfg(unix)]
 use rattle_std::io::{ErrorKind, IsTerminal, Read, Write};
 use rattle_std::rt;
 
-/// Streams that do not wait: what a call can take at once is taken, and what has nothing yet is at no end. This test runs
-/// itself as a process with such streams.
+/// Non-blocking streams: a write can be partial, and an input without bytes is not at its end. The test runs itself as a
+/// process with such streams.
 #[cfg(unix)]
 #[test]
-fn streams_that_do_not_wait() {
+fn non_blocking_streams() {
     use std::io::Write as _;
     use std::os::fd::OwnedFd;
     use std::os::unix::net::UnixStream;
@@ -19,7 +19,7 @@ fn streams_that_do_not_wait() {
         stdin.set_nonblocking(true).unwrap();
         input.write_all(b"ab").unwrap();
         let ended = Command::new(std::env::current_exe().unwrap())
-            .args(["--exact", "streams_that_do_not_wait"])
+            .args(["--exact", "non_blocking_streams"])
             .env(NAME, "")
             .stdin(OwnedFd::from(stdin))
             .output();
@@ -38,33 +38,33 @@ fn streams_that_do_not_wait() {
     assert_eq!(rattle_std::env::var(&rt, NAME).ok().as_deref(), Some(""));
 }
 
-/// A variable that has a blank alone is set to that. This test runs itself as a process that has it.
+/// A variable with the value of one space. The test runs itself as a process that has it.
 #[test]
-fn a_variable_of_a_blank() {
+fn a_variable_with_a_space() {
     use std::process::Command;
     const NAME: &str = "RATTLE_STD_BLANK";
     if std::env::var_os(NAME).is_none() {
         let mut again = Command::new(std::env::current_exe().unwrap());
-        let again = again.args(["--exact", "a_variable_of_a_blank"]);
+        let again = again.args(["--exact", "a_variable_with_a_space"]);
         return assert!(again.env(NAME, " ").status().unwrap().success());
     }
     let rt = rt::start();
     assert_eq!(rattle_std::env::var(&rt, NAME).ok().as_deref(), Some(" "));
 }
 
-/// One stream is a terminal, and the others are none. This test runs itself as a process with such streams.
+/// One stream is a terminal, the others are not. The test runs itself as a process with such streams.
 #[cfg(target_os = "linux")]
 #[test]
-fn a_stream_that_is_a_terminal() {
+fn terminals() {
     use std::process::Command;
     const NAME: &str = "RATTLE_STD_TERMINAL";
     if std::env::var_os(NAME).is_none() {
         let mut both_ways = std::fs::File::options();
         let terminal = both_ways.read(true).write(true).open("/dev/ptmx");
-        // Some systems make no terminals.
+        // Some systems have no pseudoterminals.
         let Ok(terminal) = terminal else { return };
         let ended = Command::new(std::env::current_exe().unwrap())
-            .args(["--exact", "a_stream_that_is_a_terminal"])
+            .args(["--exact", "terminals"])
             .env(NAME, "")
             .stdin(terminal)
             .output();
@@ -75,7 +75,7 @@ fn a_stream_that_is_a_terminal() {
     assert_eq!(terminals, [true, false, false]);
 }
 
-/// What this process is, by Rust's own calls.
+/// Arguments, variables and streams of this process, next to those of `std`.
 #[test]
 fn the_process() {
     let rt = rt::start();
@@ -87,8 +87,7 @@ fn the_process() {
     assert!(matches!(unset, Err(rattle_std::env::VarError::NotPresent)));
 }
 
-/// A process whose streams are closed from its beginning, and that has a variable which is no text: this test runs itself
-/// as one.
+/// A process that starts with closed streams and has a variable that is not UTF-8: the test runs itself as one.
 #[cfg(unix)]
 #[test]
 fn closed_streams() {

@@ -1,4 +1,4 @@
-//! Lists and texts beside Rust's own, and with each request for memory refused: then an error, and nothing changed.
+//! `Vec` and `String` next to those of `std`. If an allocation fails, a call returns an error and nothing changes.
 #![cfg(feature = "alloc")]
 
 mod refusing;
@@ -13,7 +13,7 @@ fn text(text: &str) -> String {
 
 type OnText = fn(&mut String) -> Result<(), AllocError>;
 
-/// Calls on `aéb`, and what each makes of it where memory is given.
+/// Calls on `aéb`, and the text after each if no allocation fails.
 const ON_TEXTS: [(OnText, &str); 9] = [
     (|text| text.push('é'), "aébé"),
     (|text| text.push_str("a longer text"), "aéba longer text"),
@@ -26,7 +26,7 @@ const ON_TEXTS: [(OnText, &str); 9] = [
         "a longer textb",
     ),
     (|text| text.replace_range(4..4, "12345678"), "aéb12345678"),
-    // more by one byte
+    // one byte longer
     (|text| text.replace_range(0..3, "abcd"), "abcdb"),
     (|text| text.reserve(1000), "aéb"),
     (|text| text.push_str(""), "aéb"),
@@ -39,7 +39,7 @@ fn texts() {
         let mut held = text("aéb");
         assert_eq!(call(&mut held), Ok(()), "call {number}");
         assert_eq!(held.as_str(), wanted, "call {number}");
-        // The room is full, so each that appends has to ask for more.
+        // There is no room left, so each call that appends allocates.
         let mut held = text("aéb");
         let takes_none = number >= 7;
         let answer = given(0, || call(&mut held));
@@ -53,7 +53,7 @@ fn texts() {
     let mut held = text("aéb");
     given(0, || held.truncate(3));
     assert_eq!((held.as_str(), &*held.to_string()), ("aé", "aé"));
-    // A width counts characters, as of each text in Rust.
+    // A width counts characters, as for each text in Rust.
     assert_eq!(std::format!("{held:>4}|{held:-<3}"), "  aé|aé-");
     assert_eq!(std::string::String::from(held), "aé");
     let mut bytes = Vec::new(Global);
@@ -70,7 +70,7 @@ fn texts() {
 
 type OnList = fn(&mut Vec<u8>) -> Result<(), AllocError>;
 
-/// Calls on 1, 2, 2 and what each makes of it where memory is given.
+/// Calls on 1, 2, 2, and the list after each if no allocation fails.
 const ON_LISTS: [(OnList, &[u8]); 5] = [
     (|list| list.push(3), &[1, 2, 2, 3]),
     (
@@ -94,13 +94,13 @@ fn lists() {
         let mut held = list();
         assert_eq!(call(&mut held), Ok(()), "call {number}");
         assert_eq!(held.as_slice(), wanted, "call {number}");
-        // As many as there is room for are there.
+        // The list is full.
         let mut held = list();
         let is_full = (0..100).any(|_| given(0, || held.push(2)).is_err());
         assert!(is_full, "call {number}: there is room for 100 more");
         let full = held.clone();
         let answer = given(0, || call(&mut held));
-        // The third needs more room only where there is little.
+        // The third needs more room only if there is little.
         let takes_none = number >= 3;
         assert!(number == 2 || answer.is_ok() == takes_none, "call {number}");
         assert!(number >= 2 || held == full, "call {number}");
@@ -117,9 +117,9 @@ fn lists() {
     assert_eq!(full.len(), 0);
 }
 
-/// Room for a part of what a call adds is not enough: then the call is refused, and nothing changes.
+/// If there is room for only a part of what a call adds, the call fails and nothing changes.
 #[test]
-fn room_for_a_part() {
+fn too_little_room() {
     for left in 0..20 {
         for (number, (call, wanted)) in ON_TEXTS.into_iter().enumerate() {
             let mut held = text(&["aéb", &"x".repeat(left)].concat());
@@ -141,25 +141,25 @@ fn room_for_a_part() {
 }
 
 #[test]
-fn an_error_says_so() {
+fn error_message() {
     let error: std::boxed::Box<dyn std::error::Error + Send + Sync> = AllocError.into();
     assert_eq!(error.to_string(), "memory allocation failed");
-    // A width changes nothing, as of each error here.
+    // A width has no effect, as for every error here.
     assert_eq!(std::format!("{AllocError:>26}"), "memory allocation failed");
 }
 
-/// What room was made for takes no memory, however much stood there before.
+/// Reserved room needs no allocation, however long the list was before.
 #[test]
-fn room_that_was_made() {
+fn reserved_room() {
     let mut held = text(&"a".repeat(100));
     held.reserve(60).unwrap();
     let more = "b".repeat(60);
     assert_eq!(given(0, || held.push_str(&more)), Ok(()));
 }
 
-/// Room grows by more than what is asked for, so a thousand calls that append ask for memory some ten times.
+/// Room grows by more than is needed, so a thousand appending calls allocate some ten times.
 #[test]
-fn room_that_grows() {
+fn amortized_growth() {
     type Call = fn(&mut String, &mut Vec<u8>) -> Result<(), AllocError>;
     let calls: [Call; 8] = [
         |text, _| text.push('a'),
@@ -178,9 +178,9 @@ fn room_that_grows() {
     }
 }
 
-/// In front of a long text, a short one and a long one take the place of others, or of none.
+/// A short and a long text replace others, or none, before a long text.
 #[test]
-fn replaced() {
+fn replace_range() {
     let e = |count| "é".repeat(count);
     let calls = [
         (2..4, "ab", std::format!("éab{}", e(98))),
@@ -197,9 +197,9 @@ fn replaced() {
     }
 }
 
-/// Room for more is given back, and where the smaller room is refused the larger one stays.
+/// Unused room is returned. If the smaller allocation fails, the larger one stays.
 #[test]
-fn room() {
+fn shrink_to_fit() {
     let mut held = text("aéb");
     held.reserve(1000).unwrap();
     let mut items = list();
@@ -226,7 +226,7 @@ fn room() {
     items.shrink_to_fit();
     assert_eq!(given(0, || held.push_str("1")), Err(AllocError));
     assert_eq!(given(0, || items.push(3)), Err(AllocError));
-    // Room for one more is given back as well.
+    // Room for one element is returned as well.
     for len in [20, 1000] {
         let mut held = text(&"a".repeat(len));
         let mut items = list();

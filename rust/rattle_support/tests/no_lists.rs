@@ -1,11 +1,11 @@
-//! Lists and texts where there is no allocator: what takes memory is refused, and what takes none is not.
+//! `Vec` and `String` without an allocator: calls that allocate fail, and others succeed.
 #![cfg(not(feature = "alloc"))]
 
 use core::fmt::Write;
 use rattle_support::{AllocError, Global, String, Vec};
 
 #[test]
-fn each_request_is_refused() {
+fn allocations_fail() {
     let mut list: Vec<u8> = Vec::new(Global);
     assert_eq!(list.push(1), Err(AllocError));
     assert_eq!(list.extend_from_slice(&[1]), Err(AllocError));
@@ -14,7 +14,7 @@ fn each_request_is_refused() {
     assert_eq!(list.resize(0, 1), Ok(()));
     assert_eq!((list.capacity(), list.reserve_exact(0)), (0, Ok(())));
     assert_eq!(list.reserve_exact(1), Err(AllocError));
-    // As in Rust, to keep more than there is has no effect.
+    // As in Rust, truncating to a larger length has no effect.
     list.truncate(0);
     list.truncate(1);
     list.shrink_to_fit();

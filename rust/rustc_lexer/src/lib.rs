@@ -258,6 +258,11 @@ pub fn settled_in(text: &str, edition: Edition) -> usize {
     erased::settled_in(fitting(text), edition)
 }
 
+// The program of the README.
+#[cfg(doctest)]
+#[doc = include_str!("../README.md")]
+mod readme {}
+
 // Callers that must not compile.
 #[cfg(all(doctest, feature = "alloc"))]
 #[doc = include_str!("../tests/refused.md")]

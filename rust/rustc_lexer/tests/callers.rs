@@ -1,57 +1,23 @@
-//! Where a call panics whose caller broke a rule: at the caller's line.
+//! A call whose caller broke a rule panics at the caller's line.
 
+#[macro_use]
+mod panics;
+
+#[cfg(target_pointer_width = "64")]
+use panics::too_long;
 use rustc_lexer::{
     Cursor, Edition, FrontmatterAllowed, is_seam, settled, settled_in, strip_shebang, tokenize,
     tokenize_as, tokenize_document, tokenize_in, validate_raw_str,
 };
-use std::cell::Cell;
-use std::panic::{self, AssertUnwindSafe, catch_unwind};
-use std::sync::Once;
-
-thread_local! {
-    /// The file and the line of the last panic of this thread.
-    static LAST: Cell<(String, u32)> = const { Cell::new((String::new(), 0)) };
-}
-
-/// Where a call panics.
-fn place<T>(call: impl FnOnce() -> T) -> (String, u32) {
-    static HOOK: Once = Once::new();
-    HOOK.call_once(|| {
-        let told = panic::take_hook();
-        panic::set_hook(Box::new(move |info| {
-            let at = info.location().expect("there is one");
-            LAST.set((at.file().to_string(), at.line()));
-            told(info);
-        }));
-    });
-    let answer = catch_unwind(AssertUnwindSafe(|| drop(call())));
-    assert!(answer.is_err(), "it does not panic");
-    LAST.take()
-}
-
-/// The call panics in this line.
-macro_rules! panics_here {
-    ($call:expr) => {
-        assert_eq!(place(|| $call), (file!().to_string(), line!()))
-    };
-}
-
 #[test]
-fn a_place_that_is_not_in_the_text() {
+fn bad_offsets() {
     panics_here!(is_seam("é", 1, Edition::E2024));
     panics_here!(validate_raw_str("\"", 1));
 }
 
-/// So many bytes that are 0, which the system gives without a look at them.
-#[cfg(target_pointer_width = "64")]
-fn too_long() -> String {
-    // SAFETY: U+0000 is one byte that is 0.
-    unsafe { String::from_utf8_unchecked(vec![0; 1 << 32]) }
-}
-
 #[cfg(target_pointer_width = "64")]
 #[test]
-fn a_text_that_is_too_long() {
+fn texts_that_are_too_long() {
     let (no, newest) = (FrontmatterAllowed::No, Edition::NEWEST);
     let long = too_long();
     let text = long.as_str();
@@ -70,10 +36,11 @@ fn a_text_that_is_too_long() {
 #[cfg(feature = "alloc")]
 mod kept {
     use super::*;
+    use crate::panics::panic_place;
     use rustc_lexer::{Edit, JoinedText, LexedDocument, LexedText, Stepper, Token, TokenKind};
 
     #[test]
-    fn edits_pieces_and_texts() {
+    fn edits_and_pieces() {
         macro_rules! calls {
             ($Kept:ident) => {
                 let mut lexed = $Kept::new("é");
@@ -96,7 +63,7 @@ mod kept {
     }
 
     #[test]
-    fn pieces_that_cannot_be_joined() {
+    fn rejected_pieces() {
         let mut text = JoinedText::new();
         text.push("\"");
         panics_here!(text.push("a"));
@@ -105,7 +72,7 @@ mod kept {
         panics_here!(JoinedText::from_iter(["ab"]).truncate(1));
     }
 
-    /// Its tokens have one byte, and at `!` it panics.
+    /// A stepper whose tokens have one byte, and which panics at `!`.
     #[derive(Clone, PartialEq)]
     struct Bytes;
 
@@ -117,11 +84,11 @@ mod kept {
         }
     }
 
-    /// After a step that panicked there are no tokens, and who asks for them is told so.
+    /// After a step has panicked there are no tokens, so calls that need them panic.
     #[test]
-    fn tokens_that_are_lost() {
+    fn tokens_after_a_panic() {
         let mut text = LexedText::try_with("ab", Bytes).unwrap();
-        place(|| text.edit(1..1, "!"));
+        panic_place(|| text.edit(1..1, "!"));
         let edits: [Edit<'_>; 0] = [];
         panics_here!(text.tokens().len());
         panics_here!(text.pieces());
@@ -138,7 +105,7 @@ mod kept {
         let second = text.clone();
         panics_here!(text == second);
         let mut file = LexedDocument::try_with("ab", Bytes).unwrap();
-        place(|| file.edit(1..1, "!"));
+        panic_place(|| file.edit(1..1, "!"));
         panics_here!(file.body_start());
         panics_here!(file.shebang_len());
     }

@@ -1,4 +1,4 @@
-//! The calls of the binding: what no row of tokens looks at.
+//! The hand-written calls, beyond the test vectors.
 
 use RawStrError::{InvalidStarter, NoTerminator, TooManyDelimiters};
 use rustc_lexer::{
@@ -96,7 +96,7 @@ fn a_try_leaves_a_frontmatter_allowed() {
     }
 }
 
-/// Each of the values is less than those behind it, and equals itself alone.
+/// Asserts that each value is less than those after it and equal only to itself.
 fn ascend<T: Ord + std::fmt::Debug>(values: &[T]) {
     for (at, left) in values.iter().enumerate() {
         for (other, right) in values.iter().enumerate() {
@@ -115,7 +115,7 @@ fn no_terminator(expected: u32, found: u32, offset: Option<u32>) -> RawStrError 
     }
 }
 
-/// Variants, then fields, in the order in which they stand.
+/// Values are ordered by variant, then by field, in the order of their declaration.
 #[test]
 #[rustfmt::skip]
 fn orders_and_numbers() {
@@ -150,8 +150,7 @@ fn orders_and_numbers() {
     ]);
 }
 
-/// Each edition, oldest first, has the word and the number of its year, and no other word or number is one.
-/// Of each family of tokens one, with the fields that its kind has.
+/// One token of each family.
 #[test]
 fn kinds_with_fields() {
     for text in [
@@ -181,9 +180,9 @@ fn kinds_with_fields() {
     assert!(!TokenKind::Eof.has_fields());
 }
 
-/// What a parser passes over, what opens a group and what closes one, and none of all other tokens.
+/// Trivia, opening and closing delimiters.
 #[test]
-fn kinds_that_parsers_tell_apart() {
+fn trivia_and_delimiters() {
     let texts = |text, allowed, is: fn(TokenKind) -> bool| {
         let tokens = tokenize(text, allowed).pieces();
         let some = tokens.filter(|piece| is(piece.token.kind));
@@ -198,6 +197,7 @@ fn kinds_that_parsers_tell_apart() {
     assert_eq!(trivia, "\n| | | |\n|\n|//|\n|/**/| |// a|\n|//// a|\n|/* a");
 }
 
+/// The editions in order, by the text and the number of their years.
 #[test]
 fn years() {
     let years = [
@@ -221,9 +221,8 @@ fn years() {
     }
 }
 
-/// What is said of an error.
 #[test]
-fn errors_say_what_is_wrong() {
+fn error_messages() {
     for (error, said) in [
         (
             InvalidStarter { bad_char: '~' },
@@ -244,7 +243,7 @@ fn errors_say_what_is_wrong() {
     assert_eq!(said, "no edition of Rust has this year");
 }
 
-/// Short texts, each with its tokens.
+/// Short texts with their tokens.
 const SHORT: [(&str, &[TokenKind]); 4] = [
     ("", &[]),
     (" ", &[TokenKind::Whitespace]),
@@ -260,7 +259,7 @@ const LINE: TokenKind = TokenKind::LineComment {
 };
 
 #[test]
-fn each_way_to_take_tokens_gives_the_same() {
+fn all_ways_to_iterate_agree() {
     let long = format!("{}\n// é\n", "let x = 'a' + \"b\"; ".repeat(100));
     let word = ["+", &"a".repeat(100)].concat();
     let texts = SHORT.iter().map(|(text, _)| *text);
@@ -313,9 +312,9 @@ fn each_way_to_take_tokens_gives_the_same() {
     }
 }
 
-/// A guarded string, a raw string and a shebang line in front of much text cost what they read: far less than lexing it.
+/// A call that reads only the start of a long text takes far less time than lexing it.
 #[test]
-fn what_costs_what_it_reads() {
+fn the_rest_of_a_text_costs_nothing() {
     let rest = " b".repeat(1 << 22);
     let start = std::time::Instant::now();
     assert_eq!(tokenize(&rest, FrontmatterAllowed::No).count(), 1 << 23);
@@ -336,9 +335,9 @@ fn what_costs_what_it_reads() {
     assert!(short < whole, "{short:?} for 5000 reads, {whole:?} for all");
 }
 
-/// What is left of a text is a part of it, and outlives what reads it.
+/// The remaining text borrows from the text, not from the iterator or cursor.
 #[test]
-fn what_is_left_is_of_the_text() {
+fn the_remaining_text_outlives_its_iterator() {
     fn by_tokens(text: &str) -> &str {
         let mut tokens = tokenize(text, FrontmatterAllowed::No);
         tokens.next();
@@ -352,9 +351,10 @@ fn what_is_left_is_of_the_text() {
     assert_eq!((by_tokens("a b"), by_cursor("a b")), (" b", " b"));
 }
 
-/// The starts, the ends and the texts of tokens, those of a whole file past its shebang line, whatever was taken before.
+/// Offsets, ranges and texts of pieces, after any number of tokens was taken. In a document they start after the
+/// shebang line.
 #[test]
-fn offsets_of_plain_tokens() {
+fn offsets_of_pieces() {
     let text = "#!a\né +b";
     let whole: &[_] = &[
         (3, 4, "\n"),
@@ -400,9 +400,9 @@ fn first_and_third() {
     assert_eq!(Cursor::new("abcd", FrontmatterAllowed::No).third(), 'c');
 }
 
-/// Each character: white space as the Reference lists it, and words by the tables of this build.
+/// Every character: whitespace as the Reference lists it, identifiers by the tables of this build.
 #[test]
-fn classes() {
+fn classes_of_characters() {
     let spaces = "\t\n\u{b}\u{c}\r \u{85}\u{200e}\u{200f}\u{2028}\u{2029}";
     for c in '\0'..=char::MAX {
         assert_eq!(is_whitespace(c), spaces.contains(c), "{c:?}");
@@ -413,7 +413,7 @@ fn classes() {
         assert_eq!(is_id_continue(c), continues, "{c:?}");
     }
     assert_eq!(UNICODE_VERSION, unicode_ident::UNICODE_VERSION);
-    // That of the tables of the proved source, which this build does not have.
+    // The version of the proved source's tables, which this build does not contain.
     assert_eq!(erased::UNICODE_VERSION, (18, 0, 0));
     let none = "-'😀\0\u{8}\u{e}\u{a0}\u{2027}\u{202a}\u{feff}";
     for (text, is) in [
@@ -434,10 +434,9 @@ fn classes() {
     }
 }
 
-/// Texts that are one word, and texts that are not.
 #[test]
 #[rustfmt::skip]
-fn whole_words() {
+fn identifiers() {
     for text in ["_", "a1", "é", "fn", "while", "\u{2139}", "a\u{b7}", "a\u{200d}"] {
         assert!(is_ident(text), "{text:?}");
     }
@@ -446,7 +445,7 @@ fn whole_words() {
     }
 }
 
-/// Texts, with the lengths of a prefix with which a raw string may begin, and those with which it may not.
+/// Texts with the prefix lengths of a raw string, and with other lengths.
 #[test]
 fn prefixes_of_raw_strings() {
     for (text, with, without) in [
@@ -465,7 +464,7 @@ fn prefixes_of_raw_strings() {
     }
 }
 
-/// The end of the last token that two characters follow: how far each token looks is a table of the documents.
+/// Each offset is the end of the last token that two characters follow.
 #[test]
 fn what_is_settled() {
     for (text, end) in [
@@ -486,9 +485,9 @@ fn what_is_settled() {
     assert!(of_editions.eq([1, 1, 1, 0]));
 }
 
-/// Which calls read a frontmatter, and in which edition. The shebang line is a token to none but the document's.
+/// Which calls read a frontmatter, and in which edition. Only `tokenize_document` skips the shebang line.
 #[test]
-fn each_call_has_its_frontmatter_and_edition() {
+fn frontmatter_and_edition_of_each_call() {
     use FrontmatterAllowed::{No, Yes};
     let text = "---\na\n---\n##";
     let part = [1, 1, 1, 1, 1, 1, 1, 1, 1, 1, 2];
@@ -508,9 +507,9 @@ fn each_call_has_its_frontmatter_and_edition() {
     assert_eq!(lens(document), [1, 9, 1, 2]);
 }
 
-/// A byte order mark in front is a token to each call, and no shebang line and no frontmatter comes behind it.
+/// A byte order mark at the start is a token, and neither a shebang line nor a frontmatter can follow it.
 #[test]
-fn a_mark_in_front() {
+fn a_byte_order_mark() {
     let text = "\u{feff}#!/bin/sh";
     let wanted = [3, 1, 1, 1, 3, 1, 2];
     for allowed in [FrontmatterAllowed::No, FrontmatterAllowed::Yes] {
@@ -533,9 +532,9 @@ fn a_mark_in_front() {
     assert!(!is_ident("\u{feff}a") && !starts_raw("\u{feff}r\"\"", 1));
 }
 
-/// White space leaves it allowed, and every other token ends that.
+/// A frontmatter can follow whitespace, and no other token.
 #[test]
-fn whether_a_frontmatter_is_allowed_still() {
+fn where_a_frontmatter_is_allowed() {
     use FrontmatterAllowed::{No, Yes};
     for (text, first, wanted) in [
         ("\n---\na\n---\nb", Yes, &[Yes, Yes, No, No, No][..]),
@@ -552,7 +551,7 @@ fn whether_a_frontmatter_is_allowed_still() {
     }
 }
 
-/// A clone goes on from where it was made, and takes nothing from the other.
+/// A clone continues where it was made, independently of the original.
 #[test]
 fn clones() {
     let mut cursor = Cursor::new("##x y", FrontmatterAllowed::No);
@@ -566,7 +565,7 @@ fn clones() {
     assert_eq!(tokens.next().map(|token| token.len), Some(7));
 }
 
-/// Equal kinds have one hash, and a set keeps those that are not.
+/// Equal kinds have equal hashes, and different kinds are kept apart.
 #[test]
 fn kinds_in_a_set() {
     let text = "a b 'c' \"d\" 1 0x1 1.0 // \n/// \n/* */ /** */";
@@ -595,7 +594,7 @@ fn more_tokens_than_a_batch() {
     assert_eq!((count, &buffer[..count]), (2000, &*tokens));
 }
 
-/// So many tokens are taken by one call, since fewer than there is room for means that no more come.
+/// One call fills the whole buffer: fewer tokens mean that none is left.
 #[test]
 fn many_tokens_at_once() {
     let text = ";".repeat(70_000);
@@ -604,6 +603,7 @@ fn many_tokens_at_once() {
         let mut buffer = vec![token(TokenKind::Eof, 0); room];
         let mut tokens = tokenize(&text, FrontmatterAllowed::No);
         assert_eq!((tokens.fill(&mut buffer), tokens.as_str()), (70_000, ""));
+        assert_eq!(tokens.fill(&mut buffer), 0, "after the last token");
         assert!(buffer[..70_000] == wanted, "in a room for {room}");
     }
     let tokens = tokenize(&text, FrontmatterAllowed::No);
@@ -632,7 +632,7 @@ fn many_tokens_at_once() {
     }
 }
 
-/// A word and a string of so many bytes.
+/// An identifier and a string of 70,000 bytes.
 #[test]
 fn long_tokens() {
     let word = "a".repeat(70_000);
@@ -645,7 +645,7 @@ fn long_tokens() {
 }
 
 #[test]
-fn tokens_that_are_skipped() {
+fn skipped_tokens() {
     let mut tokens = tokenize("a + bc d", FrontmatterAllowed::No);
     assert_eq!(tokens.nth(2).map(|token| token.kind), Some(TokenKind::Plus));
     assert_eq!(tokens.as_str(), " bc d");
@@ -655,7 +655,7 @@ fn tokens_that_are_skipped() {
 }
 
 #[test]
-fn a_frontmatter_behind_a_batch_of_white_space() {
+fn a_frontmatter_after_whitespace() {
     let mut tokens = tokenize("\n---\na\n---\nb", FrontmatterAllowed::Yes);
     assert_eq!(tokens.next().map(|token| token.len), Some(1));
     assert_eq!(tokens.next().map(|token| token.len), Some(9));
@@ -667,7 +667,7 @@ fn a_frontmatter_behind_a_batch_of_white_space() {
 }
 
 #[test]
-fn hashes_without_number() {
+fn too_many_hashes() {
     let text = format!("r{0}\"abc\"{0}", "#".repeat(256));
     let error = RawStrError::TooManyDelimiters { found: 256 };
     assert_eq!(validate_raw_str(&text, 1), Err(error));
@@ -675,13 +675,13 @@ fn hashes_without_number() {
 
 #[test]
 #[should_panic(expected = "character number `prefix_len`, from 1, is not `r`")]
-fn a_check_of_no_raw_string() {
+fn a_text_that_is_no_raw_string() {
     let _ = validate_raw_str("b\"a\"", 2);
 }
 
-/// What callers count on: an error goes behind `?`, an iterator that has ended stays so, and each type has a name here.
+/// Traits that callers rely on. Errors work with `?`, iterators are fused, and every type can be named.
 #[test]
-fn traits_that_are_taken_for_granted() {
+fn traits() {
     fn is_error<T: std::error::Error + Send + Sync + Copy + 'static>() {}
     fn stays_at_its_end<T: std::iter::FusedIterator + Clone + std::fmt::Debug>() {}
     #[cfg(feature = "alloc")]
@@ -737,10 +737,10 @@ fn traits_that_are_taken_for_granted() {
     }
 }
 
-/// More editions and more reasons may come, so that an arm for them is no arm for nothing.
+/// Editions and errors are non-exhaustive.
 #[test]
 #[deny(unreachable_patterns)]
-fn more_may_come() {
+fn non_exhaustive_enums() {
     use Edition::*;
     match E2024 {
         E2015 | E2018 | E2021 | E2024 => {}
@@ -760,9 +760,9 @@ fn more_may_come() {
     }
 }
 
-/// Runs of each length up to some blocks of bytes, with the token that ends them, and with nothing behind them.
+/// Tokens of every length up to a few SIMD blocks, at the end of the text and before another token.
 #[test]
-fn runs_of_each_length() {
+fn tokens_of_every_length() {
     for (front, run, stop) in [
         ("a", "b", "+"),
         (" ", " ", "a"),
@@ -786,9 +786,9 @@ fn runs_of_each_length() {
     }
 }
 
-/// A long text with a frontmatter, many tokens at once and one by one.
+/// `fill` and `next` return the same tokens of a long text with a frontmatter.
 #[test]
-fn a_long_document_is_filled_as_it_is_stepped() {
+fn fill_agrees_with_next() {
     let text = format!("\n---\na = 1\n---\n{}", "let x = 'r#a + \"b\";".repeat(30));
     for &edition in Edition::ALL {
         let start = || tokenize_as(&text, FrontmatterAllowed::Yes, edition);
@@ -811,12 +811,11 @@ fn a_long_document_is_filled_as_it_is_stepped() {
     }
 }
 
-/// Each token of a long text is the first one of the text that is left, which a cursor reads by itself: whatever the
-/// iterator remembers, and if some are written to a buffer in between.
+/// Whatever an iterator has cached, each token is the first one that a new cursor finds in the remaining text.
 #[test]
-fn what_an_iterator_remembers_changes_no_token() {
+fn cached_state_changes_no_token() {
     let line = "let x = 'r#a + b\"c\"; /* d */ fn éa(g: &'h str) { } 0x1f.i()  \u{2028}j // k\n";
-    // Each has more bytes than are searched at once.
+    // Each run is longer than a SIMD block.
     let runs = [" ", "l"].map(|run| run.repeat(70)).join("'m'; ");
     let text = format!("n{runs}/{line}").repeat(40);
     for room in 0..5 {
@@ -841,10 +840,10 @@ fn what_an_iterator_remembers_changes_no_token() {
 }
 
 #[test]
-fn what_is_written_of_values() {
+fn formatting() {
     assert_eq!(format!("{:?}", FrontmatterAllowed::Yes), "Yes");
     assert_eq!(format!("{:?}", FrontmatterAllowed::No), "No");
-    // A width changes nothing, as of each enum that derives it.
+    // A width has no effect, as in each derived `Debug` of an enum.
     assert_eq!(format!("{:>9?}", FrontmatterAllowed::No), "No");
     let cursor = Cursor::new("a b", FrontmatterAllowed::No);
     assert_eq!(format!("{cursor:?}"), r#"Cursor("a b")"#);
@@ -854,7 +853,7 @@ fn what_is_written_of_values() {
     let pieces = tokens.clone().pieces();
     assert_eq!(format!("{pieces:?}"), r#"TokenPieces(" b")"#);
     assert_eq!(format!("{:?}", Steps::new()), "Steps { .. }");
-    // What is written over lines is indented, as of each type that derives it.
+    // Alternate output is indented, as in each derived `Debug`.
     let lines = format!("{cursor:#?} {tokens:#?}");
     assert_eq!(lines, "Cursor(\n    \"a b\",\n) Tokens(\n    \" b\",\n)");
     assert_eq!(format!("{:>6}", Edition::E2021), "  2021");

@@ -1,5 +1,5 @@
-//! The calls that edit a kept text beside their definition, by a stepper that counts: it takes exactly the steps that
-//! are to be taken, also where an edit is refused.
+//! The calls that edit a `LexedText` next to their definition, with a stepper that counts: each call takes exactly the
+//! steps of the definition, also if an edit is rejected.
 
 mod defined;
 mod made;
@@ -18,7 +18,7 @@ use rustc_lexer::{
 };
 use std::ops::{Range, RangeInclusive};
 
-/// What texts and edits are made of: what begins, ends and breaks a shebang line, a frontmatter and other tokens.
+/// Random texts and edits consist of these: they start, end and break shebang lines, frontmatters and other tokens.
 #[rustfmt::skip]
 const BITS: &[&str] = &[
     "#!", "#", "!", "[", "/", "\n", "\n", " ", "---", "---\n", "\n---", "-", "use ", "\nuse ", "//", "/*", "*/",
@@ -26,7 +26,7 @@ const BITS: &[&str] = &[
     "let x = 1;",
 ];
 
-/// What texts begin with: the heads of documents, each alone and both together, also behind a byte order mark.
+/// The starts of texts: each head of a document, both together, and after a byte order mark.
 const FRONTS: [&str; 6] = [
     "",
     "#!/bin/sh\n",
@@ -36,7 +36,7 @@ const FRONTS: [&str; 6] = [
     "\u{feff}#!/bin/sh\n---\n---\n",
 ];
 
-/// After a call the text is that which was made, and so many steps were taken.
+/// Asserts that a call made this text and took a number of steps in the range.
 fn check<K: Kept>(
     held: &K,
     before: usize,
@@ -52,7 +52,7 @@ fn check<K: Kept>(
     );
 }
 
-/// A list by both calls, which are the same but for their answers. Returns what was made.
+/// Applies a list with `edit_all` and with `edit_each`. Returns what both made.
 fn list<K: Kept>(held: &mut K, text: &str, language: Language, edits: &[Edit<'_>]) -> Made {
     let made = of_list::<K>(text, language, edits);
     let context = format!("{text:?} with {edits:?} in {language:?}");
@@ -67,7 +67,7 @@ fn list<K: Kept>(held: &mut K, text: &str, language: Language, edits: &[Edit<'_>
     made
 }
 
-/// Edits at once. Returns the text that they leave.
+/// Applies edits with `edit_at_once`. Returns the text that they leave.
 fn all<K: Kept>(held: &mut K, text: &str, language: Language, edits: &[Edit<'_>]) -> String {
     let context = format!("{text:?} with {edits:?} at once in {language:?}");
     let (before, made) = (held.steps(), of_all::<K>(text, language, edits));
@@ -81,7 +81,7 @@ fn all<K: Kept>(held: &mut K, text: &str, language: Language, edits: &[Edit<'_>]
     made.text
 }
 
-/// Another text.
+/// Replaces the text with `set_text`.
 fn other<K: Kept>(held: &mut K, text: &str, language: Language, other: &str) {
     let context = format!("{text:?} becomes {other:?} in {language:?}");
     let (before, made) = (held.steps(), of_other::<K>(text, language, other));
@@ -93,7 +93,7 @@ fn other<K: Kept>(held: &mut K, text: &str, language: Language, other: &str) {
     check(held, before, &made, made.steps..=made.steps, &context);
 }
 
-/// Ranges that are none of a text: reversed, inside a character, and past the end in four ways.
+/// Invalid ranges of a text: reversed, inside a character, and past the end in four ways.
 fn bad_ranges(text: &str) -> Vec<Range<usize>> {
     let len = text.len();
     let mut ranges = vec![len + 1..len, len..len + 1, len + 1..len + 1, 0..usize::MAX];
@@ -107,7 +107,7 @@ fn bad_ranges(text: &str) -> Vec<Range<usize>> {
     ranges
 }
 
-/// Ranges and what each inserts.
+/// Ranges with what each inserts.
 type Edits = Vec<(Range<usize>, String)>;
 
 fn as_edits(edits: &Edits) -> Vec<Edit<'_>> {
@@ -126,7 +126,7 @@ impl Random {
         ranges[self.below(ranges.len())].clone()
     }
 
-    /// So many edits in order, anywhere, in front or near the one before, of which few are bad.
+    /// Edits one after another, anywhere, at the start or near the previous one. Few are invalid.
     fn list(&mut self, text: &str, count: usize) -> Edits {
         let (mut text, mut edits, mut at) = (text.to_owned(), Edits::new(), 0);
         for _ in 0..count {
@@ -151,7 +151,7 @@ impl Random {
         edits
     }
 
-    /// So many edits of one text, in order, of which few are bad.
+    /// Edits of one text, in order. Few are invalid.
     fn all(&mut self, text: &str, count: usize) -> Edits {
         let (mut edits, mut from) = (Edits::new(), 0);
         for _ in 0..count {
@@ -163,7 +163,7 @@ impl Random {
         }
         if self.below(20) == 0 && count > 0 {
             let mut bad = bad_ranges(text);
-            // before the end of the one in front of it
+            // before the end of the previous one
             bad.extend([0..0, 0..text.len()]);
             let at = self.below(count);
             edits[at].0 = self.one_of(bad);
@@ -172,7 +172,7 @@ impl Random {
     }
 }
 
-/// Lists of edits, edits at once and other texts by turns.
+/// Lists of edits, edits at once and new texts in turns.
 fn rounds<K: Kept>(count: usize, seed: u64) {
     let mut random = Random(seed, BITS);
     let (mut edits_made, mut steps, mut stopped) = (0, 0, 0);
@@ -206,16 +206,16 @@ fn rounds<K: Kept>(count: usize, seed: u64) {
     );
 }
 
-/// A thousand rounds of each kind, or half as many as the variable EDITS says.
+/// A thousand rounds of each kind, or half the number in the variable EDITS.
 #[test]
-fn random_lists_are_counted() {
+fn random_lists() {
     let asked = std::env::var("EDITS").map(|count| count.parse());
     let count: usize = asked.map_or(2_000, |count| count.expect("EDITS is a number"));
     rounds::<Part>(count / 2, 11);
     rounds::<Whole>(count / 2, 12);
 }
 
-/// Lists and edits at once of every length up to some, over each front.
+/// Lists and edits at once of many lengths, after each start of a text.
 fn lengths<K: Kept>() {
     let mut random = Random(21, BITS);
     for len in (0..=70).chain(127..=130) {
@@ -237,7 +237,7 @@ fn lists_of_every_length() {
     lengths::<Whole>();
 }
 
-/// A long list whose edits replace each `a` of a text, and what they make of it, one after another.
+/// A long list whose edits replace each `a` of a text, and a function that returns the text after some of them.
 fn replacing(front: &str) -> (Vec<Edit<'static>>, impl Fn(usize) -> String + use<>) {
     let from = front.len();
     let edits = (0..100)
@@ -249,8 +249,8 @@ fn replacing(front: &str) -> (Vec<Edit<'static>>, impl Fn(usize) -> String + use
     (edits, text)
 }
 
-/// A bad edit of each sort in a long list, at its ends and within: those before it stand, and none behind it is made.
-/// At once none is.
+/// An invalid edit of each sort in a long list, at its ends and inside: the edits before it stay applied.
+/// `edit_at_once` applies none.
 fn bad_edits<K: Kept>() {
     for front in ["", "#!/é\n---\na\n---\n"] {
         let (edits, text) = replacing(front);
@@ -263,7 +263,7 @@ fn bad_edits<K: Kept>() {
                 assert_eq!(stop, Err(EditStop::Range { at }), "{range:?}");
                 assert_eq!(made.text, text(at), "{range:?}");
             }
-            // before the end of the one in front of it, which is no range that is bad by itself
+            // before the end of the previous one, so valid by itself
             let of_text = |at: usize| edit(front.len() + 2 * at, front.len() + 2 * at + 1, "bb");
             let early = (at > 0).then(|| front.len()..front.len() + 2 * at);
             for range in bad_ranges(&text(0)).into_iter().chain(early) {
@@ -279,16 +279,16 @@ fn bad_edits<K: Kept>() {
 }
 
 #[test]
-fn bad_edits_of_long_lists() {
+fn invalid_edits_in_long_lists() {
     bad_edits::<Part>();
     bad_edits::<Whole>();
 }
 
 const NEWEST: Language = Some(Edition::E2024);
 
-/// Each request of a list for memory refused, alone and with all after it: the edits before that which asked for it are
-/// made, that one is not tried again, and it took no step that it does not take where it is made. Then the others can
-/// be made.
+/// Each allocation of a list fails, alone and with all after it: the edits before the failure stay applied, and the
+/// failed edit is not tried again and took no step that it would not take otherwise. Then the other edits can be
+/// applied.
 fn list_refused<K: Kept>(text: &str, language: Language, edits: &[Edit<'_>]) {
     let made = |count: usize| of_list::<K>(text, language, &edits[..count]);
     let made: Vec<Made> = (0..=edits.len()).map(made).collect();
@@ -331,7 +331,7 @@ fn list_refused<K: Kept>(text: &str, language: Language, edits: &[Edit<'_>]) {
     }
 }
 
-/// The same of a call that makes one edit: all is as it was, and the call can be made then.
+/// The same for a call that applies one edit: nothing changes, and then the call succeeds.
 fn one_refused<K: Kept>(
     text: &str,
     language: Language,
@@ -393,15 +393,15 @@ fn stop_at(stopped: Stopped) -> usize {
 }
 
 #[test]
-fn requests_for_memory() {
+fn allocation_failures() {
     refused::<Part>();
     refused::<Whole>();
 }
 
-/// Where a shebang line ends, and where the body begins.
+/// The end of the shebang line and the start of the body.
 type Ends = (usize, usize);
 
-/// Insertions that make, end or change a head, from each side, and what stands there before and after. Worked by hand.
+/// Insertions that create, end or change a head, from each side, with the head before and after, by hand.
 #[rustfmt::skip]
 const HEADS: &[(&str, Ends, usize, &str, Ends)] = &[
     // a shebang line
@@ -449,7 +449,7 @@ const HEADS: &[(&str, Ends, usize, &str, Ends)] = &[
     ("a", (0, 0), 0, "#!x\n---\n---\n", (3, 11)),
 ];
 
-/// One edit by each call that edits, alone and between two that change nothing.
+/// Applies one edit with each call, alone and between two edits that change nothing.
 fn by_each_call<K: Kept>(text: &str, language: Language, edit: Edit<'_>) -> Made {
     let nothing = Edit {
         start: 0,
@@ -472,7 +472,7 @@ fn by_each_call<K: Kept>(text: &str, language: Language, edit: Edit<'_>) -> Made
     made
 }
 
-/// Each edit of a head, and the one that takes it back.
+/// Each edit of a head, and the edit that undoes it.
 #[test]
 fn edits_of_heads() {
     for &(text, ends, at, insert, new_ends) in HEADS {
@@ -493,7 +493,7 @@ fn edits_of_heads() {
     }
 }
 
-/// Each character is one token.
+/// A stepper whose tokens are single characters.
 #[derive(Clone)]
 struct Characters;
 
@@ -504,10 +504,10 @@ impl Stepper for Characters {
     }
 }
 
-/// Edits with what they keep in front, lex and keep at the back, worked by hand, by two steppers: the steps of one that
-/// counts are exactly the tokens that are lexed, and a grammar that is not the lexer's is kept.
+/// Edits with their counts, by hand, by two steppers: one that counts takes one step for each token that is lexed, and
+/// one has a grammar of its own.
 #[test]
-fn edits_by_steppers() {
+fn edits_with_steppers() {
     use Edition::{E2018, E2024};
     for (text, edition, range, insert, kept) in [
         ("", E2024, 0..0, "", counts(0, 0, 0)),
@@ -541,4 +541,29 @@ fn edits_by_steppers() {
     assert_eq!(counted.steps() - before, 1, "steps of {edits:?}");
     assert_eq!(counted.edit_all(&[]), Ok(()));
     assert_eq!(counted.steps() - before, 1, "steps of an empty list");
+}
+
+/// Typing a letter and deleting it lexes the tokens next to it, however long the text is.
+#[test]
+fn typing_lexes_few_tokens() {
+    for lines in [2, 1_000] {
+        let text = "fn main() {}\n".repeat(lines);
+        let mut held = Part::held(&text, NEWEST);
+        for (at, typed, deleted) in [
+            (
+                text.len() / 2,
+                &["}", "\n", "xfn"][..],
+                &["}", "\n", "fn"][..],
+            ),
+            (text.len(), &["}", "\n", "x"], &["}", "\n"]),
+        ] {
+            for (edit, lexed) in [(edit(at, at, "x"), typed), (edit(at, at + 1, ""), deleted)] {
+                let before = held.steps();
+                let relexed = Kept::try_edit(&mut held, &edit).unwrap();
+                let pieces = held.pieces_of_tokens(relexed.changed_tokens());
+                assert!(pieces.map(|piece| piece.text).eq(lexed.iter().copied()));
+                assert_eq!(held.steps() - before, lexed.len());
+            }
+        }
+    }
 }

@@ -1,4 +1,4 @@
-//! What the lexer takes from the crates below it, in the version that Cargo picked, or of what stands in for them (`stand_ins`).
+//! What the lexer needs of `memchr` and `unicode-ident`, in the versions that Cargo picked, or of their stand-ins.
 
 use memchr::{memchr, memchr2, memchr3, memmem, memrchr};
 use unicode_ident::{is_xid_continue, is_xid_start};
@@ -21,9 +21,9 @@ fn searches() {
     }
 }
 
-/// Also characters that Unicode 15.1 and later have in words.
+/// Identifiers, also with characters of Unicode 15.1 and later.
 #[test]
-fn words() {
+fn identifiers() {
     for (text, is) in [
         ("azAZé\u{2139}\u{30000}", (true, true)),
         (

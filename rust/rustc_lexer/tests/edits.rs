@@ -1,4 +1,4 @@
-//! A text that is kept with its tokens, against lexing it from scratch and against what an edit is to keep.
+//! Edits of a `LexedText`: the tokens next to a full re-lex, and what an edit must keep.
 
 mod made;
 mod random;
@@ -13,7 +13,7 @@ use rustc_lexer::{
 use std::ops::Range;
 use std::panic::catch_unwind;
 
-/// What edits are made of: pieces that change what stands around them.
+/// Random texts and edits consist of these: they change the tokens next to them.
 #[rustfmt::skip]
 const BITS: &[&str] = &[
     "a", "bc", "r", "k", "br", "c", "1", "0x", "e", ".", "_", " ", "\n", "\t", "é", "😀", "\u{3b1}", "\"", "'",
@@ -21,18 +21,18 @@ const BITS: &[&str] = &[
     "let x = 1;", "fn f() {}\n", "'a", "\u{200d}",
 ];
 
-/// More edits than any number of 16 bits counts.
+/// More edits than a `u16` counts.
 const MANY: usize = 70_000;
 
 impl Random {
-    /// A range between characters, mostly short.
+    /// A range between characters, usually short.
     fn range(&mut self, text: &str) -> Range<usize> {
         let most = if self.below(20) == 0 { text.len() } else { 8 };
         self.range_in(text, text.len(), most)
     }
 }
 
-/// The ends of the tokens, with 0 before them.
+/// The token boundaries.
 fn bounds(tokens: &[Token]) -> Vec<usize> {
     let mut bounds = vec![0];
     for token in tokens {
@@ -41,7 +41,7 @@ fn bounds(tokens: &[Token]) -> Vec<usize> {
     bounds
 }
 
-/// What the edit is to keep in front, to lex and to keep at the back, counted as docs/RELEXING.md says it.
+/// The counts of an edit, by the rules of docs/RELEXING.md.
 fn wanted(
     old_text: &str,
     old: &[Token],
@@ -112,9 +112,9 @@ fn random_edits_of_short_texts() {
     }
 }
 
-/// Ten thousand edits of one text in each edition, or as many as the variable EDITS says.
+/// Ten thousand edits of one text in each edition, or the number in the variable EDITS.
 #[test]
-fn many_edits_of_one_text_in_each_edition() {
+fn many_edits_of_one_text() {
     let asked = std::env::var("EDITS").map(|count| count.parse());
     let count = asked.map_or(10_000, |count| count.expect("EDITS is a number"));
     for &edition in Edition::ALL {
@@ -148,7 +148,7 @@ fn random_edits_of_a_long_text() {
 }
 
 #[test]
-fn more_tokens_than_the_room_of_one_call() {
+fn more_tokens_than_one_batch() {
     let mut lexed = LexedText::new("a + b");
     edit_and_check(&mut lexed, 1..1, &" - c".repeat(10_000));
     edit_and_check(&mut lexed, 0..0, "/*");
@@ -160,7 +160,7 @@ fn more_tokens_than_the_room_of_one_call() {
 }
 
 #[test]
-fn the_example_of_the_documents() {
+fn the_example_in_the_documents() {
     let mut lexed = LexedText::new("let ab = cd + ef;");
     edit_and_check(&mut lexed, 12..13, "- 1 -");
     assert_eq!(lexed.edit(12..17, "+"), counts(6, 3, 3));
@@ -185,10 +185,10 @@ fn editions() {
     assert_eq!(tokenize_in("", Edition::E2015).next(), None);
 }
 
-/// Tokens of another edition, by the call that makes a text anew and by that of the proved source, which lexes it again.
-/// Room is given back with nothing else changed.
+/// `set_edition`, by a new text and by the proved source, which lexes the old text again. `shrink_to_fit` changes
+/// nothing.
 #[test]
-fn another_edition() {
+fn set_edition() {
     let lifetime = TokenKind::Lifetime {
         starts_with_number: false,
     };
@@ -222,10 +222,10 @@ fn another_edition() {
     rows!(proved.unwrap(), set_edition);
 }
 
-/// A range has to be inside the text and between characters, in a shebang line too.
+/// A range must be inside the text and between characters, also in a shebang line.
 #[test]
 #[allow(clippy::reversed_empty_ranges)]
-fn what_is_not_accepted() {
+fn ranges_that_are_not_accepted() {
     for (range, good) in [
         (0..0, true),
         (2..4, true),
@@ -241,7 +241,7 @@ fn what_is_not_accepted() {
     }
 }
 
-/// What the calls say that have no answer for a range.
+/// The messages of calls that panic at an invalid range.
 #[test]
 #[allow(clippy::reversed_empty_ranges)]
 fn ranges_that_panic() {
@@ -273,9 +273,9 @@ fn ranges_that_panic() {
     }
 }
 
-/// Ranges that are none, and what a call says that has no answer for them. Text and tokens stay as they were.
+/// Invalid ranges: `try_edit` and the lists return an error, and text and tokens stay the same.
 #[test]
-fn ranges_that_are_refused() {
+fn ranges_that_are_rejected() {
     #[allow(clippy::reversed_empty_ranges)]
     for range in [1..2, 2..3, 0..4, 4..4, 3..1, usize::MAX..usize::MAX] {
         let mut text = LexedText::new("aé");
@@ -304,13 +304,13 @@ fn ranges_that_are_refused() {
         (EditError::Memory, "Memory", "memory allocation failed"),
     ] {
         assert_eq!(format!("{error} {error:?}"), format!("{said} {name}"));
-        // Who prints an error with its sources prints no words twice.
+        // An error printed with its sources repeats nothing.
         assert!(std::error::Error::source(&error).is_none(), "{name}");
     }
     assert_eq!(EditError::from(rustc_lexer::AllocError), EditError::Memory);
 }
 
-/// Edits in order: each is of the text that those before it made.
+/// Each edit of a list has offsets of the text that the previous edits made.
 #[test]
 fn a_list_of_edits() {
     let edits = [edit(8, 8, "z"), edit(0, 3, "")];
@@ -320,34 +320,34 @@ fn a_list_of_edits() {
     assert_eq!((lexed.text(), lexed.tokens().len()), ("cd efz", 3));
     assert_eq!(lexed.edit_all(&[]), Ok(()));
     assert_eq!(lexed.text(), "cd efz");
-    // Each of many is made.
+    // All of many edits are applied.
     let edits: Vec<_> = (0..MANY).map(|at| edit(at, at, ";")).collect();
     let (mut text, mut document) = (LexedText::new(""), LexedDocument::new(""));
     assert_eq!(text.edit_all(&edits), Ok(()));
     assert_eq!(document.edit_each(&edits), Ok(counts(0, MANY, 0)));
     assert_eq!((text.tokens().len(), document.tokens().len()), (MANY, MANY));
-    // At once all are of the text that is there.
+    // At once, all have offsets of the current text.
     let edits = vec![edit(0, 0, ";"); MANY];
     assert_eq!(text.edit_at_once(&edits), Ok(counts(0, MANY, MANY)));
     assert_eq!(text.tokens().len(), 2 * MANY);
 }
 
-/// What all edits of a list keep, worked by hand. The tokens have one byte each.
+/// What all edits of a list keep, by hand. Each token has one byte.
 #[test]
 fn what_a_list_keeps() {
     for (edits, kept) in [
-        // None: all stay at the front.
+        // No edit: all tokens stay at the front.
         (&[][..], counts(13, 0, 0)),
-        // One: what `edit` returns.
+        // One edit: the counts that `edit` returns.
         (&[edit(8, 9, "+")][..], counts(6, 3, 4)),
         // The front of the later edit and the back of the earlier one, and the other way round.
         (&[edit(8, 9, "+"), edit(4, 5, "-")], counts(2, 7, 4)),
         (&[edit(4, 5, "-"), edit(8, 9, "+")], counts(2, 7, 4)),
-        // One that makes three tokens of two, and one that takes them out again: what was lexed is not old.
+        // One edit makes three tokens of two, and one removes them again: tokens that were lexed are not old.
         (&[edit(8, 9, "+ 1"), edit(8, 11, "e")], counts(6, 3, 4)),
         // The first opens a comment to the end, the second closes it.
         (&[edit(6, 6, "/*"), edit(9, 9, "*/")], counts(4, 9, 0)),
-        // All of the text is taken out.
+        // The whole text is removed.
         (&[edit(0, 13, "")], counts(0, 0, 0)),
     ] {
         let mut text = LexedText::new("a b c d e f g");
@@ -358,12 +358,12 @@ fn what_a_list_keeps() {
     }
 }
 
-/// Another text is one edit of what differs, at characters' bounds. Worked by hand.
+/// `set_text` is one edit of what differs, on character boundaries. By hand.
 #[test]
-fn another_text() {
+fn set_text() {
     for (old, new, range, insert, kept) in [
         ("a b c d e f g", "a b c d + f g", 8..9, "+", counts(6, 3, 4)),
-        // The bytes of both characters begin alike, and end alike.
+        // Both characters start with the same bytes, and end with the same bytes.
         ("a \u{e9} c", "a \u{e8} c", 2..4, "\u{e8}", counts(0, 3, 2)),
         (
             "a \u{e9} c",
@@ -372,7 +372,7 @@ fn another_text() {
             "\u{129}",
             counts(0, 3, 2),
         ),
-        // Front and back may not overlap.
+        // Front and back must not overlap.
         ("a;;b", "a;;;b", 3..3, ";", counts(1, 3, 1)),
         ("a;;;b", "a;;b", 3..4, "", counts(1, 2, 1)),
         ("a", "", 0..1, "", counts(0, 0, 0)),
@@ -393,15 +393,15 @@ fn another_text() {
     }
 }
 
-/// How many bytes two texts have in common in front, counted by characters.
+/// The length of the common prefix of two texts, on a character boundary.
 fn common(old: impl Iterator<Item = char>, new: impl Iterator<Item = char>) -> usize {
     let both = old.zip(new).take_while(|(old, new)| old == new);
     both.map(|(char, _)| char.len_utf8()).sum()
 }
 
-/// Any text becomes any other one by the edit of what differs. Long texts take blocks.
+/// `set_text` of random texts. Long ones are compared in blocks.
 #[test]
-fn random_other_texts() {
+fn random_new_texts() {
     macro_rules! others {
         ($Kept:ident) => {
             let mut random = Random(5, BITS);
@@ -426,7 +426,7 @@ fn random_other_texts() {
     others!(LexedDocument);
 }
 
-/// What two lists after one another keep, worked by hand: of 13 tokens of one byte each. An empty one changes nothing.
+/// What two lists one after another keep of 13 tokens of one byte each, by hand. An empty list changes nothing.
 #[test]
 fn what_two_lists_keep() {
     let none = counts(13, 0, 0);
@@ -440,7 +440,7 @@ fn what_two_lists_keep() {
         // The front of the second and the back of the first, and the other way round.
         (&[one], &[other], counts(2, 7, 4)),
         (&[other], &[one], counts(2, 7, 4)),
-        // The first leaves two tokens more at the back than it found there, and the second opens a comment over them.
+        // The first leaves two more tokens at the back, and the second opens a comment over them.
         (&[edit(8, 9, "+ 1")], &[edit(11, 11, "/*")], counts(6, 6, 0)),
     ] {
         let mut lexed = LexedText::new("a b c d e f g");
@@ -452,7 +452,7 @@ fn what_two_lists_keep() {
         let len = lexed.tokens().len();
         assert_eq!(all.then(counts(len, 0, 0), 13), all);
     }
-    // All tokens in front are kept, but the last old one is not: it is no list that changes nothing.
+    // All tokens at the front are kept, but not the last old one: this list changes something.
     assert_eq!(
         counts(12, 0, 0).then(counts(0, 1, 11), 13),
         counts(0, 12, 0)
@@ -463,7 +463,7 @@ fn what_two_lists_keep() {
     assert_eq!(most.changed_tokens(), usize::MAX..usize::MAX);
 }
 
-/// A list keeps what each of its edits keeps, and there its tokens are the old ones.
+/// A list keeps the tokens that each of its edits keeps, and they are the old ones.
 #[test]
 fn random_lists_of_edits() {
     macro_rules! lists {
@@ -509,7 +509,7 @@ fn random_lists_of_edits() {
     lists!(LexedDocument);
 }
 
-/// A long list, most of whose edits are behind the one before, does what each of its edits does.
+/// A long list, mostly in order, does what its edits do one by one.
 #[test]
 fn long_lists_in_order() {
     macro_rules! lists {
@@ -546,7 +546,7 @@ fn long_lists_in_order() {
                 let back = back.min(new.len().min(old) - front);
                 let kept = counts(front, new.len() - front - back, back);
                 assert_eq!(relexed, kept, "{edits:?}");
-                // The places that it remembers are those of the new tokens.
+                // Its checkpoints are those of the new tokens.
                 let range = random.range(text);
                 assert_eq!(lexed.edit(range.clone(), "b"), made.edit(range, "b"));
                 assert_eq!(lexed.tokens(), made.tokens(), "{edits:?}");
@@ -557,7 +557,7 @@ fn long_lists_in_order() {
     lists!(LexedDocument);
 }
 
-/// Of each two of these edits the second is one character behind what the first keeps, and changes the token there.
+/// Of every two edits, the second is one character after what the first keeps, and changes the token there.
 #[test]
 fn a_long_list_that_goes_back() {
     let inserts = (0..40).flat_map(|at| [(7 * at + 3, "9"), (7 * at + 2, "5")]);
@@ -568,7 +568,7 @@ fn a_long_list_that_goes_back() {
     check(&lexed, "a list that goes back");
 }
 
-/// Of a long list the edits before one that is out of the text are made, and it is told what they kept.
+/// The edits of a long list before one that is out of bounds stay applied, and their counts are returned.
 #[test]
 fn a_long_list_that_stops() {
     macro_rules! stops {
@@ -580,7 +580,7 @@ fn a_long_list_that_stops() {
                     edits.push(edit(place, place + 1, "bb"));
                 }
                 let mut lexed = $Kept::new("a ".repeat(100));
-                // The edits are of tokens with a space between them, from the first on.
+                // The edits change the tokens from the first on, which have a space between them.
                 let relexed = match at {
                     0 => counts(200, 0, 0),
                     _ => counts(0, 2 * at - 1, 201 - 2 * at),
@@ -597,7 +597,7 @@ fn a_long_list_that_stops() {
     stops!(LexedDocument);
 }
 
-/// What was made before an edit that is refused stays. The first such edit is named, wherever it stands.
+/// The edits before a rejected one stay applied. The error names the first rejected edit.
 #[test]
 fn a_list_of_edits_that_stops() {
     macro_rules! stops {
@@ -631,7 +631,7 @@ fn a_list_of_edits_that_stops() {
     }
 }
 
-/// A clone is edited by itself, and what is made of nothing is in the newest edition.
+/// A clone is independent of its original. Defaults are empty, in the newest edition.
 #[test]
 fn clones_and_defaults() {
     let mut lexed = LexedText::new_in("'r#a", Edition::E2018);
@@ -657,9 +657,9 @@ fn clones_and_defaults() {
     assert_eq!(Steps::default(), Steps::new_in(Edition::E2024));
 }
 
-/// Two are equal if text and edition are, however they were made. The text is given back as edits left it.
+/// Two are equal if text and edition are, however they were made. `into_string` returns the current text.
 #[test]
-fn what_is_equal_and_given_back() {
+fn equality_and_into_string() {
     macro_rules! rows {
         ($Kept:ident) => {
             let mut lexed = $Kept::new("#!a\nlet x;");
@@ -667,7 +667,7 @@ fn what_is_equal_and_given_back() {
             let by_stepper = |edition| $Kept::try_with("a", Steps::new_in(edition)).unwrap();
             assert_eq!(by_stepper(Edition::E2021), by_stepper(Edition::E2021));
             assert_ne!(by_stepper(Edition::E2021), by_stepper(Edition::E2024));
-            // The tokens of both editions are the same.
+            // Both editions have the same tokens.
             let older = $Kept::new_in(lexed.text(), Edition::E2021);
             assert_eq!(lexed.tokens(), older.tokens());
             assert_ne!(lexed, older);
@@ -686,12 +686,14 @@ fn what_is_equal_and_given_back() {
             lexed.edit(4..5, "é");
             assert_eq!(lexed.into_string(), "let é;");
             assert_eq!($Kept::default().into_string(), "");
-            // The tokens of both texts are the same.
+            // Both texts have the same tokens.
             assert_ne!($Kept::new("a"), $Kept::new("b"));
             for &left in Edition::ALL {
                 for &right in Edition::ALL {
-                    let equal = $Kept::new_in("a", left) == $Kept::new_in("a", right);
-                    assert_eq!(equal, left.year() == right.year(), "{left} and {right}");
+                    for text in ["", "a"] {
+                        let equal = $Kept::new_in(text, left) == $Kept::new_in(text, right);
+                        assert_eq!(equal, left.year() == right.year(), "{left} and {right}");
+                    }
                 }
             }
         };
@@ -700,9 +702,9 @@ fn what_is_equal_and_given_back() {
     rows!(LexedDocument);
 }
 
-/// Each kind of range, as `String::replace_range` takes them. One that ends or begins past `usize::MAX` is in no text.
+/// Each kind of range, as for `String::replace_range`. A range that starts or ends after `usize::MAX` is in no text.
 #[test]
-fn ranges() {
+fn kinds_of_ranges() {
     use std::ops::Bound::{Excluded, Included, Unbounded};
     macro_rules! rows {
         ($Kept:ident) => {
@@ -738,9 +740,9 @@ fn ranges() {
     rows!(LexedDocument);
 }
 
-/// A text is taken as it is held.
+/// Constructors take a `&str` or a `String`.
 #[test]
-fn texts_that_are_handed_over() {
+fn conversions_from_strings() {
     let text = || String::from("a + b");
     for lexed in [
         Ok(LexedText::new(text())),
@@ -776,7 +778,7 @@ fn texts_that_are_handed_over() {
 }
 
 #[test]
-fn what_is_written_of_texts() {
+fn debug_output() {
     let shown = format!("{:?}", LexedText::new("a"));
     let wanted = r#"LexedText { text: "a", tokens: [Token { kind: Ident, len: 1 }], .. }"#;
     assert_eq!(shown, wanted);
@@ -796,10 +798,9 @@ fn what_is_written_of_texts() {
     assert_eq!(format!("{pieces:?}"), "Pieces { left: 0, .. }");
 }
 
-/// A kept text has each byte: a byte order mark, which is no white space and begins no word, at its front and at that of
-/// what is put in, and U+0000 at the end of that.
+/// A byte order mark at the start of a text or an insertion, and U+0000 at its end, are kept.
 #[test]
-fn marks_at_the_ends_of_a_text() {
+fn byte_order_marks_and_nul() {
     macro_rules! keeps_them {
         ($lexed:ident) => {
             let text = "\u{feff}a";
@@ -830,7 +831,7 @@ fn marks_at_the_ends_of_a_text() {
     keeps_them!(LexedDocument);
 }
 
-/// Edits at once, all in offsets of the old text: as the text made by hand, as one edit, and as `edit_each` from the back.
+/// Edits at once agree with a text made by hand, with one edit, and with `edit_each` from the back.
 #[test]
 fn random_edits_at_once() {
     macro_rules! lists {
@@ -886,9 +887,9 @@ fn random_edits_at_once() {
     lists!(LexedDocument);
 }
 
-/// Edits at once that are refused, and change nothing: the first that is not in order is named.
+/// Rejected edits at once change nothing. The error names the first edit that is out of order.
 #[test]
-fn edits_at_once_that_are_refused() {
+fn edits_at_once_that_are_rejected() {
     for (edits, at) in [
         (&[edit(0, 8, "")][..], 0),
         (&[edit(2, 3, "")], 0),
@@ -914,7 +915,7 @@ fn edits_at_once_that_are_refused() {
         check(&text, "edits that are refused");
     }
     let mut text = LexedText::new("ab");
-    // They may touch.
+    // They can touch.
     let edits = [edit(1, 1, "c"), edit(1, 2, "d"), edit(2, 2, "e")];
     assert_eq!(text.edit_at_once(&edits), Ok(counts(0, 1, 0)));
     assert_eq!(text.text(), "acde");

@@ -1,20 +1,52 @@
-//! Each example as a process: what it prints for an input. `cargo test` builds the examples, and `--test examples` alone does
-//! not: say `cargo build --examples` before it.
+//! Runs each example as a process and checks what it prints.
 #![cfg(feature = "alloc")]
 
 use std::io::Write;
-use std::path::PathBuf;
+use std::path::{Path, PathBuf};
 use std::process::{Command, Output, Stdio};
+use std::sync::LazyLock;
 use std::{env, fs, thread};
 
-/// Where Cargo puts examples: beside the folder of the tests.
-fn example(name: &str) -> Command {
+/// The folder of the examples, built with the profile and the features of this test. Cargo does not build examples for
+/// `--test examples`. A target folder of their own keeps the dependencies of other tests as they are.
+static EXAMPLES: LazyLock<PathBuf> = LazyLock::new(|| {
+    let target = Path::new(env!("CARGO_TARGET_TMPDIR")).join("examples");
     let test = env::current_exe().unwrap();
-    let folder = test.parent().unwrap().parent().unwrap().join("examples");
-    Command::new(folder.join(name).with_extension(env::consts::EXE_EXTENSION))
+    let folder = test.ancestors().nth(2).and_then(Path::file_name).unwrap();
+    let profile = if folder == "debug" {
+        "dev".as_ref()
+    } else {
+        folder
+    };
+    let build = |config: &[&str]| {
+        let mut cargo = Command::new(env!("CARGO"));
+        cargo.current_dir(env!("CARGO_MANIFEST_DIR")).args(config);
+        cargo.args(["build", "--examples", "--locked", "--offline"]);
+        if cfg!(feature = "portable") {
+            cargo.args(["--features", "portable"]);
+        }
+        cargo.arg("--profile").arg(profile);
+        cargo.arg("--target-dir").arg(&target).output().unwrap()
+    };
+    // The dependencies are where this test found them: in Cargo's cache, or among the stand-ins.
+    let mut built = build(&[]);
+    if !built.status.success() {
+        built = build(&["--config", "../../stand_ins/offline.toml"]);
+    }
+    let errors = String::from_utf8_lossy(&built.stderr);
+    assert!(built.status.success(), "{errors}");
+    target.join(folder).join("examples")
+});
+
+fn example(name: &str) -> Command {
+    Command::new(
+        EXAMPLES
+            .join(name)
+            .with_extension(env::consts::EXE_EXTENSION),
+    )
 }
 
-/// What an example comes to over this input, which it need not read to the end.
+/// Runs an example with this input, which it need not read to the end.
 fn run(name: &str, args: &[&str], input: &str) -> Output {
     let pipe = Stdio::piped;
     let mut process = example(name)
@@ -23,7 +55,7 @@ fn run(name: &str, args: &[&str], input: &str) -> Output {
         .stdout(pipe())
         .stderr(pipe())
         .spawn()
-        .expect("the examples are built: see the head of this file");
+        .unwrap();
     let (mut to, input) = (process.stdin.take().unwrap(), input.to_owned());
     let writes = thread::spawn(move || to.write_all(input.as_bytes()));
     let output = process.wait_with_output().unwrap();
@@ -31,7 +63,7 @@ fn run(name: &str, args: &[&str], input: &str) -> Output {
     output
 }
 
-/// What an example prints, which ends well and says nothing else.
+/// Returns the output of an example that succeeds and reports nothing.
 fn prints(name: &str, args: &[&str], input: &str) -> String {
     let ended = run(name, args, input);
     let said = String::from_utf8(ended.stderr).unwrap();
@@ -42,7 +74,7 @@ fn prints(name: &str, args: &[&str], input: &str) -> String {
     String::from_utf8(ended.stdout).unwrap()
 }
 
-/// What an example says that fails and prints nothing.
+/// Returns the message of an example that fails and prints nothing.
 fn refuses(name: &str, args: &[&str], input: &str) -> String {
     let ended = run(name, args, input);
     assert!(
@@ -52,7 +84,7 @@ fn refuses(name: &str, args: &[&str], input: &str) -> String {
     String::from_utf8(ended.stderr).unwrap()
 }
 
-/// A file of this text, by its path.
+/// Writes a file and returns its path.
 fn file(name: &str, text: &str) -> String {
     let path = PathBuf::from(env!("CARGO_TARGET_TMPDIR")).join(name);
     fs::write(&path, text).unwrap();
@@ -60,7 +92,7 @@ fn file(name: &str, text: &str) -> String {
 }
 
 #[test]
-fn tokens_of_a_file_and_of_a_part() {
+fn tokens() {
     let path = file("shebang", "#!/a\nb \"");
     let wanted = r#"4 1 Whitespace "\n"
 5 1 Ident "b"
@@ -92,9 +124,9 @@ fn tokens_of_a_file_and_of_a_part() {
     }
 }
 
-/// As after `| head -n 1`: nobody reads on, and that is no fault.
+/// A closed pipe, as after `| head -n 1`, is no error.
 #[test]
-fn tokens_that_nobody_reads() {
+fn tokens_into_a_closed_pipe() {
     let mut process = example("tokens")
         .stdin(Stdio::piped())
         .stdout(Stdio::piped())
@@ -107,8 +139,30 @@ fn tokens_that_nobody_reads() {
     assert!(ended.status.success() && ended.stderr.is_empty());
 }
 
+/// The program of the repository's README.
 #[test]
-fn typing_keeps_tokens() {
+fn edit() {
+    let package = Path::new(env!("CARGO_TARGET_TMPDIR")).join("package");
+    fs::create_dir_all(package.join("src")).unwrap();
+    fs::write(package.join("src/main.rs"), "use a;\nb").unwrap();
+    let output = example("edit").current_dir(package).output().unwrap();
+    let wanted = r#"0 Ident "use"
+3 Whitespace " "
+4 Ident "a"
+5 Semi ";"
+6 Whitespace "\n"
+7 Ident "b"
+5 tokens were kept. These were lexed:
+Ident "pub"
+Whitespace " "
+Ident "use"
+"#;
+    assert_eq!(String::from_utf8(output.stdout).unwrap(), wanted);
+    assert!(output.status.success());
+}
+
+#[test]
+fn typing() {
     let path = file("typed", "let ab = cd\nfn f() {}\n");
     let wanted = r#"9 Ident "cde"
 16 kept
@@ -126,20 +180,20 @@ fn typing_keeps_tokens() {
 }
 
 #[test]
-fn kinds_are_counted() {
+fn kinds() {
     assert_eq!(
         prints("kinds", &[], "a + \"b\""),
         "1 Ident\n1 Plus\n1 Str\n2 Whitespace\n"
     );
 }
 
-/// A shebang line, a frontmatter, comments for documents and not, a raw string that ends with its line, a form feed, a string
-/// over lines, blanks before a carriage return, indentation, and blanks at the end.
+/// A shebang line, a frontmatter, comments and doc comments, `r#` at the end of a line, a form feed, a string of
+/// several lines, a tab before CRLF, indentation, and trailing whitespace.
 const LINED: &str = "#!/bin/sh \n---\na \n---\n\n// b  \n/// g\n/** h */\nr#\n \ni \x0c \nfn \t\r\n  f() {  \n\n\t\n    \"c  // d\n\n\" /* e \n\n */ } \n \t";
 const TRIMMED: &str = "#!/bin/sh \n---\na \n---\n\n// b  \n/// g\n/** h */\nr#\n\ni \x0c\nfn\r\n  f() {\n\n\n    \"c  // d\n\n\" /* e \n\n */ }\n";
 
 #[test]
-fn lines_are_counted_and_trimmed() {
+fn lines_and_trim() {
     assert_eq!(prints("trim", &[], LINED), TRIMMED);
     let [lined, empty, trimmed] = [("lined", LINED), ("empty", ""), ("trimmed", TRIMMED)]
         .map(|(name, text)| file(name, text));
@@ -150,17 +204,17 @@ fn lines_are_counted_and_trimmed() {
 }
 
 #[test]
-fn squeezing_keeps_tokens() {
+fn squeeze() {
     let long = "#!/bin/sh\n---\na\n---\n\n// b\n//! c\nfn f() {\n    /// d\n    let x = 0..=y; // e\n    r \"g\" /* h */ & & - 1. .max()\n}\n";
     let wanted = "#!/bin/sh\n---\na\n---\n//! c\nfn f(){/// d\nlet x=0..=y;r \"g\"&&-1. .max()}";
     assert_eq!(prints("squeeze", &[], long), wanted);
-    // no shebang line, and a comment that nothing closes
+    // no shebang line, and an unterminated comment
     assert_eq!(prints("squeeze", &[], " fn f ( ) { } /* a"), "fn f(){}/* a");
 }
 
 /// `0.` is a number, and `z"` is reserved.
 #[test]
-fn printing_separates_tokens() {
+fn print() {
     let tokens = "let\nx\n=\n0\n.\n.\n// a\nz\n\"b\"\n&\n&\n";
     assert_eq!(prints("print", &[], tokens), "let x=0 ..// a\nz \"b\"&&\n");
     for (tokens, why) in [
@@ -173,34 +227,34 @@ fn printing_separates_tokens() {
     }
 }
 
-/// The rows of how a stream comes are in `streams.rs`.
+/// `streams.rs` tests how the input is cut.
 #[test]
-fn a_stream_is_printed() {
+fn stream() {
     assert_eq!(
         prints("stream", &[], "let é"),
         "0 Ident \"let\"\n3 Whitespace \" \"\n4 Ident \"é\"\n"
     );
 }
 
-/// A key in the code, a place that is not there, words with blanks, the closing fence goes and comes, another shebang line: the
-/// document that is shown at the end is as if painted anew.
+/// A letter, an invalid range, an insertion with spaces, the closing fence removed and restored, another shebang line:
+/// at the end the document is painted like a new one.
 #[test]
-fn colours_follow_edits() {
+fn highlight() {
     let typed = file("painted", "#!/bin/sh\n---\na\n---\nfn f() {}\n");
-    let made = file(
+    let edited = file(
         "repainted",
         "#!/bin/bash\n---\na\n---\nfn fg() {\"a b\"; 1}\n",
     );
     let edits = "24 24 g\n99 99 x\n29 29 \"a b\"; 1\n16 19 \n16 16 ---\n7 9 bash\n";
-    let said = prints("highlight", &[&typed], edits);
-    let anew = prints("highlight", &[&made], "");
-    assert!(said.ends_with(&anew), "{said:?}");
-    let first = said.lines().next().unwrap();
+    let printed = prints("highlight", &[&typed], edits);
+    let wanted = prints("highlight", &[&edited], "");
+    assert!(printed.ends_with(&wanted), "{printed:?}");
+    let first = printed.lines().next().unwrap();
     assert!(
         first.contains("fg") && first.ends_with("(10 tokens kept)"),
         "{first:?}"
     );
-    // green, cyan, magenta, blue, and a raw word in no colour
+    // green, cyan, magenta, blue, and a raw identifier without a colour
     let path = file("colours", "#!/f\n---\n---\n/*a*/\"b\" c r#e//d");
     let parts = [
         (32, "#!/f"),

@@ -1,9 +1,9 @@
-//! Texts that are made of pieces.
+//! Texts joined from pieces.
 
 use rustc_lexer::{Edition, JoinError, JoinedText, Token, is_seam, tokenize_in};
 use std::panic::{AssertUnwindSafe, catch_unwind};
 
-/// What the pieces make, or the number of the first that is refused.
+/// Joins the pieces, or returns the index of the first rejected one.
 fn joined(edition: Edition, pieces: &[&str]) -> Result<String, usize> {
     let mut text = JoinedText::new_in(edition);
     for (number, piece) in pieces.iter().enumerate() {
@@ -12,7 +12,7 @@ fn joined(edition: Edition, pieces: &[&str]) -> Result<String, usize> {
     Ok(text.into_string())
 }
 
-/// A list of pieces and what it makes in each edition: a text, or the number of the piece that is refused.
+/// Pieces and the text that they make in each edition, or the index of the rejected piece.
 type Row = (&'static [&'static str], [Result<&'static str, usize>; 4]);
 
 const ROWS: &[Row] = &[
@@ -43,7 +43,7 @@ const ROWS: &[Row] = &[
         &["'a", "#", "b"],
         [Ok("'a#b"), Ok("'a#b"), Ok("'a #b"), Ok("'a #b")],
     ),
-    // the token before the last one decides
+    // the last token but one decides
     (
         &["k", "#", "a"],
         [Ok("k# a"), Ok("k# a"), Ok("k #a"), Ok("k #a")],
@@ -58,7 +58,7 @@ const ROWS: &[Row] = &[
         ],
     ),
     (&["'", "/", "'a'"], [Ok("'/ 'a'"); 4]),
-    // open tokens
+    // unterminated tokens
     (&["\"a", "b"], [Err(1); 4]),
     (&["/* a", "b"], [Err(1); 4]),
     (&["'+", "b"], [Ok("'+\nb"); 4]),
@@ -75,7 +75,7 @@ fn rows() {
                 "{pieces:?} {edition:?}"
             );
         }
-        // What collects reads the pieces in the newest edition.
+        // `collect` reads the pieces in the newest edition.
         if let [.., Ok(made)] = made {
             let collected: JoinedText = pieces.iter().collect();
             assert_eq!(collected.as_str(), *made, "{pieces:?}");
@@ -83,7 +83,7 @@ fn rows() {
     }
 }
 
-/// Each way to make a text has an edition, which decides, which is told, and which is shown.
+/// Every constructor sets an edition, which the pieces are read in and `edition` and `Debug` show.
 #[test]
 fn editions() {
     let pieces = ["#", "\"a\""];
@@ -112,9 +112,9 @@ fn editions() {
     }
 }
 
-/// A place that is none, inside a character and past the end, of calls that take one.
+/// Offsets inside a character and after the end.
 #[test]
-fn places_that_panic() {
+fn offsets_that_panic() {
     for at in [1, 2, 4, 5, usize::MAX] {
         let call = || is_seam("\u{20ac}", at, Edition::E2024);
         let said = catch_unwind(call).expect_err("it panics");
@@ -124,9 +124,9 @@ fn places_that_panic() {
     assert!(is_seam("\u{20ac}", 3, Edition::E2024));
 }
 
-/// Cut back to where each piece ended, it is what it was then, whatever it was before and is after.
+/// Truncated to the end of any piece, a text is what it was at that time, also for the pieces that follow.
 #[test]
-fn pieces_that_are_taken_back() {
+fn truncate() {
     let pieces = [
         "b'", "\n", "a", "b", " ", "/", "/", "1", ".", "..", "é", "// c", "\n", "k", "#",
     ];
@@ -151,7 +151,7 @@ fn pieces_that_are_taken_back() {
                 assert_eq!(one, other);
             }
         }
-        // Past the end nothing changes, and a place that cuts a token or a character is refused.
+        // After the end nothing changes, and an offset that splits a token or a character is rejected.
         let mut whole = text.clone();
         for len in [text.len(), text.len() + 1, usize::MAX] {
             whole.truncate(len);
@@ -168,14 +168,18 @@ fn pieces_that_are_taken_back() {
 }
 
 #[test]
-fn a_text_is_equal_shown_and_read() {
+fn equality_formatting_and_length() {
     let mut text = JoinedText::new_in(Edition::E2021);
     text.push("let");
     assert_ne!(text, JoinedText::new_in(Edition::E2021));
     assert_ne!(text, JoinedText::from_iter(["let"]));
     assert_eq!(format!("{text}{text:>5}"), "let  let");
     assert_eq!((text.len(), text.is_empty()), (3, false));
-    // It can be a piece.
+    assert!(JoinedText::new().is_empty());
+    for whitespace in [" ", "\n", "\u{2028}"] {
+        assert!(!JoinedText::from_iter([whitespace]).is_empty());
+    }
+    // A joined text can be a piece.
     assert_eq!(JoinedText::from_iter([&text, &text]).as_ref(), "let let");
 }
 
@@ -201,7 +205,7 @@ fn seams() {
 }
 
 #[test]
-fn refused_pieces_change_nothing() {
+fn rejected_pieces_change_nothing() {
     let mut text = JoinedText::new();
     text.push("\"a");
     assert_eq!(text.try_push("b"), Err(JoinError::Inseparable));
@@ -210,7 +214,7 @@ fn refused_pieces_change_nothing() {
 }
 
 #[test]
-fn errors_say_which_of_the_three_it_was() {
+fn error_messages() {
     for (error, sentence) in [
         (
             JoinError::Inseparable,
@@ -228,6 +232,6 @@ fn errors_say_which_of_the_three_it_was() {
 
 #[test]
 #[should_panic(expected = "no separator keeps the tokens")]
-fn a_refused_piece_panics() {
+fn a_rejected_piece_panics() {
     let _ = ["/* a", "b"].into_iter().collect::<JoinedText>();
 }

@@ -1,6 +1,6 @@
-//! Joined texts beside what they are by definition: the whole text is lexed anew for each separator. The tests here take a
-//! few of the pairs and lists; `cargo test --release -p verified-rustc-lexer --test joined_texts -- --ignored` takes all of them, in
-//! a minute.
+//! Joined texts next to their definition, which lexes the whole text for each separator. The tests take a few pairs and
+//! lists; `cargo test --release -p verified-rustc-lexer --test joined_texts -- --ignored` takes all of them, in a
+//! minute.
 
 #[allow(dead_code, reason = "the texts here are made of their own pieces")]
 mod random;
@@ -11,7 +11,7 @@ use std::thread;
 
 const SEPARATORS: [&str; 3] = ["", " ", "\n"];
 
-/// What texts of one to three characters are made of.
+/// The characters of texts of one to three characters.
 const CHARS: [char; 30] = [
     'a', 'b', 'c', 'e', 'k', 'r', 'x', '_', '0', '1', 'é', '😀', '\'', '"', '#', '/', '*', '.',
     '+', '!', '-', '\\', ';', ' ', '\n', '\r', '\t', '~', 'u', '8',
@@ -34,7 +34,7 @@ fn tokens(text: &str, edition: Edition) -> impl Iterator<Item = Token> + '_ {
     tokenize_in(text, edition)
 }
 
-/// The texts that are one token in the edition.
+/// Returns the texts that are one token in the edition.
 fn single_tokens(edition: Edition) -> Vec<String> {
     let mut texts: Vec<String> = LONGER.iter().map(|text| text.to_string()).collect();
     for a in CHARS {
@@ -48,7 +48,7 @@ fn single_tokens(edition: Edition) -> Vec<String> {
     texts
 }
 
-/// What the text becomes where the piece is appended, by the definition, or `None` if no separator keeps the tokens.
+/// Appends the piece by the definition, or returns `None` if no separator keeps the tokens.
 fn by_definition(text: &str, piece: &str, edition: Edition) -> Option<String> {
     SEPARATORS.into_iter().find_map(|separator| {
         let whole = format!("{text}{separator}{piece}");
@@ -59,7 +59,7 @@ fn by_definition(text: &str, piece: &str, edition: Edition) -> Option<String> {
     })
 }
 
-/// Appends the piece to a text of the edition, and compares what came of it.
+/// Appends the piece and compares the result with the definition.
 fn push(text: &mut JoinedText, piece: &str, edition: Edition) {
     let before = String::from(text.as_str());
     let wanted = by_definition(&before, piece, edition);
@@ -87,7 +87,7 @@ fn pairs(every: usize) {
     });
 }
 
-/// So many lists of up to twelve pieces: tokens, and now and then any characters. Of short texts each place is asked for.
+/// Joins lists of up to twelve pieces, mostly single tokens. In short texts, every offset is tested as a boundary.
 fn lists(count: usize, seed: u64) {
     let compare = |edition: Edition| {
         let texts = single_tokens(edition);

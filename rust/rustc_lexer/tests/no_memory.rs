@@ -1,4 +1,4 @@
-//! Calls that take no memory: with every request refused each answers what it always does.
+//! Calls that allocate nothing: they return the same if every allocation fails.
 
 #[path = "../../rattle_support/tests/refusing/mod.rs"]
 mod refusing;
@@ -15,8 +15,8 @@ use rustc_lexer::{
     validate_raw_str,
 };
 
-/// A text, whether a frontmatter is allowed, its tokens, where its settled part ends, and why it is no raw string, if
-/// it begins as one.
+/// A text, whether a frontmatter is allowed, its tokens, the offset up to which they are final, and the error of the
+/// raw string that it starts with, if any.
 type Row<'a> = (
     &'a str,
     FrontmatterAllowed,
@@ -66,9 +66,9 @@ const ROWS: [Row<'_>; 15] = {
     ]
 };
 
-/// The rows, raw strings with 256 hashes, and what no row asks.
+/// The rows, raw strings with 256 hashes, and the other calls.
 #[test]
-fn rows() {
+fn tokens_and_checks() {
     let hashes = "#".repeat(256);
     let open = ["r", &hashes, "\"abc\""].concat();
     let closed = [&open, &*hashes].concat();
@@ -89,7 +89,7 @@ fn rows() {
     assert!(given(0, others_hold));
 }
 
-/// Whether the calls answer as the row says, of its text and of each of its characters.
+/// Returns whether the calls return the values of the row, for its text and each of its characters.
 fn holds((text, allowed, wanted, end, refusal): Row<'_>) -> bool {
     fits(text)
         && gives_tokens(text, allowed, wanted)
@@ -101,7 +101,7 @@ fn holds((text, allowed, wanted, end, refusal): Row<'_>) -> bool {
         && refusal.is_none_or(|refusal| validate_raw_str(text, 1) == Err(refusal))
 }
 
-/// Whether an iterator and a cursor give exactly these tokens of the text, and the rest after each.
+/// Returns whether an iterator and a cursor return exactly these tokens, and the remaining text after each.
 fn gives_tokens(text: &str, allowed: FrontmatterAllowed, wanted: &[Token]) -> bool {
     let mut guarded = Cursor::new(text, allowed);
     if guarded.guarded_double_quoted_string().is_some() || !is_at(&guarded, text) {
@@ -125,13 +125,13 @@ fn gives_tokens(text: &str, allowed: FrontmatterAllowed, wanted: &[Token]) -> bo
         && tokens.next().is_none()
 }
 
-/// Whether this is the rest of the cursor, and it sees the rest's characters.
+/// Returns whether this is the cursor's remaining text, and its lookahead is right.
 fn is_at(cursor: &Cursor<'_>, rest: &str) -> bool {
     let at = |number| rest.chars().nth(number).unwrap_or('\0');
     cursor.as_str() == rest && cursor.first() == at(0) && cursor.third() == at(2)
 }
 
-/// Whether each class has this ASCII character if it should.
+/// Returns whether the classes of an ASCII character are right.
 fn is_in_its_classes(c: char) -> bool {
     let starts = matches!(c, 'a'..='z' | 'A'..='Z' | '_');
     is_whitespace(c) == matches!(c, '\t'..='\r' | ' ')
@@ -140,7 +140,7 @@ fn is_in_its_classes(c: char) -> bool {
         && is_id_continue(c) == (starts || c.is_ascii_digit())
 }
 
-/// Whether the calls that answer more than a row says are right.
+/// Returns whether the calls without a column in the rows are right.
 fn others_hold() -> bool {
     let mut cursor = Cursor::new("é+b c", No);
     let string = GuardedStr {

@@ -1,4 +1,4 @@
-//! From an offset to a token, worked out by hand, and against adding up the lengths of the tokens.
+//! The token at an offset, by hand, and next to the sum of the lengths of the tokens.
 
 mod random;
 
@@ -6,14 +6,14 @@ use random::Random;
 use rustc_lexer::{LexedDocument, LexedText, Piece, Pieces, Token, TokenStart};
 use std::ops::Range;
 
-/// What edits are made of: pieces that join with what stands around them, and heads of documents.
+/// Random edits consist of these: they join with the tokens next to them, or make heads of documents.
 #[rustfmt::skip]
 const BITS: &[&str] = &[
     "a", "bc", "r#", "1", "0x", ".", " ", "\n", "é", "😀", "\"", "'", "#", "/", "//", "/*", "*/", "let x = 1;",
     "fn f() {}\n", "#!", "#!a\n", "---\n", "\n---\n",
 ];
 
-/// The numbers and the starts of tokens, of which the first begins at `start`, and where the last one ends.
+/// The indices and offsets of tokens from `start` on, and the end of the last one.
 fn starts(tokens: &[Token], mut start: usize) -> Vec<usize> {
     let mut starts = vec![start];
     for token in tokens {
@@ -23,7 +23,7 @@ fn starts(tokens: &[Token], mut start: usize) -> Vec<usize> {
     starts
 }
 
-/// The token at the offset, by looking at each.
+/// The token at the offset, by a linear search.
 fn found(starts: &[usize], offset: usize) -> Option<TokenStart> {
     let mut ends = starts.windows(2);
     let index = ends.position(|ends| (ends[0]..ends[1]).contains(&offset))?;
@@ -31,13 +31,13 @@ fn found(starts: &[usize], offset: usize) -> Option<TokenStart> {
     Some(TokenStart { index, offset })
 }
 
-/// The numbers of the tokens that contain a byte of the range, by looking at each.
+/// The indices of the tokens that contain a byte of the range, by a linear search.
 fn touched(starts: &[usize], range: &Range<usize>) -> Vec<usize> {
     let touches = |n: &usize| starts[*n].max(range.start) < starts[n + 1].min(range.end);
     (0..starts.len() - 1).filter(touches).collect()
 }
 
-/// The pieces in order, each taken from the front or from the back by chance.
+/// The pieces in order, taken from either end at random.
 fn from_both_ends<'a>(mut pieces: Pieces<'a>, random: &mut Random) -> Vec<Piece<'a>> {
     let (mut front, mut back) = (Vec::new(), Vec::new());
     for left in (0..pieces.len()).rev() {
@@ -52,7 +52,7 @@ fn from_both_ends<'a>(mut pieces: Pieces<'a>, random: &mut Random) -> Vec<Piece<
     front
 }
 
-/// Checks offsets and ranges of a text that is kept: those near `place`, and some anywhere.
+/// Checks offsets and ranges of a text: those near `place`, and some anywhere.
 macro_rules! check {
     ($lexed:expr, $starts:expr, $random:expr, $place:expr) => {{
         let (lexed, starts) = (&$lexed, $starts);
@@ -84,10 +84,9 @@ macro_rules! check {
     }};
 }
 
-/// Thirteen offsets and four ranges after each of five hundred edits of a text and a document, or as many as the variable
-/// EDITS says.
+/// Thirteen offsets and four ranges after each of five hundred edits, or the number in the variable EDITS.
 #[test]
-fn offsets_under_edits() {
+fn offsets_after_random_edits() {
     let asked = std::env::var("EDITS").map(|count| count.parse());
     let count: usize = asked.map_or(500, |count| count.expect("EDITS is a number"));
     let mut random = Random(7, BITS);
@@ -106,7 +105,7 @@ fn offsets_under_edits() {
 }
 
 #[test]
-fn a_long_text() {
+fn offsets_in_a_long_text() {
     let mut random = Random(8, BITS);
     let mut text = LexedText::new("fn add(left: u32) -> u32 { left } // é\n".repeat(2000));
     for _ in 0..20 {
@@ -118,7 +117,7 @@ fn a_long_text() {
     assert!(all.eq(text.pieces()));
 }
 
-/// Where a token begins, the answer is that token.
+/// At a token boundary it is the token that starts there.
 #[test]
 fn offsets_of_a_text() {
     let text = LexedText::new("let é = 1;");
@@ -193,7 +192,7 @@ fn pieces_in_a_range() {
     }
 }
 
-/// The starts and the texts of pieces, which say how many they are, and stay at their end. From the back they are the same.
+/// The offsets and texts of pieces, whose length is exact and which are fused. From the back they are the same.
 fn told(mut pieces: Pieces<'_>) -> Vec<(u32, &str)> {
     let count = pieces.len();
     assert_eq!(pieces.size_hint(), (count, Some(count)));
@@ -210,7 +209,7 @@ fn told(mut pieces: Pieces<'_>) -> Vec<(u32, &str)> {
     told
 }
 
-/// All pieces, those of some tokens, those in a range, and the token at an offset.
+/// All pieces, those of some tokens, those in a range, and the token at an offset, by hand.
 #[test]
 fn pieces_by_hand() {
     let text = LexedText::new("a 😀 é");
@@ -249,10 +248,10 @@ fn pieces_by_hand() {
     );
 }
 
-/// Pieces far into a text of 2000 tokens, four in each 8 bytes: none of them, the last one, and those that an edit lexes and
-/// moves. Behind a frontmatter they are two tokens and 8 bytes further.
+/// Pieces at the end of a text of 2000 tokens, four in each 8 bytes: none, the last one, and those that an edit lexes
+/// and moves. After a frontmatter they are two tokens and 8 bytes later.
 #[test]
-fn pieces_far_into_a_text() {
+fn pieces_at_the_end_of_a_long_text() {
     macro_rules! rows {
         ($Kept:ident, $front:literal, $tokens:literal, $bytes:literal) => {
             let mut lexed = $Kept::new([$front, &"abé 12 ".repeat(500)].concat());

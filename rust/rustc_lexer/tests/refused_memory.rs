@@ -1,4 +1,4 @@
-//! Each request for memory of the calls that keep a text, refused in turn: an error, and all stays as it was.
+//! Each allocation of the calls of a `LexedText` fails in turn: the call returns an error, and nothing changes.
 
 mod made;
 #[path = "../../rattle_support/tests/refusing/mod.rs"]
@@ -16,7 +16,7 @@ use std::panic::{AssertUnwindSafe, catch_unwind};
 
 type Make = fn(&str) -> Result<(), EditError>;
 
-/// The calls that make a kept text.
+/// The constructors.
 const MAKE: [Make; 4] = [
     |text| LexedText::try_new_in(text, Edition::E2024).map(drop),
     |text| LexedText::try_with(text, Steps::new()).map(drop),
@@ -24,9 +24,9 @@ const MAKE: [Make; 4] = [
     |text| LexedDocument::try_with(text, Steps::new()).map(drop),
 ];
 
-/// One request is for the text, and one for its tokens.
+/// One allocation is for the text, and one for its tokens.
 #[test]
-fn texts() {
+fn constructors() {
     let answers = [Ok(()), Err(EditError::Memory)];
     for text in ["ab", "a 😀 é", "a b c */ d", "ab cd"] {
         for make in MAKE {
@@ -36,7 +36,7 @@ fn texts() {
     }
 }
 
-/// The text is held with these tokens, and its pieces make up all of it that they are the tokens of.
+/// Asserts that the value has this text and these tokens, and that its pieces are the text that they cover.
 macro_rules! assert_held {
     ($held:ident, $text:expr, $tokens:expr) => {{
         let tokens = $tokens;
@@ -48,7 +48,7 @@ macro_rules! assert_held {
     }};
 }
 
-/// Steps of the lexer, which are counted.
+/// The lexer as a stepper that counts its steps.
 #[derive(Clone)]
 struct Counting(Steps, usize);
 
@@ -59,8 +59,8 @@ impl Stepper for Counting {
     }
 }
 
-/// Makes an edit with each of its requests refused in turn: then all is as it was, no step was taken that the edit does not
-/// take, and it can be made. Returns its counts, its steps, and how many requests it makes.
+/// Applies an edit while each of its allocations fails in turn: nothing changes, no step is taken that the edit does
+/// not take, and then the edit succeeds. Returns its counts, its steps, and the number of its allocations.
 macro_rules! edits {
     ($edit:ident, $Kept:ident, $tokenize:ident $(, $shebang_len:ident)?) => {
         fn $edit(text: &str, range: Range<usize>, insert: &str) -> (Relexed, usize, usize) {
@@ -94,8 +94,8 @@ macro_rules! edits {
 edits!(text_edit, LexedText, tokenize_in);
 edits!(document_edit, LexedDocument, tokenize_document, shebang_len);
 
-/// What an edit takes out is one request, and so is room in the text where it puts in more. One to four tokens that it lexes
-/// are one, and five are two. The list of five tokens of the second text has no room for seven, which is one. An edit that
+/// The removed text is one allocation, and so is room in the text for a longer insertion. One to four lexed tokens are
+/// one, and five are two. The list of five tokens of the second text has no room for seven, which is one. An edit that
 /// changes nothing makes none.
 #[test]
 fn edits_of_texts() {
@@ -115,9 +115,9 @@ fn edits_of_texts() {
     }
 }
 
-/// Another text asks for what its edit does.
+/// `set_text` allocates what its edit does.
 #[test]
-fn other_texts() {
+fn set_text() {
     let (old, new) = ("a b c d", "a b + d");
     let check = |lexed: LexedText, answer: Result<Relexed, EditError>| {
         let text = if answer.is_ok() { new } else { old };
@@ -129,8 +129,8 @@ fn other_texts() {
     assert_eq!(asked, text_edit(old, 4..5, "+").2);
 }
 
-/// A letter after a head, a letter in it, a fence, and a bracket that makes a shebang line an attribute. Then an edit that
-/// takes a long document its head.
+/// A letter after a head, a letter in it, a fence, and a bracket that turns a shebang line into an attribute. Then an
+/// edit that removes the head of a long document.
 #[test]
 fn edits_of_documents() {
     for (text, range, insert, [front, lexed, back]) in [
@@ -147,7 +147,7 @@ fn edits_of_documents() {
     assert!(document_edit(&text, 0..0, &" + d".repeat(200)).2 > 0);
 }
 
-/// Of a list exactly the edits before the one that is refused memory are made.
+/// Exactly the edits before the allocation failure stay applied.
 #[test]
 fn lists_of_edits() {
     macro_rules! lists {
@@ -186,7 +186,7 @@ fn lists_of_edits() {
     lists!(LexedDocument, tokenize_document, texts, edits);
 }
 
-/// The same of a long list.
+/// The same for a long list.
 #[test]
 fn a_long_list_of_edits() {
     let edits: Vec<_> = (0..70).map(|at| edit(3 * at, 3 * at + 1, "b+")).collect();
@@ -212,7 +212,7 @@ fn a_long_list_of_edits() {
     assert!(stops.iter().copied().eq(0..70), "{stops:?}");
 }
 
-/// Edits at once are all made or none, and the last is named.
+/// Edits at once are all applied or none, and the error names the last one.
 #[test]
 fn edits_at_once() {
     let (texts, edits) = (["ab cd", "xab + d"], [edit(0, 0, "x"), edit(2, 4, " + ")]);
@@ -228,9 +228,9 @@ fn edits_at_once() {
     );
 }
 
-/// Edits at once that would make the text too long, by what they insert or with the text behind them, ask for nothing.
+/// Edits at once that would make the text too long, by their insertions or with the rest of the text, allocate nothing.
 #[test]
-fn edits_at_once_of_a_long_text() {
+fn edits_at_once_that_are_too_long() {
     let insert = "a".repeat(1 << 20);
     let mut edits = vec![edit(0, 0, &insert); 4096];
     for last in [&insert[..], &insert[1..]] {
@@ -242,19 +242,18 @@ fn edits_at_once_of_a_long_text() {
     }
 }
 
-/// An edit that cuts a character is refused for that, with no request.
+/// An edit that splits a character is rejected before anything is allocated.
 #[test]
-fn a_bad_edit() {
+fn an_invalid_edit() {
     let mut lexed = LexedText::new("é");
     let answer = given(0, || lexed.edit_all(&[edit(1, 2, "")]));
     assert_eq!(answer, Err(EditStop::Range { at: 0 }));
     assert_held!(lexed, "é", tokenize_in("é", Edition::E2024));
 }
 
-/// Another edition, which has two tokens more: by the call that makes a text anew, and by that of the proved source, which
-/// lexes it again.
+/// `set_edition` with two more tokens, by a new text and by the proved source, which lexes the old text again.
 #[test]
-fn editions() {
+fn set_edition() {
     macro_rules! editions {
         ($make:expr, $set_edition:ident, $text:ident, $tokenize:ident, $count:expr) => {
             let asked = in_turn(
@@ -283,9 +282,9 @@ fn editions() {
     editions!(proved(), set_edition, text, tokenize_document, 3);
 }
 
-/// Another edition takes memory for tokens alone: here for one. A new text takes its length.
+/// `set_edition` allocates only tokens, here one. A new text allocates its length.
 #[test]
-fn an_edition_copies_no_text() {
+fn set_edition_copies_no_text() {
     let text = format!("/*{}*/", "a".repeat(1_000_000));
     let (mut part, mut document) = (LexedText::new(&text), LexedDocument::new(&text));
     for greatest in [
@@ -297,9 +296,9 @@ fn an_edition_copies_no_text() {
     assert!(greatest_request(|| LexedText::new(&text)) >= text.len());
 }
 
-/// A list of tokens that grows gets room for those that the rest of the text may have, and by an edit for an eighth more.
+/// A growing list of tokens gets room for the tokens that the rest of the text can have; for an edit, an eighth more.
 #[test]
-fn tokens_get_little_room() {
+fn tokens_get_little_spare_room() {
     let (text, mut made) = ("x = [12, y];\n".repeat(5_600), None);
     let greatest = greatest_request(|| made = Some(LexedText::new(&text)));
     let mut lexed = made.unwrap();
@@ -310,7 +309,7 @@ fn tokens_get_little_room() {
     assert!(greatest < taken / 7 * 8, "{greatest} bytes for {taken}");
 }
 
-/// A `String` is kept as it is, with the room that it has, and given back: memory is taken for tokens alone.
+/// A `String` is kept with its capacity and returned: only tokens are allocated.
 #[test]
 fn a_string_is_not_copied() {
     let text = format!("/*{}*/", "a".repeat(1_000_000));
@@ -347,13 +346,13 @@ fn a_string_is_not_copied() {
     strings!(LexedDocument, with_room());
 }
 
-/// A text of `u32::MAX` bytes is not too long: what it lacks is memory.
+/// A text of `u32::MAX` bytes is not too long, so the calls report out of memory.
 #[cfg(target_pointer_width = "64")]
 #[test]
 fn the_longest_text() {
     use std::alloc::{GlobalAlloc, Layout, System};
     let len = u32::MAX as usize;
-    // SAFETY: U+0000 is one byte that is 0. The system gives so many, without a look at them.
+    // SAFETY: U+0000 is one byte that is 0. The system provides these bytes without touching them.
     let text = unsafe {
         let zeros = System.alloc_zeroed(Layout::array::<u8>(len).unwrap());
         assert!(!zeros.is_null());
@@ -361,9 +360,16 @@ fn the_longest_text() {
     };
     let answers = MAKE.map(|make| given(0, || make(text)));
     assert_eq!(answers, [Err(EditError::Memory); 4]);
+    let mut lexed = LexedText::new("ab");
+    let edits = [edit(0, 1, "c"), edit(1, 1, &text[2..])];
+    let answer = given(0, || lexed.edit_at_once(&edits));
+    assert_eq!(answer, Err(EditStop::Memory { at: 1 }));
+    let edits = [edit(0, 1, "cd"), edit(1, 1, &text[2..])];
+    let answer = given(0, || lexed.edit_at_once(&edits));
+    assert_eq!(answer, Err(EditStop::TooLong { at: 1 }));
 }
 
-/// The calls that answer no error say by a panic that an allocation failed. Nothing changes then.
+/// Calls that return no error panic if an allocation fails. Then nothing changes.
 #[test]
 fn calls_that_panic() {
     type Call = fn(&mut LexedText, &mut LexedDocument);
@@ -395,10 +401,10 @@ fn calls_that_panic() {
     }
 }
 
-/// Memory that edits left unused is given back: then an edit has to ask for what it had before. Where the call is refused
-/// memory, all stays as it was.
+/// `shrink_to_fit` returns unused memory, so the next edit allocates it again. If the call cannot allocate, nothing
+/// changes.
 #[test]
-fn unused_memory() {
+fn shrink_to_fit() {
     let text = "a + b; ".repeat(100);
     let mut lexed = LexedText::new(&text);
     let mut document = LexedDocument::new(&text);
@@ -422,7 +428,7 @@ fn unused_memory() {
     assert_eq!(asked, [0, 1, 2], "past that for the tokens that are lexed");
 }
 
-/// A piece takes one request for its room. If that is refused, the piece is not taken, and it can be taken later.
+/// A piece is one allocation. If that fails, the piece is rejected and can be pushed later.
 #[test]
 fn joined_pieces() {
     let long = "b".repeat(100);

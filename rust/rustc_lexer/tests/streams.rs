@@ -1,4 +1,4 @@
-//! Texts that grow at their end: what is settled stays, and the example that prints tokens as they become final.
+//! Texts that grow at their end: which tokens are final, and the example that prints each token once it is.
 
 #[allow(dead_code, reason = "no text is edited here")]
 mod random;
@@ -11,34 +11,34 @@ use rustc_lexer::{Edition, FrontmatterAllowed, LexedText, Piece, tokenize};
 use std::str;
 use stream::Stream;
 
-/// What texts are made of: what looks ahead, and what stays open.
+/// Random texts consist of these: tokens with a lookahead, and unterminated ones.
 #[rustfmt::skip]
 const BITS: &[&str] = &[
     "a", "bc", "r#", "1", "0x", ".", " ", "\n", "é", "😀", "\"", "'", "#", "/", "//", "/*", "*/", "let x = 1;",
     "b'", "\\", "1e", "k#", "\u{2028}", "\r\n", "[", "!",
 ];
 
-/// The places between the characters of a text.
+/// The offsets between the characters of a text.
 fn places(text: &str) -> impl Iterator<Item = usize> {
     text.char_indices().map(|(at, _)| at).chain([text.len()])
 }
 
-/// Where the last of the pieces ends that two characters follow, or 0.
+/// The end of the last piece that two characters follow, or 0.
 fn last_followed<'a>(text: &str, pieces: impl Iterator<Item = Piece<'a>>) -> usize {
     let ends = pieces.map(|piece| piece.range().end);
     let is_followed = |end: &usize| text[*end..].chars().count() >= 2;
     ends.filter(is_followed).last().unwrap_or(0)
 }
 
-/// The pieces that end at or before a place.
+/// The pieces that end at or before an offset.
 fn up_to<'a>(pieces: impl Iterator<Item = Piece<'a>>, end: usize) -> Vec<(usize, Piece<'a>)> {
     let pieces = pieces.map(|piece| (piece.range().end, piece));
     pieces.take_while(|(at, _)| *at <= end).collect()
 }
 
-/// A part is settled up to the last token that two characters follow, whole or still growing, in each edition.
+/// A fragment is final up to the last token that two characters follow, whole or still growing, in each edition.
 #[test]
-fn settled_parts() {
+fn final_tokens() {
     let mut random = Random(11, BITS);
     for at in 0..600 {
         let text = random.text(12);
@@ -57,9 +57,9 @@ fn settled_parts() {
     }
 }
 
-/// An open comment of 1 MB settles nothing behind it, and is lexed whole by each edit at its end.
+/// An unterminated comment of 1 MB is not final, and each edit at its end lexes all of it.
 #[test]
-fn an_open_comment() {
+fn an_unterminated_comment() {
     let mut lexed = LexedText::new("fn /*");
     for _ in 0..16 {
         lexed.edit(lexed.text().len().., &"é * ".repeat(1 << 14));
@@ -77,9 +77,9 @@ fn printed(text: &str) -> String {
         .collect()
 }
 
-/// The example prints the tokens of all, wherever its input is cut, also inside of characters.
+/// The example prints all tokens, wherever its input is cut, also inside characters.
 #[test]
-fn streams_that_are_cut_anywhere() {
+fn input_cut_anywhere() {
     let mut random = Random(13, BITS);
     for _ in 0..400 {
         let text = random.text(30);
@@ -95,9 +95,9 @@ fn streams_that_are_cut_anywhere() {
     }
 }
 
-/// The example prints a token with the byte that settles it, and refuses what is no text.
+/// The example prints a token at the byte that makes it final, and rejects input that is not UTF-8.
 #[test]
-fn a_stream_step_by_step() {
+fn input_byte_by_byte() {
     let (mut stream, mut output) = (Stream::default(), Vec::new());
     for (bytes, said) in [
         (&b"let"[..], ""),

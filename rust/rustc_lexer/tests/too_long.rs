@@ -1,51 +1,37 @@
-//! A text of more than `u32::MAX` bytes: each call that takes a text says that it is too long, in a release, too.
+//! Each call with a text of more than `u32::MAX` bytes reports that it is too long, also in release builds.
 #![cfg(target_pointer_width = "64")]
 
+mod panics;
+
+use panics::{panic_message, too_long as too_long_string};
 use rustc_lexer::{
     Cursor, Edition, FrontmatterAllowed, fits, is_ident, is_seam, settled, settled_in, starts_raw,
     strip_shebang, tokenize, tokenize_as, tokenize_document, tokenize_in, validate_raw_str,
 };
 #[cfg(feature = "alloc")]
 use rustc_lexer::{Edit, EditError, EditStop, FromStringError, LexedDocument, LexedText, Steps};
-use std::panic::catch_unwind;
 use std::sync::LazyLock;
 
-/// So many bytes that are 0, which the system gives without a look at them.
-static ZEROS: LazyLock<Vec<u8>> = LazyLock::new(|| vec![0; 1 << 32]);
+static TOO_LONG: LazyLock<String> = LazyLock::new(too_long_string);
 
 fn too_long() -> &'static str {
-    // SAFETY: U+0000 is one byte that is 0.
-    unsafe { std::str::from_utf8_unchecked(&ZEROS) }
-}
-
-/// The same as a `String`.
-#[cfg(feature = "alloc")]
-fn too_long_string() -> String {
-    // SAFETY: U+0000 is one byte that is 0.
-    unsafe { String::from_utf8_unchecked(vec![0; 1 << 32]) }
+    &TOO_LONG
 }
 
 type Call = fn(&'static str);
 
-/// What the call says where it panics.
-fn said(call: Call, text: &'static str) -> Option<String> {
-    let said = catch_unwind(|| call(text)).err()?;
-    let words = said.downcast_ref::<&str>().map(|words| words.to_string());
-    words.or_else(|| said.downcast_ref::<String>().cloned())
-}
-
-fn all_say_so(calls: &[(&str, Call)]) {
+/// Asserts that each call panics with the same message.
+fn all_panic(calls: &[(&str, Call)]) {
     for (name, call) in calls {
-        let said = said(*call, too_long());
-        let wanted = Some("the text has more than u32::MAX bytes");
-        assert_eq!(said.as_deref(), wanted, "{name}");
+        let message = panic_message(|| call(too_long()));
+        assert_eq!(message, "the text has more than u32::MAX bytes", "{name}");
     }
 }
 
 #[test]
-fn calls_that_take_a_text() {
+fn calls_that_panic() {
     assert!(fits(&too_long()[1..]) && !fits(too_long()));
-    all_say_so(&[
+    all_panic(&[
         ("tokenize", |text| {
             let _ = tokenize(text, FrontmatterAllowed::No);
         }),
@@ -79,15 +65,14 @@ fn calls_that_take_a_text() {
     ]);
 }
 
-/// What may be asked of each text is answered of such a one, too.
 #[test]
-fn calls_that_take_any_text() {
+fn calls_that_accept_any_text() {
     assert!(!is_ident(too_long()) && !starts_raw(too_long(), 1));
 }
 
-/// One byte fewer fits. These calls read only the front of it.
+/// A text of `u32::MAX` bytes fits. These calls read only its start.
 #[test]
-fn calls_that_take_the_longest_text() {
+fn the_longest_text() {
     let longest = &too_long()[1..];
     let first = tokenize(longest, FrontmatterAllowed::No).next();
     let token = Cursor::new(longest, FrontmatterAllowed::No).advance_token();
@@ -95,9 +80,9 @@ fn calls_that_take_the_longest_text() {
     assert_eq!(strip_shebang(longest), None);
 }
 
-/// Why the text was refused, which the error has.
+/// Returns the cause of an error that contains the text.
 #[cfg(feature = "alloc")]
-fn given_back(refused: Option<FromStringError>) -> Option<EditError> {
+fn cause(refused: Option<FromStringError>) -> Option<EditError> {
     let refused = refused?;
     assert_eq!(
         format!("{refused:?}"),
@@ -111,8 +96,8 @@ fn given_back(refused: Option<FromStringError>) -> Option<EditError> {
 
 #[cfg(feature = "alloc")]
 #[test]
-fn texts_with_their_tokens() {
-    all_say_so(&[
+fn lexed_texts() {
+    all_panic(&[
         ("LexedText::new", |text| {
             let _ = LexedText::new(text);
         }),
@@ -142,19 +127,22 @@ fn texts_with_their_tokens() {
     let texts = [
         LexedText::try_new_in(too_long(), edition).err(),
         LexedText::try_with(too_long(), Steps::new()).err(),
-        given_back(LexedText::try_from_string_in(too_long_string(), edition).err()),
-        given_back(LexedDocument::try_from_string_in(too_long_string(), edition).err()),
+        cause(LexedText::try_from_string_in(too_long_string(), edition).err()),
+        cause(LexedDocument::try_from_string_in(too_long_string(), edition).err()),
+        LexedText::try_from_string_in(too_long_string(), edition)
+            .err()
+            .map(EditError::from),
         LexedDocument::try_new_in(too_long(), edition).err(),
         LexedDocument::try_with(too_long(), Steps::new()).err(),
     ];
-    assert_eq!(texts, [Some(EditError::TooLong); 6]);
+    assert_eq!(texts, [Some(EditError::TooLong); 7]);
 }
 
 #[cfg(feature = "alloc")]
 #[test]
-fn edits_that_make_one() {
+fn edits() {
     let (mut text, mut document) = (LexedText::new("aé"), LexedDocument::new("aé"));
-    // One byte fewer would fit.
+    // With one byte fewer the text would fit.
     let insert = &too_long()[3..];
     assert!(!text.accepts(0..0, insert) && !document.accepts(0..0, insert));
     assert!(text.accepts(0..1, insert) && document.accepts(0..1, insert));
@@ -169,8 +157,8 @@ fn edits_that_make_one() {
         },
     ];
     for call in calls {
-        let wanted = Some("the edit of 0..0: the text has more than u32::MAX bytes");
-        assert_eq!(said(call, too_long()).as_deref(), wanted);
+        let wanted = "the edit of 0..0: the text has more than u32::MAX bytes";
+        assert_eq!(panic_message(|| call(too_long())), wanted);
     }
     assert_eq!(text.try_set_text(too_long()), Err(EditError::TooLong));
     assert_eq!(document.try_set_text(too_long()), Err(EditError::TooLong));

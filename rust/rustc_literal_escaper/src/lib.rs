@@ -65,3 +65,8 @@ pub use rattle_support::AllocError;
 pub use unit::{MixedUnit, check_raw_c_str, unescape_c_str};
 #[cfg(feature = "alloc")]
 pub use written::{EscapeCStrError, escape_byte_str, escape_c_str, escape_str};
+
+// The program of the README.
+#[cfg(doctest)]
+#[doc = include_str!("../README.md")]
+mod readme {}

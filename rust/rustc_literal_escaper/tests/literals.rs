@@ -1,4 +1,4 @@
-//! What literals stand for, through the binding: the rows of the Reference and of the original's tests.
+//! The values and errors of literals: cases of the Reference and of `rustc_literal_escaper`'s tests.
 
 use core::num::NonZero;
 use rustc_literal_escaper::EscapeError::*;
@@ -20,7 +20,7 @@ macro_rules! units {
     }};
 }
 
-/// The errors that a callback is told, which an iterator gives too, and stays at its end.
+/// Returns the errors that the callback gets. The iterator returns the same and is fused.
 fn errors(text: &str, mode: Mode) -> Vec<(Range<usize>, EscapeError)> {
     let mut errors = Vec::new();
     check_for_errors(text, mode, |range, error| errors.push((range, error)));
@@ -30,9 +30,9 @@ fn errors(text: &str, mode: Mode) -> Vec<(Range<usize>, EscapeError)> {
     errors
 }
 
-/// The errors that are told of a string are those among its units, in texts of up to four of these pieces.
+/// The errors of a string are those among its units, in texts of up to four of these pieces.
 #[test]
-fn errors_are_those_of_the_units() {
+fn errors_of_units() {
     let pieces = [
         "a", "é", "\\", "\n", "\r", " ", "\u{a0}", "\"", "n", "xff", "u{e9}", "0", "\0",
     ];
@@ -57,9 +57,9 @@ fn errors_are_those_of_the_units() {
     }
 }
 
-/// A carriage return behind texts of many lengths is told in each kind of string.
+/// A bare CR after texts of many lengths is reported in each kind of string.
 #[test]
-fn a_bare_carriage_return_anywhere() {
+fn a_bare_cr_anywhere() {
     for front in ["", "a", "é", "\\n", "\\né", "é\\n", "é\\\"ü"] {
         for (times, back) in [(1, ""), (1, "é"), (7, "b"), (40, "\u{80}")] {
             let front = front.repeat(times);
@@ -75,7 +75,7 @@ fn a_bare_carriage_return_anywhere() {
     }
 }
 
-/// Errors close together, before others far apart: each is told where it is.
+/// Errors close together, before others far apart: each is reported with its range.
 #[test]
 fn many_errors() {
     for times in [1, 30, 85, 86, 600] {
@@ -92,7 +92,7 @@ fn many_errors() {
     }
 }
 
-/// What is wrong between single quotes, and where that ends.
+/// Errors between single quotes, and where they end.
 #[test]
 fn characters() {
     for (text, end, want) in [
@@ -132,7 +132,7 @@ fn characters() {
     }
 }
 
-/// What is wrong between single quotes, of a character and of a byte alike.
+/// Errors between single quotes, in characters and in bytes.
 #[rustfmt::skip]
 const WRONG_IN_BOTH: [(EscapeError, &[&str]); 14] = [
     (ZeroChars, &[""]),
@@ -157,7 +157,7 @@ type Literal<'a> = (
     &'a [&'a str],
 );
 
-/// What texts between single quotes stand for, as a character and as a byte.
+/// The values of texts between single quotes, as a character and as a byte.
 #[rustfmt::skip]
 const LITERALS: [Literal<'_>; 22] = [
     (Ok('a'), Ok(b'a'), &["a"]),
@@ -186,7 +186,7 @@ const LITERALS: [Literal<'_>; 22] = [
     ]),
 ];
 
-/// The value or the error, which is the one that is told.
+/// The value or the error, which the callback gets too.
 #[test]
 fn characters_and_bytes() {
     let in_both = WRONG_IN_BOTH.map(|(error, texts)| (Err(error), Err(error), texts));
@@ -244,7 +244,7 @@ fn strings() {
     assert_eq!(errors("a\r", Mode::RawStr), wanted);
 }
 
-/// Characters, and bytes that are part of none. U+0000 is an error.
+/// Characters, and bytes that are not part of one. U+0000 is an error.
 #[test]
 fn c_strings() {
     let char = |c| Ok(MixedUnit::Char(NonZero::new(c).unwrap()));
@@ -275,7 +275,7 @@ fn c_strings() {
     assert_eq!(errors(r"a\0", Mode::CStr), [(1..3, NulInCStr)]);
 }
 
-/// What strings are made of, as a callback is told and as an iterator gives it.
+/// The elements of strings, by the callback and by the iterator.
 #[test]
 fn elements_of_strings() {
     let raw = Err(BareCarriageReturnInRawString);
@@ -311,9 +311,9 @@ fn elements_of_strings() {
     }
 }
 
-/// What a string stands for, and a byte string with the same text between its quotes.
+/// The values of a string and of a byte string with the same contents.
 #[test]
-fn texts_of_strings() {
+fn values_of_strings() {
     for (src, text) in [
         ("foo", "foo"),
         ("", ""),
@@ -334,7 +334,7 @@ fn texts_of_strings() {
     assert_eq!(errors(r"a\qb\u{110000}", Mode::Str), wanted);
 }
 
-/// Literals with as many units as cross at once, one less and more.
+/// Literals with as many units as one batch, one fewer and one more.
 #[test]
 fn long_strings() {
     for count in [127, 128, 129, 1000] {
@@ -347,10 +347,10 @@ fn long_strings() {
     }
 }
 
-/// What is no simple character, wherever among simple ones it stands: these are handed on without the library. Once it is
-/// behind more than numbers of 16 bits count.
+/// Escapes and errors anywhere among simple characters, which take a path of their own, once after more of them than a
+/// `u16` counts.
 #[test]
-fn plain_text_around() {
+fn simple_characters_around() {
     for before in (0..20).chain([70_000]) {
         let text = |x: &str| "a".repeat(before) + x + &"b".repeat(20);
         let around = |x: &str, unit: Result<char, EscapeError>| {
@@ -388,7 +388,7 @@ fn plain_text_around() {
     }
 }
 
-/// Two warnings of one place, wherever among those that cross at once they stand: they are parted nowhere.
+/// Two warnings with one offset, anywhere in a batch: they are never separated.
 #[test]
 fn warnings_of_long_strings() {
     for before in 0..100 {
@@ -428,9 +428,9 @@ fn modes_and_units() {
     is_key::<(MixedUnit, Mode, EscapeError)>();
 }
 
-/// An error goes behind `?`, and says what is wrong. tests/sentences.rs of marks has each sentence.
+/// An error works with `?` and has a message. `marks/tests/sentences.rs` has each message.
 #[test]
-fn errors_have_sentences() {
+fn error_messages() {
     fn is_error<T: std::error::Error + Send + Sync + 'static>() {}
     is_error::<EscapeError>();
     for (error, sentence) in [

@@ -1,5 +1,4 @@
-//! Texts and bytes as they are written between double quotes, beside what Rust's own library writes, and with memory
-//! refused.
+//! Texts and bytes escaped between double quotes, next to the escapes of `std`, and with allocation failures.
 #![cfg(feature = "alloc")]
 
 #[path = "../../rattle_support/tests/refusing/mod.rs"]
@@ -12,9 +11,9 @@ use rustc_literal_escaper::{
     escape_str, unescape_c_str, unescape_str,
 };
 
-/// What is written is appended: each text behind all others, and 70,000 characters and bytes at once.
+/// Output is appended: each text after all others, and 70,000 characters and bytes at once.
 #[test]
-fn as_the_library_of_rust_writes_it() {
+fn escapes_of_std() {
     let mut out = String::new();
     let mut wanted = String::new();
     let many = "é".repeat(70_000);
@@ -49,9 +48,9 @@ fn as_the_library_of_rust_writes_it() {
     assert_eq!(units, 140_000);
 }
 
-/// Each behind what stands there.
+/// Each is appended to a text.
 #[test]
-fn as_worked_out_by_hand() {
+fn escapes_by_hand() {
     for (text, wanted) in [
         ("", "<"),
         ("a\"b'\\", r#"<a\"b\'\\"#),
@@ -71,9 +70,9 @@ fn as_worked_out_by_hand() {
     assert_eq!(out, r"<\xc3\xa9\n");
 }
 
-/// Where an error is answered, what stood there stays, and nothing more.
+/// A call that returns an error does not change the output.
 #[test]
-fn where_nothing_is_written() {
+fn errors_write_nothing() {
     let mut out = String::from("front");
     out.shrink_to_fit();
     assert_eq!(escape_c_str(b"a\0b", &mut out), Err(EscapeCStrError::Nul));
@@ -97,9 +96,9 @@ fn where_nothing_is_written() {
     }
 }
 
-/// Room that the caller made is used, and stays.
+/// The capacity that the caller reserved is used and kept.
 #[test]
-fn room_of_the_caller() {
+fn reserved_capacity() {
     let mut out = String::with_capacity(1000);
     for _ in 0..10 {
         assert_eq!(given(0, || escape_str("a\n", &mut out)), Ok(()));
@@ -108,7 +107,7 @@ fn room_of_the_caller() {
     }
     assert_eq!(out, r"a\n\xffb".repeat(10));
     assert!(out.capacity() >= 1000);
-    // What needs no escape needs no more room than it has bytes.
+    // A text without escapes needs no more room than its bytes.
     let text = "a".repeat(100);
     let mut full = String::with_capacity(300);
     assert_eq!(given(0, || escape_str(&text, &mut full)), Ok(()));
@@ -118,7 +117,7 @@ fn room_of_the_caller() {
     assert_eq!(full, text.repeat(3));
 }
 
-/// A character is one, whatever its bytes, and a byte is a character below 128.
+/// A character is one unit, whatever its bytes, and a byte below 128 is a character.
 #[test]
 fn units_of_c_strings() {
     let char = |c| MixedUnit::Char(NonZero::new(c).unwrap());

@@ -1,31 +1,31 @@
-//! Readers and writers of tests, here and in the packages beside this one: they fail at one call and then go on, give bytes
-//! after their end, or move a part of the bytes.
+//! Readers and writers for tests, also of other packages: they fail at one call and then continue, return bytes after
+//! their end, or move a part of the bytes.
 
-#![allow(dead_code)] // not each test takes all of it
+#![allow(dead_code)] // not each test uses all of it
 
 use ends::Watched;
 use rattle_std::io::{Error, ErrorKind, Read, Result, Write};
 use rattle_std::prelude::String;
 
-/// What an end does at one call in place of moving bytes.
+/// The result of one call in place of moving bytes.
 #[derive(Clone, Copy, Debug)]
 pub enum Turn {
     Fails(ErrorKind),
     MovesNothing,
 }
 
-/// What an end does.
+/// The behaviour of a stream.
 #[derive(Clone, Copy, Debug)]
 pub struct Script {
-    /// How many bytes each call moves, if there are as many.
+    /// The maximum number of bytes of each call.
     pub piece: usize,
-    /// The read or write, counted from 0, that does something else.
+    /// The index of the read or write with another result.
     pub turn: Option<(usize, Turn)>,
-    /// How the first flush fails, if it does.
+    /// The error of the first flush, if it fails.
     pub flush: Option<ErrorKind>,
 }
 
-/// Nothing fails, and each call moves all there is.
+/// Nothing fails, and each call moves all bytes.
 pub const WHOLE: Script = Script {
     piece: usize::MAX,
     turn: None,
@@ -36,13 +36,13 @@ pub const WHOLE: Script = Script {
 pub const BYTES: Script = Script { piece: 1, ..WHOLE };
 
 impl Script {
-    /// The same, but for the call with this number.
+    /// The same, except for the call with this index.
     pub fn but_at(self, call: usize, turn: Turn) -> Script {
         let turn = Some((call, turn));
         Script { turn, ..self }
     }
 
-    /// The same, but for the first flush, which fails.
+    /// The same, except for the first flush, which fails.
     pub fn but_flush(self, kind: ErrorKind) -> Script {
         let flush = Some(kind);
         Script { flush, ..self }
@@ -66,7 +66,7 @@ impl Script {
     }
 }
 
-/// An end, with the bytes that it is still to give, or has taken.
+/// A stream, with the bytes that it has yet to return or has received.
 pub struct End<T> {
     pub bytes: T,
     script: Script,
@@ -78,7 +78,7 @@ pub type Reader<'a> = End<&'a [u8]>;
 pub type Writer = End<Vec<u8>>;
 
 impl<T> End<T> {
-    /// How many bytes the next call moves, at most so many.
+    /// Returns how many of these bytes the next call moves.
     fn moved(&mut self, most: usize) -> Result<usize> {
         let call = self.calls;
         self.calls += 1;
@@ -119,25 +119,25 @@ pub fn words_of(line: &str) -> Vec<String> {
     words.filter(|_| !line.is_empty()).collect()
 }
 
-/// The status of a program over these ends: input, output and errors.
+/// Runs a program on an input, an output and an error stream, and returns its status.
 type Run<'a> = &'a dyn Fn(&mut Watched<Reader>, &mut Watched<Writer>, &mut Watched<Writer>) -> u8;
 
-/// The status of a run, whether its input and whether its output has failed, what it has written, and how many reads,
-/// writes and flushes it has made, and flushes of what is for errors.
+/// The status of a run, whether its input and its output have failed, its output, and its numbers of reads, writes,
+/// flushes, and flushes of the error stream.
 type Came = (u8, [bool; 2], Vec<u8>, [usize; 4]);
 
-/// A program without arguments, over a text.
+/// A program without arguments, and its input.
 pub struct Program<'a> {
     pub run: Run<'a>,
     pub text: &'a [u8],
-    /// What it writes, if nothing fails.
+    /// The output if nothing fails.
     pub output: &'a [u8],
-    /// Its status if nobody reads the output any more.
+    /// The status if the output is closed.
     pub closed: u8,
 }
 
 impl Program<'_> {
-    /// Runs it with each call failed in turn, and with pieces of some sizes.
+    /// Runs the program while each call fails in turn, and with several sizes of reads and writes.
     pub fn check(&self) {
         self.reads_fail();
         self.writes_fail();
@@ -155,7 +155,7 @@ impl Program<'_> {
         (status, failed, output.bytes, calls)
     }
 
-    /// A run stops wherever a read of a byte fails, and ignores what it read.
+    /// A run stops at any failed read, and ignores what it has read.
     fn reads_fail(&self) {
         for call in 0..=self.text.len() {
             for kind in [ErrorKind::Interrupted, ErrorKind::BrokenPipe] {
@@ -166,7 +166,7 @@ impl Program<'_> {
         }
     }
 
-    /// A run stops with what is written so far, and no flush, wherever a write of a byte fails.
+    /// A run stops at any failed write, without a flush.
     fn writes_fail(&self) {
         for call in 0..self.output.len() {
             for (turn, status) in [
@@ -183,7 +183,7 @@ impl Program<'_> {
         }
     }
 
-    /// A flush that fails stops a run, and all of it is written.
+    /// A failed flush stops a run after all output.
     fn flushes_fail(&self) {
         for (kind, status) in [(ErrorKind::Other, 7), (ErrorKind::BrokenPipe, self.closed)] {
             let came = self.over(BYTES.reader(self.text), BYTES.but_flush(kind));
@@ -193,8 +193,8 @@ impl Program<'_> {
         }
     }
 
-    /// All is written, so many bytes at a time, and flushed once. After its end the reader would give a byte that is not
-    /// text: it is read once at its end, and not again.
+    /// All is written, this many bytes at a time, and flushed once. After its end the reader would return a byte that
+    /// is not UTF-8, so nothing is read after it.
     fn pieces(&self) {
         for piece in [1, 2, 7, usize::MAX] {
             let script = Script { piece, ..WHOLE };

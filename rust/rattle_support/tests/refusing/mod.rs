@@ -1,19 +1,19 @@
-//! The allocator of tests that have requests for memory refused, here and in the packages beside this one.
+//! An allocator that can fail, for tests here and in other packages.
 
 use std::alloc::{GlobalAlloc, Layout, System};
 use std::cell::Cell;
 use std::ptr::null_mut;
 
 thread_local! {
-    /// How many requests of this thread are still given, counted down.
+    /// The number of allocations of this thread that still succeed, counted down.
     static GIVEN: Cell<usize> = const { Cell::new(usize::MAX) };
-    /// Whether what follows the first that is refused is given.
+    /// Whether allocations after the first failure succeed.
     static ONCE: Cell<bool> = const { Cell::new(false) };
-    /// The bytes of the greatest request of this thread.
+    /// The size of the largest allocation of this thread, in bytes.
     static GREATEST: Cell<usize> = const { Cell::new(0) };
 }
 
-/// The allocator of the system, which refuses what is not given.
+/// The allocator of the system, which can fail.
 struct Refusing;
 
 fn is_given(size: usize) -> bool {
@@ -24,7 +24,7 @@ fn is_given(size: usize) -> bool {
     left.is_some()
 }
 
-// SAFETY: each call is that of the system's allocator, or answers null, which says that it was refused.
+// SAFETY: each call is that of the system's allocator, or returns null, which means that it failed.
 unsafe impl GlobalAlloc for Refusing {
     unsafe fn alloc(&self, layout: Layout) -> *mut u8 {
         if is_given(layout.size()) {
@@ -50,7 +50,7 @@ unsafe impl GlobalAlloc for Refusing {
 #[global_allocator]
 static ALLOCATOR: Refusing = Refusing;
 
-/// What a call answers if so many of its requests are given.
+/// Returns the result of a call if this many of its allocations succeed.
 pub fn given<T>(count: usize, call: impl FnOnce() -> T) -> T {
     GIVEN.set(count);
     let answer = call();
@@ -58,7 +58,7 @@ pub fn given<T>(count: usize, call: impl FnOnce() -> T) -> T {
     answer
 }
 
-/// What a call answers if its first request alone is refused: a panic takes memory, too.
+/// Returns the result of a call if only its first allocation fails: a panic allocates too.
 #[allow(dead_code)] // not each test has calls that panic
 pub fn refused_once<T>(call: impl FnOnce() -> T) -> T {
     ONCE.set(true);
@@ -67,10 +67,10 @@ pub fn refused_once<T>(call: impl FnOnce() -> T) -> T {
     answer
 }
 
-/// Makes a call on what is made anew each time: with its first request refused, then its second, and so on, until none is
-/// left to refuse. Once all requests after that one are refused, too, and once that one alone is. Each time it checks what
-/// is left, and what the call answered. Returns how many requests were refused, which is the same both times.
-#[allow(dead_code)] // not each test refuses one after another
+/// Makes a call on a new value each time: with its first allocation failing, then its second, and so on, until none
+/// fails. In one pass all allocations after the failing one fail too, in another one only that one. Each time it checks
+/// the value and the result. Returns how many allocations failed, which is the same in both passes.
+#[allow(dead_code)] // not each test fails one after another
 pub fn in_turn<H, T, E>(
     make: impl Fn() -> H,
     call: impl Fn(&mut H) -> Result<T, E>,
@@ -92,7 +92,7 @@ pub fn in_turn<H, T, E>(
     counts[0]
 }
 
-/// How many requests a call makes, if they are at most 100.
+/// Returns the number of allocations of a call, if there are at most 100.
 #[allow(dead_code)] // not each test counts them
 pub fn requests<T>(call: impl FnOnce() -> T) -> usize {
     GIVEN.set(100);
@@ -100,7 +100,7 @@ pub fn requests<T>(call: impl FnOnce() -> T) -> usize {
     100 - GIVEN.replace(usize::MAX)
 }
 
-/// How many bytes the greatest request of a call has.
+/// Returns the size of the largest allocation of a call, in bytes.
 #[allow(dead_code)] // not each test measures them
 pub fn greatest_request<T>(call: impl FnOnce() -> T) -> usize {
     GREATEST.set(0);

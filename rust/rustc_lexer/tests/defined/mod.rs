@@ -1,5 +1,5 @@
-//! What the calls that edit a kept text are by their definition: the text is made by hand and lexed from scratch, what
-//! is kept is counted as docs/RELEXING.md says it, and each token that is lexed is a step, but those of a new head.
+//! The definition of the calls that edit a `LexedText`: the new text is lexed from scratch, the counts follow the rules
+//! of docs/RELEXING.md, and each lexed token is one step, except those of a new head.
 
 use crate::made::{counts, edit, token};
 use rustc_lexer::{
@@ -7,7 +7,7 @@ use rustc_lexer::{
     Stopped, Token, TokenKind, strip_shebang, tokenize_document, tokenize_in,
 };
 
-/// The grammar of an edition, or that of `looking`.
+/// The grammar of an edition, or of `looking`.
 pub type Language = Option<Edition>;
 
 pub const LANGUAGES: [Language; 5] = [
@@ -18,8 +18,8 @@ pub const LANGUAGES: [Language; 5] = [
     None,
 ];
 
-/// A grammar that looks exactly as far as it may: two equal characters are one token, whose kind says how many of the
-/// two after it are an `a`.
+/// A grammar with the longest lookahead that is allowed: two equal characters are one token, and its kind depends on
+/// how many of the next two characters are an `a`.
 fn looking(rest: &str) -> Token {
     let mut chars = rest.chars();
     let first = chars.next().expect("the text is not empty");
@@ -30,7 +30,7 @@ fn looking(rest: &str) -> Token {
     token(kind, len as u32)
 }
 
-/// Steps in a language, which are counted.
+/// A stepper that counts its steps.
 #[derive(Clone)]
 pub struct Counting(pub Option<Steps>, pub usize);
 
@@ -44,7 +44,7 @@ impl Stepper for Counting {
     }
 }
 
-/// Where the tokens of a text begin, how many of them are its head, and all of them.
+/// The offset of the first token, the number of tokens in the head, and all tokens.
 #[derive(Clone, Debug)]
 pub struct Layout {
     pub start: usize,
@@ -99,7 +99,7 @@ fn sum(tokens: &[Token]) -> usize {
 }
 
 impl Layout {
-    /// The bounds of the tokens, in bytes of the text.
+    /// The token boundaries, in bytes.
     fn bounds(&self) -> Vec<usize> {
         let mut at = self.start;
         let ends = self.tokens.iter().map(|token| {
@@ -110,7 +110,7 @@ impl Layout {
     }
 }
 
-/// What an edit keeps and lexes of a text, and its steps: the tokens of a new head take none.
+/// The counts of an edit, and its steps: the tokens of a new head take none.
 fn of_edit(text: &str, old: &Layout, new: &Layout, edit: &Edit<'_>) -> (Relexed, usize) {
     let (before, after) = (old.bounds(), new.bounds());
     let keeps_head = before[old.head] <= edit.start
@@ -135,7 +135,7 @@ fn of_edit(text: &str, old: &Layout, new: &Layout, edit: &Edit<'_>) -> (Relexed,
     (relexed, relexed.lexed - new.head.saturating_sub(front))
 }
 
-/// What comes of edits by their definition.
+/// The result of edits, by definition.
 #[derive(Clone, Debug)]
 pub struct Made {
     pub text: String,
@@ -148,7 +148,7 @@ pub fn is_inside(text: &str, edit: &Edit<'_>) -> bool {
     edit.start <= edit.stop && text.is_char_boundary(edit.start) && text.is_char_boundary(edit.stop)
 }
 
-/// Of a list of edits.
+/// The result of a list of edits.
 pub fn of_list<K: Kept>(text: &str, language: Language, edits: &[Edit<'_>]) -> Made {
     let (mut text, mut layout) = (text.to_owned(), K::layout(text, language));
     let (old, mut steps, mut stop) = (layout.tokens.len(), 0, None);
@@ -179,7 +179,7 @@ pub fn of_list<K: Kept>(text: &str, language: Language, edits: &[Edit<'_>]) -> M
     }
 }
 
-/// Of edits at once, or which is the first that is not in order.
+/// The result of edits at once, or the first edit that is out of order.
 pub fn of_all<K: Kept>(
     text: &str,
     language: Language,
@@ -199,7 +199,7 @@ pub fn of_all<K: Kept>(
     Ok(of_list::<K>(text, language, whole.as_slice()))
 }
 
-/// Of another text: one edit of what differs, by characters.
+/// The result of `set_text`: one edit of what differs, on character boundaries.
 pub fn of_other<K: Kept>(text: &str, language: Language, other: &str) -> Made {
     if text == other {
         return of_list::<K>(text, language, &[]);
@@ -223,7 +223,7 @@ pub fn of_other<K: Kept>(text: &str, language: Language, other: &str) -> Made {
 pub type Part = LexedText<Checked<Counting>>;
 pub type Whole = LexedDocument<Checked<Counting>>;
 
-/// A text of either kind that is kept with its tokens by a stepper that counts.
+/// A `LexedText` or `LexedDocument` with a stepper that counts.
 pub trait Kept: Clone {
     fn held(text: &str, language: Language) -> Self;
     fn layout(text: &str, language: Language) -> Layout;
@@ -233,7 +233,7 @@ pub trait Kept: Clone {
     fn edit_at_once(&mut self, edits: &[Edit<'_>]) -> Result<Relexed, EditStop>;
     fn try_edit(&mut self, edit: &Edit<'_>) -> Result<Relexed, EditError>;
     fn try_set_text(&mut self, text: &str) -> Result<Relexed, EditError>;
-    /// The text, the tokens and what each look-up tells are those of the text.
+    /// Asserts that text, tokens and look-ups are those of the text.
     fn is_of(&self, text: &str, layout: &Layout, context: &str);
 }
 

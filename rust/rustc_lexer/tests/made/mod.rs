@@ -1,5 +1,5 @@
-//! Values that tests name again and again.
-#![allow(dead_code)] // not each test makes each of them
+//! Short constructors for tests.
+#![allow(dead_code)] // not each test uses all of it
 
 use rustc_lexer::{Edit, Relexed, Token, TokenKind};
 

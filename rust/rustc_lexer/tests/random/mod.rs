@@ -1,8 +1,8 @@
-//! Texts, places and ranges that look as if drawn by chance.
+//! Random texts, offsets and ranges.
 
 use std::ops::Range;
 
-/// Knuth's linear congruence of 64 bits, and the pieces that texts are made of.
+/// Knuth's linear congruential generator with 64 bits, and the pieces that texts consist of.
 pub struct Random(pub u64, pub &'static [&'static str]);
 
 impl Random {
@@ -14,7 +14,7 @@ impl Random {
         ((self.0 >> 33) as usize) % bound
     }
 
-    /// A text of at most so many pieces.
+    /// Returns a text of at most this many pieces.
     pub fn text(&mut self, most: usize) -> String {
         let count = self.below(most + 1);
         (0..count)
@@ -22,7 +22,8 @@ impl Random {
             .collect()
     }
 
-    /// A range between characters that begins among the first bytes and has so many bytes at most, or one or two more.
+    /// Returns a range between characters that starts in the first `first` bytes and has at most some two bytes more
+    /// than `most`.
     pub fn range_in(&mut self, text: &str, first: usize, most: usize) -> Range<usize> {
         let mut start = self.below(first.min(text.len()) + 1);
         while !text.is_char_boundary(start) {

@@ -1,5 +1,5 @@
-//! The rows of `crates/lex_vectors`, texts with the tokens that they should give, through the crate for plain Rust. The package
-//! does not have them.
+//! The test vectors of `crates/lex_vectors`, texts with their tokens, in the generated crate. They are not part of the
+//! package.
 
 use crate::tables::all::all;
 use crate::tables::raw_strings::CHECKS;
@@ -22,7 +22,7 @@ struct Case {
 }
 
 impl Case {
-    /// Whether a frontmatter may stand in front, where the call is `tokenize`.
+    /// Whether a frontmatter is allowed, if the call is `tokenize`.
     fn allowed(&self) -> Option<FrontmatterAllowed> {
         match self.way {
             Way::Newest(allowed) => Some(allowed),
@@ -31,7 +31,7 @@ impl Case {
     }
 }
 
-/// A text with its tokens, and what it is for.
+/// A text with its tokens and its purpose.
 type Text<M> = (String, Vec<(TokenKind, u32)>, M);
 
 /// The texts of a table.
@@ -74,7 +74,7 @@ fn cases() -> Vec<Case> {
 #[test]
 fn tokens() {
     let cases = cases();
-    // A row more or less is a number more or less here, so that none is lost.
+    // No row is lost.
     assert_eq!(cases.len(), 632);
     for case in cases {
         let mut left = match case.way {

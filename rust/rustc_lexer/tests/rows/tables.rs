@@ -1,4 +1,4 @@
-//! The tables of rows, which are files of `crates/lex_vectors`.
+//! The tables of `crates/lex_vectors`.
 
 #[path = "../../../../crates/lex_vectors/src/tables/all.rt"]
 pub(crate) mod all;

@@ -1,9 +1,9 @@
-//! Each caller of `examples` on texts made by hand.
+//! The callers in `examples`, on hand-written texts.
 use examples::comments::skip_comments;
 use examples::repaint::{edit_shown, repaint};
 use rustc_lexer::{LexedText, Relexed, fits};
 
-/// Texts, and their rest after the comments.
+/// Texts, and what follows their leading comments.
 static COMMENTS: &[(&str, &str)] = &[("// a\n/* b */ c // d", "c // d"), ("//! a", ""), ("", "")];
 
 #[test]

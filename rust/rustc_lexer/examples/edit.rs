@@ -1,0 +1,16 @@
+//! Prints the tokens of a file, then those that an edit changes: `cargo run --example edit` in a package with `src/main.rs`.
+use rustc_lexer::LexedDocument;
+
+fn main() -> std::io::Result<()> {
+    let mut file = LexedDocument::from(std::fs::read_to_string("src/main.rs")?);
+    for piece in file.pieces() {
+        println!("{} {:?} {:?}", piece.start, piece.token.kind, piece.text);
+    }
+    let change = file.edit(0..3, "pub use");
+    let kept = change.kept_front + change.kept_back;
+    println!("{kept} tokens were kept. These were lexed:");
+    for piece in file.pieces_of_tokens(change.changed_tokens()) {
+        println!("{:?} {:?}", piece.token.kind, piece.text);
+    }
+    Ok(())
+}
