@@ -12,7 +12,7 @@ use crate::element::Element;
 use crate::elements::{Sink, each};
 use crate::error::EscapeError;
 use crate::mode::Mode;
-use crate::simple::past_simple;
+use crate::simple::skip_simple;
 use crate::single::single_error;
 use crate::text::Plain;
 use std::ops::Range;
@@ -77,8 +77,7 @@ fn each_error<F: FnMut(Range<usize>, EscapeError)>(src: &str, mode: Mode, callba
 {
     let raw = is_raw(mode);
     let mut errors = Errors { mode, callback };
-    let mut rest = Plain::end_of(src.len(), past_simple(src, raw));
-    each(&mut rest, raw, None, &mut errors);
+    each(&mut skip_simple(src, raw), raw, None, &mut errors);
 }
 
 /// Returns whether a literal of this kind has no escapes.

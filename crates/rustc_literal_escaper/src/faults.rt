@@ -5,9 +5,10 @@ ghost use Rattle.rustc_literal_escaper.specs.Answers.{errors_of};
 ghost use Rattle.rustc_literal_escaper.specs.Items.{TakesFirst};
 
 use crate::check::is_raw;
-use crate::elements::{Elements, elements_of};
+use crate::elements::{Elements, ElementsOf};
 use crate::error::EscapeError;
 use crate::mode::Mode;
+use crate::simple::skip_simple;
 use crate::single::single_error;
 use crate::text::Plain;
 use std::iter::Iterator;
@@ -56,9 +57,10 @@ impl<'a> Faults<'a> {
                 mode,
             };
         }
+        let raw = is_raw(mode);
         Faults {
             alone: None,
-            elements: elements_of(src, is_raw(mode)),
+            elements: ElementsOf::of_text(skip_simple(src, raw), raw),
             mode,
         }
     }
@@ -72,7 +74,6 @@ impl<'a> Iterator for Faults<'a> {
     ghost remaining = { λ s. at_most (length s) };
 
     /// Returns the next error or warning. Past the last one it returns `None`, and does so from then on.
-    #[inline]
     fn next(&mut self) -> Option<(Range<usize>, EscapeError)> {
         if self.alone.is_some() {
             return self.alone.take();

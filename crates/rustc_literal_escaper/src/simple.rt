@@ -5,12 +5,22 @@ ghost use Rattle.std.specs.Simd.Lanes.{mask_l};
 ghost use Rattle.std.specs.Str.{chars, IsUtf8};
 ghost use Rattle.rustc_literal_escaper.specs.means.Plain as spec;
 
+use crate::text::Plain;
 use std::simd::prelude::*;
 
-/// Returns the text after simple characters at the front. Of fewer than 32 bytes it skips none.
+/// Returns the characters of `src` after the simple characters at its front. Of fewer than 32 bytes it skips none.
+#[inline(always)]
+pub(crate) fn skip_simple(src: &str, raw: bool) -> Plain<'_>
+    ensures total { result.0 ≡ length src.now }
+    ensures passes { spec.Passes (spec.is_simple raw) (chars src.now) result.1 }
+{
+    Plain::end_of(src.len(), past_simple(src, raw))
+}
+
+/// Returns the text after the simple characters at the front. Of fewer than 32 bytes it skips none.
 #[inline(always)]
 #[tactic(auto, using(crate::proofs::RunLemmas::simple_lemmas))]
-pub(crate) fn past_simple(rest: &str, raw: bool) -> &str
+fn past_simple(rest: &str, raw: bool) -> &str
     ensures passes { spec.Passes (spec.is_simple raw) (chars rest.now) (chars result.now) }
     ensures text { IsUtf8 result.now }
     ensures shorter { length result.now ≤ length rest.now }

@@ -5,7 +5,7 @@ use crate::erased::element::Element;
 use crate::erased::elements::{Sink, each};
 use crate::erased::error::EscapeError;
 use crate::erased::mode::Mode;
-use crate::erased::simple::past_simple;
+use crate::erased::simple::skip_simple;
 use crate::erased::single::single_error;
 use crate::erased::text::Plain;
 use core::ops::Range;
@@ -56,8 +56,7 @@ fn each_single_error<F: FnMut(Range<usize>, EscapeError)>(src: &str, mode: Mode,
 fn each_error<F: FnMut(Range<usize>, EscapeError)>(src: &str, mode: Mode, callback: F) {
     let raw = is_raw(mode);
     let mut errors = Errors { mode, callback };
-    let mut rest = Plain::end_of(src.len(), past_simple(src, raw));
-    each(&mut rest, raw, None, &mut errors);
+    each(&mut skip_simple(src, raw), raw, None, &mut errors);
 }
 
 /// Returns whether a literal of this kind has no escapes.

@@ -2,9 +2,10 @@
 //! The errors and warnings of a literal, one after another.
 
 use crate::erased::check::is_raw;
-use crate::erased::elements::{Elements, elements_of};
+use crate::erased::elements::{Elements, ElementsOf};
 use crate::erased::error::EscapeError;
 use crate::erased::mode::Mode;
+use crate::erased::simple::skip_simple;
 use crate::erased::single::single_error;
 use crate::erased::text::Plain;
 use core::iter::Iterator;
@@ -32,9 +33,10 @@ impl<'a> Faults<'a> {
                 mode,
             };
         }
+        let raw = is_raw(mode);
         Faults {
             alone: None,
-            elements: elements_of(src, is_raw(mode)),
+            elements: ElementsOf::of_text(skip_simple(src, raw), raw),
             mode,
         }
     }
@@ -44,7 +46,6 @@ impl<'a> Iterator for Faults<'a> {
     type Item = (Range<usize>, EscapeError);
 
     /// Returns the next error or warning. Past the last one it returns `None`, and does so from then on.
-    #[inline]
     fn next(&mut self) -> Option<(Range<usize>, EscapeError)> {
         if self.alone.is_some() {
             return self.alone.take();

@@ -1,11 +1,18 @@
 // Made by tools/erase from crates/rustc_literal_escaper/src/simple.rt: edit that file.
 //! Skips simple characters, which are wrong in no kind of string, at the front of a text, 32 bytes at a time.
 
+use crate::erased::text::Plain;
 use crate::support::simd::*;
 
-/// Returns the text after simple characters at the front. Of fewer than 32 bytes it skips none.
+/// Returns the characters of `src` after the simple characters at its front. Of fewer than 32 bytes it skips none.
 #[inline(always)]
-pub(crate) fn past_simple(rest: &str, raw: bool) -> &str {
+pub(crate) fn skip_simple(src: &str, raw: bool) -> Plain<'_> {
+    Plain::end_of(src.len(), past_simple(src, raw))
+}
+
+/// Returns the text after the simple characters at the front. Of fewer than 32 bytes it skips none.
+#[inline(always)]
+fn past_simple(rest: &str, raw: bool) -> &str {
     if rest.len() < 32 {
         return rest;
     }
