@@ -1,4 +1,4 @@
-//! Finds the errors and warnings in a literal, and nothing else.
+//! Finds the errors and warnings in a literal.
 ghost use Rattle.std.specs.Prelude.{◌≡◌, false, length};
 ghost use Rattle.std.specs.List.{FoldsTo};
 ghost use Rattle.std.specs.Option.{option_to_list};
@@ -12,15 +12,15 @@ use crate::element::Element;
 use crate::elements::{Sink, each};
 use crate::error::EscapeError;
 use crate::mode::Mode;
-use crate::simple::past_simple;
+use crate::simple::skip_simple;
 use crate::single::single_error;
 use crate::text::Plain;
 use std::ops::Range;
 
-/// Calls `error_callback` with each error and each warning in a literal, and its place in bytes.
+/// Calls `error_callback` with the byte range of each error and warning in a literal, and the error.
 ///
-/// `src` is the text between the quotes, and `mode` is the kind of the literal. The calls come in the order of the
-/// text. Between single quotes there is at most one, and its place begins at 0.
+/// `src` is the text between the quotes, and `mode` is the kind of the literal. The calls are in text order. Between
+/// single quotes there is at most one, and its range starts at 0.
 ///
 /// ```
 /// use rustc_literal_escaper::{EscapeError, Mode, check_for_errors};
@@ -51,7 +51,7 @@ pub fn check_for_errors<F: FnMut(Range<usize>, EscapeError)>(
     }
 }
 
-/// Calls `callback` with the error between single quotes, if there is one.
+/// Calls `callback` with the error of a character or byte literal, if it has one.
 #[inline(always)]
 fn each_single_error<F: FnMut(Range<usize>, EscapeError)>(src: &str, mode: Mode, callback: &mut F)
     requires callable { F.IsAlwaysCallable callback.old }
@@ -64,10 +64,9 @@ fn each_single_error<F: FnMut(Range<usize>, EscapeError)>(src: &str, mode: Mode,
     }
 }
 
-/// Calls `callback` with each error and warning between double quotes.
+/// Calls `callback` with each error and warning in a string.
 ///
-/// It is inlined into each arm of its caller, so that the mode is known there. Where nothing is wrong or escaped it looks
-/// at 32 bytes at a time.
+/// It is inlined into each arm of its caller, where the mode is a constant.
 #[inline(always)]
 fn each_error<F: FnMut(Range<usize>, EscapeError)>(src: &str, mode: Mode, callback: F)
     requires callable { F.IsAlwaysCallable callback }
@@ -77,11 +76,10 @@ fn each_error<F: FnMut(Range<usize>, EscapeError)>(src: &str, mode: Mode, callba
 {
     let raw = is_raw(mode);
     let mut errors = Errors { mode, callback };
-    let mut rest = Plain::end_of(src.len(), past_simple(src, raw));
-    each(&mut rest, raw, None, &mut errors);
+    each(&mut skip_simple(src, raw), raw, None, &mut errors);
 }
 
-/// Returns whether a literal of this kind has no escapes.
+/// Returns whether a literal of this kind is raw.
 #[inline(always)]
 pub(crate) fn is_raw(mode: Mode) -> bool
     ensures { result ≡ spec.is_raw mode }
@@ -89,7 +87,7 @@ pub(crate) fn is_raw(mode: Mode) -> bool
     matches!(mode, Mode::RawStr | Mode::RawByteStr | Mode::RawCStr)
 }
 
-/// Calls its callback with what is wrong with each element in a literal of this kind.
+/// A sink that calls back with the error or warning of each element, if it has one in a literal of this kind.
 #[derive(Drop)]
 struct Errors<F> {
     mode: Mode,

@@ -1,4 +1,4 @@
-//! The elements of the text between double quotes.
+//! The elements of a string: two loops that read them, and an iterator.
 ghost use Rattle.std.specs.Prelude.{◌≡◌, ◌∷◌, [], None, true, false, length, map, if◌then◌else◌};
 ghost use Rattle.std.specs.Iterator.{at_most};
 ghost use Rattle.std.specs.List.{list_any};
@@ -21,26 +21,28 @@ use std::iter::Iterator;
 use std::marker::Model;
 use std::ops::Range;
 
-/// What takes elements, one after another.
+/// A consumer of elements.
 pub(crate) trait Sink {
     ghost use Rattle.std.specs.Prelude.{Bool};
     ghost use Rattle.rustc_literal_escaper.specs.Grammar.{Item};
 
-    /// Whether it can take an element.
+    /// Whether the sink can be called.
     ghost ready: { Self → Type 0 };
 
-    /// What it is after an element, and whether it takes more.
+    /// How a call changes the sink: the sink before, the item, the result, and the sink after.
     ghost took: { Self → Item → Bool → Self → Type 0 };
 
-    /// Takes an element, and returns whether it takes more.
+    /// Consumes an element. Returns whether the sink wants more.
     fn take(&mut self, range: Range<usize>, element: Element) -> bool
         requires ready { ready self.old }
         ensures ready { ready self.new }
         ensures took { took self.old (range, element) result self.new };
 }
 
-/// Passes the elements of a text to `sink`, until it takes no more. Returns the start of a line end whose white space
-/// is still to be warned of, and is given it the next time.
+/// Passes the elements of a text to `sink` until it wants no more.
+///
+/// A skipped line end can have two warnings. If the sink stops after the first, this returns the offset of the
+/// backslash, which the next call takes as `line` to continue with the second.
 #[inline(always)]
 pub(crate) fn each<T: Text, S: Sink>(
     rest: &mut T,
@@ -64,7 +66,7 @@ pub(crate) fn each<T: Text, S: Sink>(
     each_escaped(rest, sink)
 }
 
-/// Does what [`each`] does, for a string that may have escapes.
+/// Does the work of [`each`] for a string that is not raw.
 #[inline(always)]
 fn each_escaped<T: Text, S: Sink>(rest: &mut T, sink: &mut S) -> Option<usize>
     requires ready { S.ready sink.old }
@@ -101,7 +103,7 @@ fn each_escaped<T: Text, S: Sink>(rest: &mut T, sink: &mut S) -> Option<usize>
     }
 }
 
-/// Does what [`each`] does, for a raw string.
+/// Does the work of [`each`] for a raw string.
 #[inline(always)]
 fn each_raw<T: Text, S: Sink>(rest: &mut T, sink: &mut S)
     requires ready { S.ready sink.old }
@@ -110,21 +112,19 @@ fn each_raw<T: Text, S: Sink>(rest: &mut T, sink: &mut S)
         (items_by (front_by true) (T.offset_of rest.old) (T.left rest.old)) sink.new
         (items_by (front_by true) (T.offset_of rest.old) (T.left rest.new)) }
 {
-    let mut start = rest.offset();
     'characters: loop {
+        let start = rest.offset();
         let Some(c) = rest.next_char() else {
             return;
         };
-        let end = rest.offset();
-        if !sink.take(start..end, raw_element(c)) {
+        if !sink.take(start..rest.offset(), raw_element(c)) {
             return;
         }
-        start = end;
     }
 }
 
-/// Passes the warning that is still to come past a line end to `sink`, if there is one. Returns whether `sink` takes
-/// more.
+/// Passes the second warning of a skipped line end to `sink`, if the last call stopped before it. Returns whether
+/// `sink` wants more.
 #[inline(always)]
 fn warn_of_line<T: Text, S: Sink>(rest: &T, line: Option<usize>, sink: &mut S) -> bool
     requires ready { S.ready sink.old }
@@ -138,8 +138,7 @@ fn warn_of_line<T: Text, S: Sink>(rest: &T, line: Option<usize>, sink: &mut S) -
     }
 }
 
-/// Passes the warning that a newline is in the white space that was skipped to `sink`, if one is. Returns whether
-/// `sink` takes more.
+/// Passes `MultipleSkippedLinesWarning` to `sink` if `lines` is true. Returns whether `sink` wants more.
 #[inline(always)]
 fn warn_of_lines<T: Text, S: Sink>(rest: &T, start: usize, lines: bool, sink: &mut S) -> bool
     requires ready { S.ready sink.old }
@@ -155,7 +154,8 @@ fn warn_of_lines<T: Text, S: Sink>(rest: &T, start: usize, lines: bool, sink: &m
     sink.take(start..rest.offset(), warning)
 }
 
-/// Passes the warning that white space comes next to `sink`, if it does. Returns whether `sink` takes more.
+/// Passes `UnskippedWhitespaceWarning` to `sink` if the next character is whitespace. Returns whether `sink` wants
+/// more.
 #[inline(always)]
 fn warn_of_space<T: Text, S: Sink>(rest: &T, start: usize, sink: &mut S) -> bool
     requires ready { S.ready sink.old }
@@ -174,7 +174,7 @@ fn warn_of_space<T: Text, S: Sink>(rest: &T, start: usize, sink: &mut S) -> bool
     sink.take(start..ahead.offset(), warning)
 }
 
-/// Takes a newline, if one comes next. Returns whether it did.
+/// Skips a newline if it is the next character. Returns whether it was.
 #[inline(always)]
 fn skip_newline<T: Text>(rest: &mut T) -> bool
     ensures same { T.offset_of rest.new ≡ T.offset_of rest.old }
@@ -190,7 +190,7 @@ fn skip_newline<T: Text>(rest: &mut T) -> bool
     newline
 }
 
-/// Skips the white space that a backslash at the end of a line skips. Returns whether a newline is in it.
+/// Skips the whitespace that a backslash at the end of a line skips. Returns whether it has a newline.
 #[inline(always)]
 #[tactic(auto, using(crate::proofs::PlaceLemmas::place_lemmas))]
 fn pass_over<T: Text>(rest: &mut T) -> bool
@@ -212,7 +212,7 @@ fn pass_over<T: Text>(rest: &mut T) -> bool
     }
 }
 
-/// Returns whether this is white space that a backslash at the end of a line skips.
+/// Returns whether a backslash at the end of a line skips this character.
 #[inline(always)]
 fn is_passed_over(c: char) -> bool
     ensures { result ≡ grammar.is_passed_over c }
@@ -232,7 +232,7 @@ fn raw_element(c: char) -> Element
     }
 }
 
-/// Returns the element for a character that is not escaped, between double quotes.
+/// Returns the element for an unescaped character of a string that is not raw.
 #[inline(always)]
 fn unescaped(c: char) -> Element
     ensures { result ≡ spec.unescaped c }
@@ -244,18 +244,18 @@ fn unescaped(c: char) -> Element
     }
 }
 
-/// An iterator over the elements of a string, each with its place in bytes.
+/// An iterator over the elements of a string, each with its byte range.
 ///
-/// [`Elements::new`] and [`Elements::new_raw`] return it.
+/// Created by [`Elements::new`] and [`Elements::new_raw`].
 pub type Elements<'a> = ElementsOf<Plain<'a>>;
 
-/// An iterator over the elements of a string whose characters are read in this way.
+/// An iterator over the elements of a string that is read as a [`Text`].
 #[derive(Drop)]
 pub struct ElementsOf<T: Text> {
     rest: T,
-    /// Whether the text is that of a raw string.
+    /// Whether the string is raw.
     raw: bool,
-    /// The start of the line end that was skipped just now, if the white space after it is still to be warned of.
+    /// The backslash of the line end that was just skipped, if its second warning is still to come.
     line: Option<usize>,
 }
 
@@ -317,9 +317,7 @@ impl<T: Text> ElementsOf<T> {
         }
     }
 
-    /// Returns the next error or warning in a literal of this kind, and its place. It skips the elements before.
-    ///
-    /// Returns `None` if nothing more is wrong.
+    /// Returns the next error or warning in a literal of this kind and its byte range, or `None` after the last.
     #[inline(always)]
     pub fn next_error(&mut self, mode: Mode) -> Option<(Range<usize>, EscapeError)>
         ensures { TakesFirst (errors_in mode self.old) result (errors_in mode self.new) }
@@ -339,11 +337,10 @@ impl<T: Text> Iterator for ElementsOf<T> {
 
     ghost remaining = { λ s. at_most (length s) };
 
-    /// Returns the next element. Past the last one it returns `None`, and does so from then on.
-    ///
-    /// It reads a copy of the text, which stays in registers.
+    /// Returns the next element, or `None` after the last one.
     #[inline(always)]
     fn next(&mut self) -> Option<(Range<usize>, Element)> {
+        // The loop reads a copy, which stays in registers.
         let mut first = First { found: None };
         let mut rest = self.rest.copy();
         self.line = each(&mut rest, self.raw, self.line, &mut first);
@@ -352,7 +349,7 @@ impl<T: Text> Iterator for ElementsOf<T> {
     }
 }
 
-/// Takes one element.
+/// A sink for one element.
 #[derive(Drop)]
 struct First {
     found: Option<(Range<usize>, Element)>,
@@ -372,7 +369,7 @@ impl Sink for First {
     }
 }
 
-/// Takes elements up to the first that is wrong in a literal of this kind.
+/// A sink for the elements up to the first error or warning in a literal of this kind.
 #[derive(Drop)]
 struct FirstError {
     mode: Mode,

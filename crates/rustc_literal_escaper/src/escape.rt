@@ -1,4 +1,4 @@
-//! The escapes after a backslash.
+//! Reads escapes.
 ghost use Rattle.std.specs.Prelude.{◌≡◌, ◌<◌, ◌^◌, ◌+◌, ◌*◌, ◌∷◌, ℕ, min, nat_le, nat_lt, if◌then◌else◌, MatchOption};
 ghost use Rattle.std.specs.Char.{digit_value};
 ghost use Rattle.rustc_literal_escaper.specs.means.Escape as spec;
@@ -9,7 +9,7 @@ use crate::element::Element::{Byte, Fault};
 use crate::error::EscapeError;
 use crate::text::Text;
 
-/// The most digits of a number between braces.
+/// The maximum number of digits between braces.
 const MOST_DIGITS: usize = 6;
 
 /// Reads the escape after a backslash.
@@ -23,15 +23,21 @@ pub fn read_escape<T: Text>(rest: &mut T) -> Element
     };
     match c {
         'x' => hex(rest),
-        'u' => unicode(rest),
+        // The call gets a copy, so that `rest` can stay in registers.
+        'u' => {
+            let mut ahead = rest.copy();
+            let element = unicode(&mut ahead);
+            *rest = ahead;
+            element
+        }
         _ => short(c),
     }
 }
 
-/// The element for a backslash and a character that begin no escape.
+/// The element for a backslash and a character that are not an escape.
 const NONE: Element = Fault(EscapeError::InvalidEscape);
 
-// The bytes that the other short escapes stand for.
+// The values of the other short escapes.
 const NUL: Element = Byte(0);
 
 const TAB: Element = Byte(b'\t');
@@ -46,7 +52,7 @@ const QUOTE: Element = Byte(b'\'');
 
 const BACKSLASH: Element = Byte(b'\\');
 
-/// The element for a backslash and each character of ASCII except `x` and `u`. A look in a table costs less than a
+/// The element for a backslash and each ASCII character except `x` and `u`. A lookup in a table costs less than a
 /// branch, since the next escape is hard to predict.
 static SHORT: [Element; 128] = [
     NONE, NONE, NONE, NONE, NONE, NONE, NONE, NONE, NONE, NONE, NONE, NONE, NONE, NONE, NONE, NONE,
@@ -69,8 +75,8 @@ pub(crate) fn short(c: char) -> Element
     if code < 128 { SHORT[code] } else { NONE }
 }
 
-/// The value of each hexadecimal digit in ASCII, and 16 for each other character. Whether the next one is a digit
-/// or a letter is hard to predict, too.
+/// The value of each hexadecimal digit in ASCII, and 16 for each other character. A table, since whether a digit or a
+/// letter comes next is hard to predict, too.
 static DIGITS: [u8; 128] = [
     16, 16, 16, 16, 16, 16, 16, 16, 16, 16, 16, 16, 16, 16, 16, 16, 16, 16, 16, 16, 16, 16, 16, 16,
     16, 16, 16, 16, 16, 16, 16, 16, 16, 16, 16, 16, 16, 16, 16, 16, 16, 16, 16, 16, 16, 16, 16, 16,
@@ -125,6 +131,7 @@ fn hex<T: Text>(rest: &mut T) -> Element
 }
 
 /// Reads the number between braces after a `u`.
+#[inline(never)]
 fn unicode<T: Text>(rest: &mut T) -> Element
     ensures same { T.offset_of rest.new ≡ T.offset_of rest.old }
     ensures read { (result, T.left rest.new) ≡ spec.unicode (T.left rest.old) }

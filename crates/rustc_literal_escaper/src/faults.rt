@@ -1,50 +1,51 @@
-//! The errors and warnings of a literal, one after another.
-ghost use Rattle.std.specs.Prelude.{◌≡◌, ◌++◌, length};
+//! An iterator over the errors and warnings in a literal.
+ghost use Rattle.std.specs.Prelude.{◌≡◌, length};
 ghost use Rattle.std.specs.Iterator.{at_most};
 ghost use Rattle.rustc_literal_escaper.specs.Answers.{errors_of};
 ghost use Rattle.rustc_literal_escaper.specs.Items.{TakesFirst};
+ghost use Rattle.rustc_literal_escaper.specs.Meaning.{errors_in};
 
 use crate::check::is_raw;
-use crate::elements::{Elements, elements_of};
+use crate::elements::{Elements, ElementsOf};
 use crate::error::EscapeError;
 use crate::mode::Mode;
+use crate::simple::skip_simple;
 use crate::single::single_error;
 use crate::text::Plain;
 use std::iter::Iterator;
 use std::marker::Model;
 use std::ops::Range;
 
-/// An iterator over the errors and warnings of a literal, each with its place in bytes.
+/// An iterator over the errors and warnings in a literal, each with its byte range.
 ///
-/// It returns the items with which [`check_for_errors`](crate::check_for_errors) calls its callback, in the same
-/// order.
+/// Its items are the calls of [`check_for_errors`](crate::check_for_errors), in the same order.
 ///
 /// ```ignore
-/// for (place, error) in Faults::new(r"a\q", Mode::Str) {
-///     underline(place, error);
+/// for (range, error) in Faults::new(r"a\q", Mode::Str) {
+///     underline(range, error);
 /// }
 /// ```
 #[derive(Drop)]
 pub struct Faults<'a> {
-    /// The error between single quotes, until it is returned.
+    /// The error of a character or byte literal, until it is returned.
     alone: Option<(Range<usize>, EscapeError)>,
     elements: Elements<'a>,
     mode: Mode,
 }
 
 impl<'a> Model for Faults<'a> {
-    ghost use Rattle.std.specs.Prelude.{List, ◌++◌};
+    ghost use Rattle.std.specs.Prelude.{List, if◌then◌else◌};
     ghost use Rattle.std.specs.Option.{option_to_list};
-    ghost use Rattle.rustc_literal_escaper.specs.Meaning.{errors_in};
+    ghost use Rattle.rustc_literal_escaper.specs.Meaning.{errors_in, is_single};
     ghost use Rattle.rustc_literal_escaper.specs.Grammar.{Error};
 
     ghost Value = { List Error };
 
-    ghost view = { λ f. option_to_list f.alone ++ errors_in f.mode f.elements };
+    ghost view = { λ f. if is_single f.mode then option_to_list f.alone else errors_in f.mode f.elements };
 }
 
 impl<'a> Faults<'a> {
-    /// Returns an iterator over the errors and warnings of a literal of this kind. `src` is the text between the
+    /// Returns an iterator over the errors and warnings in a literal of this kind. `src` is the text between the
     /// quotes.
     pub fn new(src: &'a str, mode: Mode) -> Faults<'a>
         ensures { result ≡ errors_of mode src.now }
@@ -56,9 +57,10 @@ impl<'a> Faults<'a> {
                 mode,
             };
         }
+        let raw = is_raw(mode);
         Faults {
             alone: None,
-            elements: elements_of(src, is_raw(mode)),
+            elements: ElementsOf::of_text(skip_simple(src, raw), raw),
             mode,
         }
     }
@@ -71,23 +73,50 @@ impl<'a> Iterator for Faults<'a> {
 
     ghost remaining = { λ s. at_most (length s) };
 
-    /// Returns the next error or warning. Past the last one it returns `None`, and does so from then on.
-    #[inline]
+    /// Returns the next error or warning, or `None` after the last one.
     fn next(&mut self) -> Option<(Range<usize>, EscapeError)> {
-        if self.alone.is_some() {
-            return self.alone.take();
-        }
-        // The mode is known in each arm, which makes its loop short.
-        let elements = &mut self.elements;
         match self.mode {
-            Mode::Char => elements.next_error(Mode::Char),
-            Mode::Byte => elements.next_error(Mode::Byte),
-            Mode::Str => elements.next_error(Mode::Str),
-            Mode::ByteStr => elements.next_error(Mode::ByteStr),
-            Mode::CStr => elements.next_error(Mode::CStr),
-            Mode::RawStr => elements.next_error(Mode::RawStr),
-            Mode::RawByteStr => elements.next_error(Mode::RawByteStr),
-            Mode::RawCStr => elements.next_error(Mode::RawCStr),
+            Mode::Char | Mode::Byte => self.alone.take(),
+            Mode::Str | Mode::RawStr => next_in_str(&mut self.elements),
+            Mode::ByteStr | Mode::RawByteStr => next_in_byte_str(&mut self.elements),
+            Mode::CStr => next_in_c_str(&mut self.elements),
+            Mode::RawCStr => next_in_raw_c_str(&mut self.elements),
         }
     }
+}
+
+// The four loops are functions of their own, since one function with all of them is slower.
+
+/// Returns the next error or warning in a string or a raw string.
+#[inline(never)]
+fn next_in_str(elements: &mut Elements<'_>) -> Option<(Range<usize>, EscapeError)>
+    ensures { TakesFirst (errors_in Mode.Str elements.old) result (errors_in Mode.Str elements.new) }
+{
+    elements.next_error(Mode::Str)
+}
+
+/// Returns the next error or warning in a byte string or a raw byte string.
+#[inline(never)]
+fn next_in_byte_str(elements: &mut Elements<'_>) -> Option<(Range<usize>, EscapeError)>
+    ensures { TakesFirst (errors_in Mode.ByteStr elements.old) result
+        (errors_in Mode.ByteStr elements.new) }
+{
+    elements.next_error(Mode::ByteStr)
+}
+
+/// Returns the next error or warning in a C string.
+#[inline(never)]
+fn next_in_c_str(elements: &mut Elements<'_>) -> Option<(Range<usize>, EscapeError)>
+    ensures { TakesFirst (errors_in Mode.CStr elements.old) result (errors_in Mode.CStr elements.new) }
+{
+    elements.next_error(Mode::CStr)
+}
+
+/// Returns the next error in a raw C string.
+#[inline(never)]
+fn next_in_raw_c_str(elements: &mut Elements<'_>) -> Option<(Range<usize>, EscapeError)>
+    ensures { TakesFirst (errors_in Mode.RawCStr elements.old) result
+        (errors_in Mode.RawCStr elements.new) }
+{
+    elements.next_error(Mode::RawCStr)
 }

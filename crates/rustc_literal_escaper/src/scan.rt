@@ -1,4 +1,4 @@
-//! Reads the characters at the front of a text.
+//! Splits a text after its first character.
 ghost use Rattle.std.specs.Prelude.{◌≡◌, ◌<◌, ◌∷◌, [], length, MatchOption};
 ghost use Rattle.std.specs.Str.{chars, IsUtf8};
 

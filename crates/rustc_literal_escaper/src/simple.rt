@@ -1,16 +1,27 @@
-//! Skips simple characters, which are wrong in no kind of string, at the front of a text, 32 bytes at a time.
+//! Skips simple characters at the start of a text, 32 bytes at a time. They are an error in no kind of string.
 ghost use Rattle.std.specs.Prelude.{◌≡◌, ◌≤◌, true, false, length, map};
 ghost use Rattle.std.specs.List.{prefix_len};
 ghost use Rattle.std.specs.Simd.Lanes.{mask_l};
 ghost use Rattle.std.specs.Str.{chars, IsUtf8};
 ghost use Rattle.rustc_literal_escaper.specs.means.Plain as spec;
 
+use crate::text::Plain;
 use std::simd::prelude::*;
 
-/// Returns the text after simple characters at the front. Of fewer than 32 bytes it skips none.
+/// Returns the characters of `src` after the simple characters at its start. A text of fewer than 32 bytes is not
+/// searched.
+#[inline(always)]
+pub(crate) fn skip_simple(src: &str, raw: bool) -> Plain<'_>
+    ensures total { result.0 ≡ length src.now }
+    ensures passes { spec.Passes (spec.is_simple raw) (chars src.now) result.1 }
+{
+    Plain::end_of(src.len(), past_simple(src, raw))
+}
+
+/// Returns the text after the simple characters at its start, or all of it if it has fewer than 32 bytes.
 #[inline(always)]
 #[tactic(auto, using(crate::proofs::RunLemmas::simple_lemmas))]
-pub(crate) fn past_simple(rest: &str, raw: bool) -> &str
+fn past_simple(rest: &str, raw: bool) -> &str
     ensures passes { spec.Passes (spec.is_simple raw) (chars rest.now) (chars result.now) }
     ensures text { IsUtf8 result.now }
     ensures shorter { length result.now ≤ length rest.now }
@@ -22,7 +33,7 @@ pub(crate) fn past_simple(rest: &str, raw: bool) -> &str
     &rest[end..]
 }
 
-/// Returns a number of simple bytes at the front. Looks at 32 bytes at a time.
+/// Returns a number of simple bytes at the start. Searches 32 bytes at a time.
 #[inline(never)]
 #[tactic(auto, using(crate::proofs::LaneLemmas::run_through))]
 fn simple_end(bytes: &[u8], raw: bool) -> usize

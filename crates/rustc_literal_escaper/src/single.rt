@@ -1,4 +1,4 @@
-//! Reads characters and bytes, the literals between single quotes.
+//! Reads character and byte literals.
 ghost use Rattle.std.specs.Prelude.{◌≡◌};
 ghost use Rattle.std.specs.Str.{chars};
 ghost use Rattle.rustc_literal_escaper.specs.Answers.{byte_literal, char_literal};
@@ -13,8 +13,7 @@ use crate::strings::{AsByte, AsChar, Meaning};
 use crate::text::{Plain, Text};
 use std::ops::Range;
 
-/// Returns the character that a character literal stands for. `src` is the text between its quotes. `Err` says what
-/// is wrong in it.
+/// Returns the value of a character literal. `src` is the text between its quotes.
 ///
 /// Rust Reference, [Character literals](https://doc.rust-lang.org/reference/tokens.html#character-literals).
 ///
@@ -24,6 +23,10 @@ use std::ops::Range;
 /// assert_eq!(unescape_char(r"\u{e9}"), Ok('é'));
 /// assert_eq!(unescape_char("ab"), Err(EscapeError::MoreThanOneChar));
 /// ```
+///
+/// # Errors
+///
+/// Returns the error if the literal is not valid.
 #[inline]
 #[tactic(auto, using(crate::proofs::AnswerLemmas::literal_read, crate::proofs::RoundTripLemmas::char_comes_back))]
 pub fn unescape_char(src: &str) -> Result<char, EscapeError>
@@ -33,8 +36,7 @@ pub fn unescape_char(src: &str) -> Result<char, EscapeError>
     read::<AsChar>(src)
 }
 
-/// Returns the byte that a byte literal stands for. `src` is the text between its quotes. `Err` says what is wrong
-/// in it.
+/// Returns the value of a byte literal. `src` is the text between its quotes.
 ///
 /// Rust Reference, [Byte literals](https://doc.rust-lang.org/reference/tokens.html#byte-literals).
 ///
@@ -44,6 +46,10 @@ pub fn unescape_char(src: &str) -> Result<char, EscapeError>
 /// assert_eq!(unescape_byte(r"\xff"), Ok(255));
 /// assert_eq!(unescape_byte("é"), Err(EscapeError::NonAsciiCharInByte));
 /// ```
+///
+/// # Errors
+///
+/// Returns the error if the literal is not valid.
 #[inline]
 #[tactic(auto, using(crate::proofs::AnswerLemmas::literal_read))]
 pub fn unescape_byte(src: &str) -> Result<u8, EscapeError>
@@ -53,7 +59,7 @@ pub fn unescape_byte(src: &str) -> Result<u8, EscapeError>
     read::<AsByte>(src)
 }
 
-/// Returns what the only element stands for, if no text is left after it.
+/// Returns the value of the only element.
 #[inline(always)]
 #[tactic(auto, using(crate::proofs::AnswerLemmas::literal_read))]
 fn read<M: Meaning>(src: &str) -> Result<M::Meant, EscapeError>
@@ -71,9 +77,9 @@ fn read<M: Meaning>(src: &str) -> Result<M::Meant, EscapeError>
     }
 }
 
-/// Returns the error between single quotes and its place in bytes, or `None` if there is no error.
+/// Returns the error of a character or byte literal and its byte range, or `None` if it has no error.
 ///
-/// The place goes from 0 to the end of the character that shows the error.
+/// The range runs from 0 through the offending character.
 #[inline(always)]
 pub fn single_error<T: Text>(rest: &mut T, mode: Mode) -> Option<(Range<usize>, EscapeError)>
     ensures { result ≡ spec.single_error (T.offset_of rest.old) mode (T.left rest.old) }
@@ -89,7 +95,7 @@ pub fn single_error<T: Text>(rest: &mut T, mode: Mode) -> Option<(Range<usize>, 
     Some((0..rest.offset(), EscapeError::MoreThanOneChar))
 }
 
-/// Reads the element that begins with the character `c`.
+/// Reads the element that starts with the character `c`.
 #[inline(always)]
 fn first<T: Text>(c: char, rest: &mut T) -> Element
     ensures same { T.offset_of rest.new ≡ T.offset_of rest.old }
@@ -102,7 +108,7 @@ fn first<T: Text>(c: char, rest: &mut T) -> Element
     }
 }
 
-/// Returns the element for a character that is not escaped, between single quotes.
+/// Returns the element for an unescaped character between single quotes.
 #[inline(always)]
 fn unescaped(c: char) -> Element
     ensures { result ≡ spec.unescaped c }

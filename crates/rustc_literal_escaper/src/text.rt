@@ -1,39 +1,39 @@
-//! Texts that are read character by character.
+//! How the characters of a text are read.
 ghost use Rattle.std.specs.Prelude.{◌≡◌, ◌≤◌, length};
 ghost use Rattle.std.specs.Str.{chars};
 
 use std::marker::Model;
 use std::str::Chars;
 
-/// The characters of a text that are left.
+/// A text that is read character by character.
 pub trait Text: Drop {
     ghost use Rattle.std.specs.Prelude.{◌≡◌, ◌∷◌, ℕ, List, [], MatchOption};
 
-    /// The characters that are left.
+    /// The remaining characters.
     ghost left: { Self → List ℕ };
 
-    /// The offset in bytes at which only these characters are left.
+    /// The byte offset at which these characters remain.
     ghost offset_of: { Self → List ℕ → ℕ };
 
-    /// Takes the next character.
+    /// Returns the next character and moves past it.
     fn next_char(&mut self) -> Option<char>
         ensures left { MatchOption result ((left self.old ≡ []) × (left self.new ≡ []))
             (λ c. left self.old ≡ c ∷ left self.new) }
         ensures same { offset_of self.new ≡ offset_of self.old };
 
-    /// Returns the offset of the next character.
+    /// Returns the byte offset of the next character.
     fn offset(&self) -> usize
         ensures { result ≡ offset_of self.now (left self.now) };
 
-    /// Returns the same characters.
+    /// Returns a copy with the same remaining characters.
     fn copy(&self) -> Self
         ensures { result ≡ self.now };
 }
 
-/// The characters of a text, each of which is one.
+/// A text whose characters are read as they are.
 #[derive(Drop)]
 pub struct Plain<'a> {
-    /// How many bytes the text has.
+    /// The length of the whole text in bytes.
     total: usize,
     ahead: Chars<'a>,
 }
@@ -61,10 +61,8 @@ impl<'a> Plain<'a> {
             ahead: text.chars(),
         }
     }
-}
 
-impl<'a> Plain<'a> {
-    /// Returns the characters of `rest`, which is the end of a text of `total` bytes.
+    /// Returns the characters of `rest`, the end of a text of `total` bytes.
     #[inline(always)]
     pub(crate) fn end_of(total: usize, rest: &'a str) -> Plain<'a>
         requires { length rest.now ≤ total }

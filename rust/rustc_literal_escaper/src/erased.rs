@@ -1,9 +1,9 @@
 // Made by tools/erase from crates/rustc_literal_escaper/src/lib.rt: edit that file.
-//! Reads the literals of Rust: what they stand for, their escapes and their faults.
+//! Reads Rust literals: their values, escapes and errors.
 //!
-//! The lexer takes `"\q"` as one token. This crate reads the text between the quotes. It returns what a literal
-//! stands for, unit by unit, and reports each fault with its place. It allocates no memory for that. It also goes
-//! the other way, and writes texts and bytes in the form that they have between double quotes.
+//! To the lexer, `"\q"` is one token. This crate reads the text between the quotes. It returns the value of a literal
+//! unit by unit, and reports each error with its byte range, without allocating. It also does the reverse, and
+//! writes texts and bytes as the contents of string literals.
 
 mod check;
 mod element;
@@ -34,7 +34,7 @@ pub use strings::{
 pub use unit::{MixedUnit, NonZeroChar, NonZeroU8};
 pub use written::{EscapeCStrError, escape_byte_str, escape_c_str, escape_str};
 
-// What `marks` reads a literal of a file by.
+// For `marks`, which reads literals with CRLF line endings.
 pub use elements::ElementsOf;
 pub use scan::split_first;
 pub use single::single_error;

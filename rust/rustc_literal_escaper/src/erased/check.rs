@@ -1,19 +1,19 @@
 // Made by tools/erase from crates/rustc_literal_escaper/src/check.rt: edit that file.
-//! Finds the errors and warnings in a literal, and nothing else.
+//! Finds the errors and warnings in a literal.
 
 use crate::erased::element::Element;
 use crate::erased::elements::{Sink, each};
 use crate::erased::error::EscapeError;
 use crate::erased::mode::Mode;
-use crate::erased::simple::past_simple;
+use crate::erased::simple::skip_simple;
 use crate::erased::single::single_error;
 use crate::erased::text::Plain;
 use core::ops::Range;
 
-/// Calls `error_callback` with each error and each warning in a literal, and its place in bytes.
+/// Calls `error_callback` with the byte range of each error and warning in a literal, and the error.
 ///
-/// `src` is the text between the quotes, and `mode` is the kind of the literal. The calls come in the order of the
-/// text. Between single quotes there is at most one, and its place begins at 0.
+/// `src` is the text between the quotes, and `mode` is the kind of the literal. The calls are in text order. Between
+/// single quotes there is at most one, and its range starts at 0.
 ///
 /// ```
 /// use rustc_literal_escaper::{EscapeError, Mode, check_for_errors};
@@ -40,7 +40,7 @@ pub fn check_for_errors<F: FnMut(Range<usize>, EscapeError)>(
     }
 }
 
-/// Calls `callback` with the error between single quotes, if there is one.
+/// Calls `callback` with the error of a character or byte literal, if it has one.
 #[inline(always)]
 fn each_single_error<F: FnMut(Range<usize>, EscapeError)>(src: &str, mode: Mode, callback: &mut F) {
     if let Some((range, error)) = single_error(&mut Plain::new(src), mode) {
@@ -48,25 +48,23 @@ fn each_single_error<F: FnMut(Range<usize>, EscapeError)>(src: &str, mode: Mode,
     }
 }
 
-/// Calls `callback` with each error and warning between double quotes.
+/// Calls `callback` with each error and warning in a string.
 ///
-/// It is inlined into each arm of its caller, so that the mode is known there. Where nothing is wrong or escaped it looks
-/// at 32 bytes at a time.
+/// It is inlined into each arm of its caller, where the mode is a constant.
 #[inline(always)]
 fn each_error<F: FnMut(Range<usize>, EscapeError)>(src: &str, mode: Mode, callback: F) {
     let raw = is_raw(mode);
     let mut errors = Errors { mode, callback };
-    let mut rest = Plain::end_of(src.len(), past_simple(src, raw));
-    each(&mut rest, raw, None, &mut errors);
+    each(&mut skip_simple(src, raw), raw, None, &mut errors);
 }
 
-/// Returns whether a literal of this kind has no escapes.
+/// Returns whether a literal of this kind is raw.
 #[inline(always)]
 pub(crate) fn is_raw(mode: Mode) -> bool {
     matches!(mode, Mode::RawStr | Mode::RawByteStr | Mode::RawCStr)
 }
 
-/// Calls its callback with what is wrong with each element in a literal of this kind.
+/// A sink that calls back with the error or warning of each element, if it has one in a literal of this kind.
 struct Errors<F> {
     mode: Mode,
     callback: F,

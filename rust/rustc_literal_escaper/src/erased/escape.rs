@@ -1,12 +1,12 @@
 // Made by tools/erase from crates/rustc_literal_escaper/src/escape.rt: edit that file.
-//! The escapes after a backslash.
+//! Reads escapes.
 
 use crate::erased::element::Element;
 use crate::erased::element::Element::{Byte, Fault};
 use crate::erased::error::EscapeError;
 use crate::erased::text::Text;
 
-/// The most digits of a number between braces.
+/// The maximum number of digits between braces.
 const MOST_DIGITS: usize = 6;
 
 /// Reads the escape after a backslash.
@@ -17,15 +17,21 @@ pub fn read_escape<T: Text>(rest: &mut T) -> Element {
     };
     match c {
         'x' => hex(rest),
-        'u' => unicode(rest),
+        // The call gets a copy, so that `rest` can stay in registers.
+        'u' => {
+            let mut ahead = rest.copy();
+            let element = unicode(&mut ahead);
+            *rest = ahead;
+            element
+        }
         _ => short(c),
     }
 }
 
-/// The element for a backslash and a character that begin no escape.
+/// The element for a backslash and a character that are not an escape.
 const NONE: Element = Fault(EscapeError::InvalidEscape);
 
-// The bytes that the other short escapes stand for.
+// The values of the other short escapes.
 const NUL: Element = Byte(0);
 
 const TAB: Element = Byte(b'\t');
@@ -40,7 +46,7 @@ const QUOTE: Element = Byte(b'\'');
 
 const BACKSLASH: Element = Byte(b'\\');
 
-/// The element for a backslash and each character of ASCII except `x` and `u`. A look in a table costs less than a
+/// The element for a backslash and each ASCII character except `x` and `u`. A lookup in a table costs less than a
 /// branch, since the next escape is hard to predict.
 static SHORT: [Element; 128] = [
     NONE, NONE, NONE, NONE, NONE, NONE, NONE, NONE, NONE, NONE, NONE, NONE, NONE, NONE, NONE, NONE,
@@ -61,8 +67,8 @@ pub(crate) fn short(c: char) -> Element {
     if code < 128 { SHORT[code] } else { NONE }
 }
 
-/// The value of each hexadecimal digit in ASCII, and 16 for each other character. Whether the next one is a digit
-/// or a letter is hard to predict, too.
+/// The value of each hexadecimal digit in ASCII, and 16 for each other character. A table, since whether a digit or a
+/// letter comes next is hard to predict, too.
 static DIGITS: [u8; 128] = [
     16, 16, 16, 16, 16, 16, 16, 16, 16, 16, 16, 16, 16, 16, 16, 16, 16, 16, 16, 16, 16, 16, 16, 16,
     16, 16, 16, 16, 16, 16, 16, 16, 16, 16, 16, 16, 16, 16, 16, 16, 16, 16, 16, 16, 16, 16, 16, 16,
@@ -109,6 +115,7 @@ fn hex<T: Text>(rest: &mut T) -> Element {
 }
 
 /// Reads the number between braces after a `u`.
+#[inline(never)]
 fn unicode<T: Text>(rest: &mut T) -> Element {
     let Some(brace) = rest.next_char() else {
         return Element::Fault(EscapeError::NoBraceInUnicodeEscape);

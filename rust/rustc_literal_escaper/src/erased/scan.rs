@@ -1,5 +1,5 @@
 // Made by tools/erase from crates/rustc_literal_escaper/src/scan.rt: edit that file.
-//! Reads the characters at the front of a text.
+//! Splits a text after its first character.
 
 /// Returns the first character and the text after it, or `None` if the text is empty.
 #[inline(always)]

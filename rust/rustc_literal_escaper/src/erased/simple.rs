@@ -1,11 +1,19 @@
 // Made by tools/erase from crates/rustc_literal_escaper/src/simple.rt: edit that file.
-//! Skips simple characters, which are wrong in no kind of string, at the front of a text, 32 bytes at a time.
+//! Skips simple characters at the start of a text, 32 bytes at a time. They are an error in no kind of string.
 
+use crate::erased::text::Plain;
 use crate::support::simd::*;
 
-/// Returns the text after simple characters at the front. Of fewer than 32 bytes it skips none.
+/// Returns the characters of `src` after the simple characters at its start. A text of fewer than 32 bytes is not
+/// searched.
 #[inline(always)]
-pub(crate) fn past_simple(rest: &str, raw: bool) -> &str {
+pub(crate) fn skip_simple(src: &str, raw: bool) -> Plain<'_> {
+    Plain::end_of(src.len(), past_simple(src, raw))
+}
+
+/// Returns the text after the simple characters at its start, or all of it if it has fewer than 32 bytes.
+#[inline(always)]
+fn past_simple(rest: &str, raw: bool) -> &str {
     if rest.len() < 32 {
         return rest;
     }
@@ -13,7 +21,7 @@ pub(crate) fn past_simple(rest: &str, raw: bool) -> &str {
     &rest[end..]
 }
 
-/// Returns a number of simple bytes at the front. Looks at 32 bytes at a time.
+/// Returns a number of simple bytes at the start. Searches 32 bytes at a time.
 #[inline(never)]
 fn simple_end(bytes: &[u8], raw: bool) -> usize {
     let mut end = 0;

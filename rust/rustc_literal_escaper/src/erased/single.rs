@@ -1,5 +1,5 @@
 // Made by tools/erase from crates/rustc_literal_escaper/src/single.rt: edit that file.
-//! Reads characters and bytes, the literals between single quotes.
+//! Reads character and byte literals.
 
 use crate::erased::element::Element;
 use crate::erased::error::EscapeError;
@@ -9,8 +9,7 @@ use crate::erased::strings::{AsByte, AsChar, Meaning};
 use crate::erased::text::{Plain, Text};
 use core::ops::Range;
 
-/// Returns the character that a character literal stands for. `src` is the text between its quotes. `Err` says what
-/// is wrong in it.
+/// Returns the value of a character literal. `src` is the text between its quotes.
 ///
 /// Rust Reference, [Character literals](https://doc.rust-lang.org/reference/tokens.html#character-literals).
 ///
@@ -20,13 +19,16 @@ use core::ops::Range;
 /// assert_eq!(unescape_char(r"\u{e9}"), Ok('é'));
 /// assert_eq!(unescape_char("ab"), Err(EscapeError::MoreThanOneChar));
 /// ```
+///
+/// # Errors
+///
+/// Returns the error if the literal is not valid.
 #[inline]
 pub fn unescape_char(src: &str) -> Result<char, EscapeError> {
     read::<AsChar>(src)
 }
 
-/// Returns the byte that a byte literal stands for. `src` is the text between its quotes. `Err` says what is wrong
-/// in it.
+/// Returns the value of a byte literal. `src` is the text between its quotes.
 ///
 /// Rust Reference, [Byte literals](https://doc.rust-lang.org/reference/tokens.html#byte-literals).
 ///
@@ -36,12 +38,16 @@ pub fn unescape_char(src: &str) -> Result<char, EscapeError> {
 /// assert_eq!(unescape_byte(r"\xff"), Ok(255));
 /// assert_eq!(unescape_byte("é"), Err(EscapeError::NonAsciiCharInByte));
 /// ```
+///
+/// # Errors
+///
+/// Returns the error if the literal is not valid.
 #[inline]
 pub fn unescape_byte(src: &str) -> Result<u8, EscapeError> {
     read::<AsByte>(src)
 }
 
-/// Returns what the only element stands for, if no text is left after it.
+/// Returns the value of the only element.
 #[inline(always)]
 fn read<M: Meaning>(src: &str) -> Result<M::Meant, EscapeError> {
     let mut rest = Plain::new(src);
@@ -56,9 +62,9 @@ fn read<M: Meaning>(src: &str) -> Result<M::Meant, EscapeError> {
     }
 }
 
-/// Returns the error between single quotes and its place in bytes, or `None` if there is no error.
+/// Returns the error of a character or byte literal and its byte range, or `None` if it has no error.
 ///
-/// The place goes from 0 to the end of the character that shows the error.
+/// The range runs from 0 through the offending character.
 #[inline(always)]
 pub fn single_error<T: Text>(rest: &mut T, mode: Mode) -> Option<(Range<usize>, EscapeError)> {
     let Some(c) = rest.next_char() else {
@@ -72,7 +78,7 @@ pub fn single_error<T: Text>(rest: &mut T, mode: Mode) -> Option<(Range<usize>, 
     Some((0..rest.offset(), EscapeError::MoreThanOneChar))
 }
 
-/// Reads the element that begins with the character `c`.
+/// Reads the element that starts with the character `c`.
 #[inline(always)]
 fn first<T: Text>(c: char, rest: &mut T) -> Element {
     if c == '\\' {
@@ -82,7 +88,7 @@ fn first<T: Text>(c: char, rest: &mut T) -> Element {
     }
 }
 
-/// Returns the element for a character that is not escaped, between single quotes.
+/// Returns the element for an unescaped character between single quotes.
 #[inline(always)]
 fn unescaped(c: char) -> Element {
     match c {

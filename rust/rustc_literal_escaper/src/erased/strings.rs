@@ -1,5 +1,5 @@
 // Made by tools/erase from crates/rustc_literal_escaper/src/strings.rt: edit that file.
-//! Reads strings of every kind, and passes their units to a callback.
+//! Reads strings of every kind and passes their units to a callback.
 
 use crate::erased::element::Element;
 use crate::erased::elements::{Sink, each};
@@ -9,13 +9,13 @@ use crate::erased::unit::{MixedUnit, NonZeroChar};
 use core::marker::PhantomData;
 use core::ops::Range;
 
-/// Calls `callback` with each character that a string stands for, or with what is wrong, and its place in bytes.
+/// Calls `callback` with each character of a string, or an error or warning, and its byte range.
 ///
-/// `src` is the text between the quotes. The calls come in the order of the text. A place goes from the first byte
-/// up to the one past the last, and both ends are between characters.
+/// `src` is the text between the quotes. The calls are in text order, and both ends of a range are character
+/// boundaries.
 ///
-/// A backslash at the end of a line stands for nothing, so it has no call. Two calls may warn about the white space
-/// after it. Their places begin at the backslash.
+/// A backslash at the end of a line has no value, so it has no call. Two calls can warn about the whitespace after it.
+/// Their ranges start at the backslash.
 ///
 /// Rust Reference, [String literals](https://doc.rust-lang.org/reference/tokens.html#string-literals).
 ///
@@ -30,7 +30,7 @@ pub fn unescape_str<F: FnMut(Range<usize>, Result<char, EscapeError>)>(src: &str
     each_unit::<AsChar, F>(src, false, callback);
 }
 
-/// Calls `callback` with each byte that a byte string stands for, or with what is wrong, and its place.
+/// Calls `callback` with each byte of a byte string, or an error or warning, and its byte range.
 ///
 /// It calls in the same way as [`unescape_str`].
 ///
@@ -47,7 +47,7 @@ pub fn unescape_byte_str<F: FnMut(Range<usize>, Result<u8, EscapeError>)>(src: &
     each_unit::<AsByte, F>(src, false, callback);
 }
 
-/// Calls `callback` with each unit that a C string stands for, or with what is wrong, and its place.
+/// Calls `callback` with each unit of a C string, or an error or warning, and its byte range.
 ///
 /// It calls in the same way as [`unescape_str`].
 ///
@@ -59,9 +59,9 @@ pub fn unescape_c_str<F: FnMut(Range<usize>, Result<MixedUnit, EscapeError>)>(
     each_unit::<AsMixedUnit, F>(src, false, callback);
 }
 
-/// Calls `callback` with each character of a raw string, or with what is wrong, and its place.
+/// Calls `callback` with each character of a raw string, or an error, and its byte range.
 ///
-/// A raw string has no escapes, and only a carriage return is wrong in it.
+/// A raw string has no escapes. Only a carriage return is an error.
 ///
 /// Rust Reference, [Raw string literals](https://doc.rust-lang.org/reference/tokens.html#raw-string-literals).
 ///
@@ -77,9 +77,9 @@ pub fn check_raw_str<F: FnMut(Range<usize>, Result<char, EscapeError>)>(src: &st
     each_unit::<AsChar, F>(src, true, callback);
 }
 
-/// Calls `callback` with each byte of a raw byte string, or with what is wrong, and its place.
+/// Calls `callback` with each byte of a raw byte string, or an error, and its byte range.
 ///
-/// A carriage return and a character outside ASCII are wrong in it.
+/// A carriage return or a character outside ASCII is an error.
 ///
 /// Rust Reference, [Raw byte string
 /// literals](https://doc.rust-lang.org/reference/tokens.html#raw-byte-string-literals).
@@ -96,9 +96,9 @@ pub fn check_raw_byte_str<F: FnMut(Range<usize>, Result<u8, EscapeError>)>(src: 
     each_unit::<AsByte, F>(src, true, callback);
 }
 
-/// Calls `callback` with each character of a raw C string, or with what is wrong, and its place.
+/// Calls `callback` with each character of a raw C string, or an error, and its byte range.
 ///
-/// A carriage return and U+0000 are wrong in it.
+/// A carriage return or U+0000 is an error.
 ///
 /// Rust Reference, [Raw C string literals](https://doc.rust-lang.org/reference/tokens.html#raw-c-string-literals).
 #[inline]
@@ -109,15 +109,15 @@ pub fn check_raw_c_str<F: FnMut(Range<usize>, Result<NonZeroChar, EscapeError>)>
     each_unit::<AsRawUnit, F>(src, true, callback);
 }
 
-/// The meaning of elements in one kind of string.
+/// The value of elements in one kind of string.
 pub(crate) trait Meaning {
     type Meant: Copy;
 
-    /// Returns what an element stands for.
+    /// Returns the value of an element, or its error.
     fn of(element: Element) -> Result<Self::Meant, EscapeError>;
 }
 
-/// The meaning in strings: characters.
+/// The value in strings: characters.
 pub(crate) struct AsChar;
 
 impl Meaning for AsChar {
@@ -129,7 +129,7 @@ impl Meaning for AsChar {
     }
 }
 
-/// The meaning in byte strings and raw byte strings: bytes.
+/// The value in byte strings and raw byte strings: bytes.
 pub(crate) struct AsByte;
 
 impl Meaning for AsByte {
@@ -141,7 +141,7 @@ impl Meaning for AsByte {
     }
 }
 
-/// The meaning in C strings: characters and bytes.
+/// The value in C strings: characters and bytes.
 struct AsMixedUnit;
 
 impl Meaning for AsMixedUnit {
@@ -153,7 +153,7 @@ impl Meaning for AsMixedUnit {
     }
 }
 
-/// The meaning in raw C strings: characters other than U+0000.
+/// The value in raw C strings: characters other than U+0000.
 struct AsRawUnit;
 
 impl Meaning for AsRawUnit {
@@ -165,7 +165,7 @@ impl Meaning for AsRawUnit {
     }
 }
 
-/// Calls `callback` with what each element of a text stands for and its place, and with nothing else.
+/// Calls `callback` with the byte range and the value of each element of a text.
 #[inline(always)]
 fn each_unit<M: Meaning, F: FnMut(Range<usize>, Result<M::Meant, EscapeError>)>(
     src: &str,
@@ -179,7 +179,7 @@ fn each_unit<M: Meaning, F: FnMut(Range<usize>, Result<M::Meant, EscapeError>)>(
     each(&mut Plain::new(src), raw, None, &mut units);
 }
 
-/// Calls its callback with what each element stands for.
+/// A sink that calls back with the value of each element.
 struct Units<M, F> {
     callback: F,
     meaning: PhantomData<M>,

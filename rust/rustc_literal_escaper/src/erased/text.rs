@@ -1,23 +1,23 @@
 // Made by tools/erase from crates/rustc_literal_escaper/src/text.rt: edit that file.
-//! Texts that are read character by character.
+//! How the characters of a text are read.
 
 use core::str::Chars;
 
-/// The characters of a text that are left.
+/// A text that is read character by character.
 pub trait Text {
-    /// Takes the next character.
+    /// Returns the next character and moves past it.
     fn next_char(&mut self) -> Option<char>;
 
-    /// Returns the offset of the next character.
+    /// Returns the byte offset of the next character.
     fn offset(&self) -> usize;
 
-    /// Returns the same characters.
+    /// Returns a copy with the same remaining characters.
     fn copy(&self) -> Self;
 }
 
-/// The characters of a text, each of which is one.
+/// A text whose characters are read as they are.
 pub struct Plain<'a> {
-    /// How many bytes the text has.
+    /// The length of the whole text in bytes.
     total: usize,
     ahead: Chars<'a>,
 }
@@ -31,10 +31,8 @@ impl<'a> Plain<'a> {
             ahead: text.chars(),
         }
     }
-}
 
-impl<'a> Plain<'a> {
-    /// Returns the characters of `rest`, which is the end of a text of `total` bytes.
+    /// Returns the characters of `rest`, the end of a text of `total` bytes.
     #[inline(always)]
     pub(crate) fn end_of(total: usize, rest: &'a str) -> Plain<'a> {
         Plain {
