@@ -1,22 +1,22 @@
 -- What a literal says between its marks, and the calls that write it.
-use Rattle.std.proofs.Common.{◌≡◌, ℕ, ◌+◌, ◌-◌, ◌<◌, ◌≤◌, Bool, List, [], ◌∷◌, ◌++◌, map, take, drop, ap, subst, ◌∙◌, arith, take-append-drop, length-drop, append-nil, length, IsCharBoundary, IsUtf8, Option, Some}
+use Rattle.std.proofs.Common.{◌≡◌, ℕ, ◌+◌, ◌-◌, ◌<◌, ◌≤◌, Bool, List, [], ◌∷◌, ◌++◌, map, take, drop, refl, sym, ap, subst, ◌∙◌, arith, take-append-drop, length-drop, append-nil, length, IsCharBoundary, IsUtf8, Option, Some}
 use Rattle.std.specs.Fmt.{WritesInCalls}
 use Rattle.rustc_lexer.specs.Classes.{bytes}
 use Rattle.std.proofs.lemmas.{Bool.{cases_lt}, List.{drop-drop, get_or-take, length-take-le, Concat.{flat_map-append}}}
 use Rattle.std.proofs.lemmas.List.{Edits.{length-between}, Elements.{All-head, All-tail}}
 use Rattle.std.specs.Str.{chars}
-use Rattle.std.proofs.lemmas.{Str.{IsCharBoundary-from_rest, IsUtf8-between, encodes-chars}, Grind.{common_steps}}
+use Rattle.std.proofs.lemmas.{Str.{IsCharBoundary-from_rest, IsCharBoundary-start, IsUtf8-between, encodes-chars}, Grind.{common_steps}}
 use Rattle.rustc_literal_escaper.specs.{Grammar.{Item}, Answers.{items_of}, Meaning.{is_raw}}
 use Rattle.rustc_literal_escaper.specs.laws.TheAnswers.{items-are}
 use Rattle.marks.specs.laws.{Literal.{stretches-read, the_stretches}, Pieces.{pieces-some, told}}
 use Rattle.marks.specs.LineEnds.{file_items, place, unix}
 use Rattle.marks.specs.Literal as lit
 use Rattle.rustc_literal_escaper.specs.{Items.{ArePlaced, IsPlaced}, declared.mode.Mode.{Mode}}
-use Rattle.marks.specs.declared.{class.Class.TheVariants.{Text}, literal.Look.{Look}, format.Format.{Format}}
+use Rattle.marks.specs.declared.{class.Class.TheVariants.{Text}, literal.{Look.{Look}, Painter.{Painter}}, format.Format.{Format}}
 use Rattle.std.specs.List.{between}
 use Rattle.marks.specs.Answers.{stretches_of, string_stretches}
 use Rattle.marks.specs.Literal.{Stretch, single_stretches, stretches_at, look_parts, parts_from, char_error, char_look, moved_stretch, stretch}
-use Rattle.marks.specs.{Marked.{literal_parts}, means.Literal.{WritesOn, element_look, gap, stretches_from}}
+use Rattle.marks.specs.{Marked.{literal_parts}, means.Literal.{IsCut, Paints, WritesOn, element_look, gap, stretches_from}}
 use Rattle.marks.specs.means.Literal as means
 use Rattle.marks.specs.Part.{Own, own, with_marks, without_marks}
 use Rattle.marks.proofs.{LineEndLemmas.{utf8-unix}, MovedLemmas.{items_placed, place-end, stretches-moved}}
@@ -60,6 +60,10 @@ pub boundary_in : (text : List ℕ) (begin close k : ℕ) → begin ≤ close �
     → (begin + k ≤ close) × IsCharBoundary text (begin + k)
 boundary_in text begin close k order at_begin at_close at_k =
     grind (arith, common_steps, length-drop, length-take-le, cases_lt, IsCharBoundary-from_rest, get_or-take)
+
+-- nothing is written yet
+pub nothing_written : (text : List ℕ) (begin : ℕ) → IsUtf8 text → IsCharBoundary text begin → IsCut text 0 begin
+nothing_written text begin utf8 at = record { first = IsCharBoundary-start text utf8; second = at; order = omega arith }
 
 -- the first of some items, and the others
 pub record Placed (text : List ℕ) (close start end : ℕ) : Type 0 where
@@ -115,13 +119,32 @@ module _ {W : Type 0} (took : W → List ℕ → W → Type 0) where
   writes_last format text rest shown to ss w v u on is wrote =
       subst (λ (all : List Stretch). WritesLeft format text w shown all u) (append-nil ss) (on [] u (subst (λ (xs : List ℕ). WritesInCalls took v (with_marks format (Own Text xs ∷ [])) u) is wrote))
 
+  -- a painter has the same format and the same text as before
+  painted : (p q : Painter) (format : Format) (text : List ℕ) (ss : List Stretch) (end : ℕ) (w v : W) → p.format ≡ format → p.text.now ≡ text
+      → Paints took p w ss end q v → WritesOn took format text w p.shown ss v q.shown
+  painted p q format text ss end w v same_format same_text on =
+      subst (λ (f : Format). WritesOn took f text w p.shown ss v q.shown) same_format
+      (subst (λ (t : List ℕ). WritesOn took p.format t w p.shown ss v q.shown) same_text on.writes)
+
+  -- some stretches, and then what is left
+  paints_last : (p q : Painter) (format : Format) (text : List ℕ) (ss : List Stretch) (end : ℕ) (w v u : W) → p.format ≡ format → p.text.now ≡ text
+      → Paints took p w ss end q v → WritesInCalls took v (with_marks q.format (Own Text (drop q.shown q.text.now) ∷ [])) u
+      → WritesLeft format text w p.shown ss u
+  paints_last p q format text ss end w v u same_format same_text on wrote =
+      writes_last format text (drop q.shown text) p.shown q.shown ss w v u (painted p q format text ss end w v same_format same_text on) refl
+      (subst (λ (f : Format). WritesInCalls took v (with_marks f (Own Text (drop q.shown text) ∷ [])) u) (on.format ∙ same_format)
+      (subst (λ (t : List ℕ). WritesInCalls took v (with_marks q.format (Own Text (drop q.shown t) ∷ [])) u) (on.text ∙ same_text) wrote))
+
   -- what stands between single quotes
-  pub writes_single : (format : Format) (mode : Mode) (text inside rest : List ℕ) (begin close to : ℕ) (look : Option Look) (w v u : W)
-      → look ≡ char_look (char_error mode inside) inside → inside ≡ between begin close text → rest ≡ drop to text
-      → WritesOn took format text w 0 (stretch begin close look) v to → WritesInCalls took v (with_marks format (Own Text rest ∷ [])) u
-      → WritesInCalls took w (with_marks format (parts_from 0 text (single_stretches mode begin close text))) u
-  writes_single format mode text inside rest begin close to look w v u looks is past on wrote =
-      grind (arith, common_steps, writes_last format text rest 0 to (stretch begin close look) w v u on past wrote)
+  pub paints_single : (p q : Painter) (mode : Mode) (inside : List ℕ) (close : ℕ) (look : Option Look) (w v u : W)
+      → look ≡ char_look (char_error mode inside) inside → inside ≡ between p.at close p.text.now
+      → Paints took p w (stretch p.at close look) close q v
+      → WritesInCalls took v (with_marks q.format (Own Text (drop q.shown q.text.now) ∷ [])) u
+      → WritesLeft p.format p.text.now w p.shown (single_stretches mode p.at close p.text.now) u
+  paints_single p q mode inside close look w v u looks is on wrote =
+      subst (λ (l : Option Look). WritesLeft p.format p.text.now w p.shown (stretch p.at close l) u)
+      (looks ∙ ap (λ (xs : List ℕ). char_look (char_error mode xs) xs) is)
+      (paints_last p q p.format p.text.now (stretch p.at close look) close w v u refl refl on wrote)
 
   -- an element that is told already
   pub writes_told : (format : Format) (mode : Mode) (text : List ℕ) (begin at close shown : ℕ) (items rest : List Item) (item : Item) (w last : W) → items ≡ item ∷ rest → begin + item.0.start < at
@@ -129,20 +152,35 @@ module _ {W : Type 0} (took : W → List ℕ → W → Type 0) where
   writes_told format mode text begin at close shown items rest item w last is less more = grind (arith, common_steps, told_already)
 
   -- an element, and what stands before it
-  pub writes_item : (format : Format) (mode : Mode) (text : List ℕ) (begin at close shown to next : ℕ) (items rest : List Item) (item : Item) (look : Option Look) (w v u last : W)
+  writes_item : (format : Format) (mode : Mode) (text : List ℕ) (begin at close shown to next : ℕ) (items rest : List Item) (item : Item) (look : Option Look) (w v u last : W)
       → items ≡ item ∷ rest → at ≤ begin + item.0.start → look ≡ element_look mode item.1
       → WritesOn took format text w shown (gap at (begin + item.0.start)) v to → WritesOn took format text v to (stretch (begin + item.0.start) (begin + item.0.end) look) u next
       → WritesLeft format text u next (stretches_from mode begin (begin + item.0.end) close rest) last → WritesLeft format text w shown (stretches_from mode begin at close items) last
   writes_item format mode text begin at close shown to next items rest item look w v u last is high looks a b more =
       grind (arith, common_steps)
 
-  -- all elements, and then none
-  pub writes_all : (format : Format) (mode : Mode) (text inside : List ℕ) (begin close : ℕ) (items : List Item) (w last : W)
-      → items ≡ file_items (is_raw mode) inside → inside ≡ between begin close text
-      → WritesLeft format text w 0 (stretches_from mode begin begin close items) last → WritesInCalls took w (with_marks format (parts_from 0 text (means.string_stretches mode begin close text))) last
-  writes_all format mode text inside begin close items w last are is wrote = grind (arith, common_steps)
+  pub paints_item : (format : Format) (mode : Mode) (text : List ℕ) (begin close : ℕ) (p q r : Painter) (items rest : List Item) (item : Item) (look : Option Look) (w v u last : W)
+      → items ≡ item ∷ rest → p.at ≤ begin + item.0.start → look ≡ element_look mode item.1 → p.format ≡ format → p.text.now ≡ text
+      → Paints took p w (gap p.at (begin + item.0.start)) (begin + item.0.start) q v
+      → Paints took q v (stretch q.at (begin + item.0.end) look) (begin + item.0.end) r u
+      → WritesLeft format text u r.shown (stretches_from mode begin r.at close rest) last → WritesLeft format text w p.shown (stretches_from mode begin p.at close items) last
+  paints_item format mode text begin close p q r items rest item look w v u last is high looks same_format same_text skipped marked more =
+      let a = painted p q format text (gap p.at (begin + item.0.start)) (begin + item.0.start) w v same_format same_text skipped in
+      let b = subst (λ (n : ℕ). WritesOn took format text v q.shown (stretch n (begin + item.0.end) look) u r.shown) skipped.at
+      (painted q r format text (stretch q.at (begin + item.0.end) look) (begin + item.0.end) v u (skipped.format ∙ same_format) (skipped.text ∙ same_text) marked) in
+      let left = subst (λ (n : ℕ). WritesLeft format text u r.shown (stretches_from mode begin n close rest) last) marked.at more in
+      writes_item format mode text begin p.at close p.shown q.shown r.shown items rest item look w v u last is high looks a b left
 
-  pub writes_end : (format : Format) (mode : Mode) (text rest : List ℕ) (begin at close shown to : ℕ) (items : List Item) (w v u : W)
-      → items ≡ [] → rest ≡ drop to text → WritesOn took format text w shown (gap at close) v to
-      → WritesInCalls took v (with_marks format (Own Text rest ∷ [])) u → WritesLeft format text w shown (stretches_from mode begin at close items) u
-  writes_end format mode text rest begin at close shown to items w v u none past on wrote = grind (arith, common_steps, writes_last)
+  -- all elements, and then none
+  pub writes_all : (format : Format) (mode : Mode) (text inside : List ℕ) (begin close shown : ℕ) (items : List Item) (w last : W)
+      → items ≡ file_items (is_raw mode) inside → inside ≡ between begin close text
+      → WritesLeft format text w shown (stretches_from mode begin begin close items) last → WritesLeft format text w shown (means.string_stretches mode begin close text) last
+  writes_all format mode text inside begin close shown items w last are is wrote = grind (arith, common_steps)
+
+  pub paints_end : (format : Format) (mode : Mode) (text : List ℕ) (begin close : ℕ) (p q : Painter) (items : List Item) (w v u : W) → items ≡ []
+      → p.format ≡ format → p.text.now ≡ text → Paints took p w (gap p.at close) close q v
+      → WritesInCalls took v (with_marks q.format (Own Text (drop q.shown q.text.now) ∷ [])) u
+      → WritesLeft format text w p.shown (stretches_from mode begin p.at close items) u
+  paints_end format mode text begin close p q items w v u none same_format same_text on wrote =
+      subst (λ (left : List Item). WritesLeft format text w p.shown (stretches_from mode begin p.at close left) u) (sym none)
+      (paints_last p q format text (gap p.at close) close w v u same_format same_text on wrote)

@@ -18,6 +18,15 @@ abbrev pub is_layout : Class → ℕ → List ℕ → Bool
 is_layout class c rest =
     c == byte "\t" || c == byte "\n" || (c == byte "\r" && at_line_end class rest)
 
+-- whether the character is a control character other than a tab and a newline. A symbol replaces it,
+-- unless it is the carriage return of a line end
+abbrev pub is_replaceable : ℕ → Bool
+is_replaceable c = is_control c && not (c == byte "\t" || c == byte "\n")
+
+-- whether the byte may begin such a character in UTF-8
+abbrev pub may_begin_replaceable : ℕ → Bool
+may_begin_replaceable b = nat_lt b 128 && is_replaceable b || b == 0xC2
+
 -- `␀` to `␟` for U+0000 to U+001F, `␡` for U+007F, and `�` for other control characters
 abbrev pub symbol : ℕ → ℕ
 symbol c = if nat_lt c 32 then 0x2400 + c else (if c == 127 then 0x2421 else 0xFFFD)

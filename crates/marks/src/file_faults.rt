@@ -8,7 +8,7 @@ ghost use Rattle.marks.specs.LineEnds.{file_errors, unix};
 ghost use Rattle.marks.specs.means.LineEnds.{single_left};
 
 use crate::line_ends::{FileChars, FileElements, file_elements};
-use crate::literal::{first_place, is_single};
+use crate::literal::{first_offset, is_single};
 use rustc_literal_escaper::{EscapeError, Faults, Mode};
 use std::iter::Iterator;
 use std::marker::Model;
@@ -61,7 +61,7 @@ impl<'a> FaultsInFile<'a> {
             elements: file_elements("", false),
             mode,
         };
-        if first_place(b'\r', contents) == contents.len() {
+        if first_offset(b'\r', contents) == contents.len() {
             found.faults = Faults::new(contents, mode);
         } else if is_single(mode) {
             found.alone = single_error(contents, mode);

@@ -1,5 +1,5 @@
-//! Writes literals: their escapes, and what is wrong in them.
-ghost use Rattle.std.specs.Prelude.{◌≡◌, ◌+◌, ◌≤◌, ◌<◌, false, length, IfSome, MatchResult, OnOk};
+//! Writes literals with their escapes and errors marked.
+ghost use Rattle.std.specs.Prelude.{◌≡◌, ◌+◌, ◌≤◌, ◌<◌, ◌∷◌, [], drop, false, length, IfSome, OnOk};
 ghost use Rattle.std.specs.Fmt.{WritesInCalls};
 ghost use Rattle.std.specs.Str.{IsCharBoundary};
 ghost use Rattle.rustc_lexer.specs.Classes.{Fits};
@@ -8,7 +8,8 @@ ghost use Rattle.marks.specs.Literal as spec;
 ghost use Rattle.marks.specs.LiteralMarks.{IsMarked};
 ghost use Rattle.marks.specs.Marked.{literal_parts};
 ghost use Rattle.marks.specs.means.Literal as means;
-ghost use Rattle.marks.specs.Part.{with_marks};
+ghost use Rattle.marks.specs.means.Literal.{IsCut, Paints};
+ghost use Rattle.marks.specs.Part.{Own, with_marks};
 
 use crate::class::Class;
 use crate::fault::Fault;
@@ -22,17 +23,16 @@ use rustc_literal_escaper::{Element, EscapeError, Mode};
 use std::fmt;
 use std::ops::Range;
 
-/// The look of a stretch of a literal that is not plain.
+/// The mark of a stretch of a literal that is not plain.
 #[derive(Clone, Copy, Debug, PartialEq, Eq)]
 pub enum Look {
     /// An escape.
     Escape,
-    /// Something that is wrong.
+    /// An error or a warning.
     Wrong(EscapeError),
 }
 
-/// Returns the `Mode` of a closed literal. Returns `None` for a number, for a literal that is not closed, and for a token
-/// that is not a literal.
+/// Returns the mode of a terminated literal, or `None` for a number, an unterminated literal and any other token.
 pub fn mode_of(kind: TokenKind) -> Option<Mode>
     ensures { result ≡ spec.closed_mode kind }
 {
@@ -52,12 +52,15 @@ pub fn mode_of(kind: TokenKind) -> Option<Mode>
     }
 }
 
-/// Returns where the text between the quotes of a literal is, in bytes from the start of the literal, and the `Mode` in which
-/// its escapes are read. Takes the literal's kind and text. Returns `None` for a number, for a literal that is not closed,
-/// and for a token that is not a literal. A suffix may follow the closing quote.
+/// Returns the [`Mode`] of a literal, and the byte range between its quotes.
 ///
-/// These are the arguments that the calls of `rustc_literal_escaper` take. The ranges that they give count from the start
-/// of the range that this call returns.
+/// Returns `None` for a number, an unterminated literal and a token that is not a literal. A suffix may follow the
+/// closing quote.
+///
+/// The functions of `rustc_literal_escaper` accept this mode and the text in this range. The ranges that they report
+/// are relative to its start.
+///
+/// # Examples
 ///
 /// ```
 /// use marks::literal_contents;
@@ -85,15 +88,15 @@ pub fn literal_contents(kind: TokenKind, text: &str) -> Option<(Mode, Range<usiz
     Some((mode, start..end))
 }
 
-/// Returns where the text between the quotes of a literal begins and ends, or `None` if there are no two quotes.
+/// Returns the offsets at which the contents of a literal start and end, or `None` if it does not have two quotes.
 fn between_quotes(mode: Mode, text: &str) -> Option<(usize, usize)>
     ensures places { result ≡ spec.contents_places mode text.now }
     ensures inside { IfSome result (λ places. IsCharBoundary text.now places.0
         × IsCharBoundary text.now places.1 × (places.0 ≤ places.1)) }
 {
     let quote = quote_of(mode);
-    let first = first_place(quote, text);
-    let last = last_place(quote, text);
+    let first = first_offset(quote, text);
+    let last = last_offset(quote, text);
     if first < last {
         Some((first + 1, last))
     } else {
@@ -101,8 +104,8 @@ fn between_quotes(mode: Mode, text: &str) -> Option<(usize, usize)>
     }
 }
 
-/// Writes a closed literal: its escapes in their class, its faults between their marks, and the rest as text.
-#[tactic(auto, using(crate::proofs::LiteralLemmas::string_found))]
+/// Writes a terminated literal: its escapes in their class, its errors between their marks, and the rest as text.
+#[tactic(auto, using(crate::proofs::LiteralLemmas::nothing_written, crate::proofs::LiteralLemmas::string_found))]
 pub fn write_literal<W: fmt::Write>(
     format: Format,
     mode: Mode,
@@ -113,24 +116,30 @@ pub fn write_literal<W: fmt::Write>(
     ensures { OnOk result (WritesInCalls W.write_str_gives output.old
         (with_marks format (literal_parts mode text.now)) output.new) }
 {
-    let Some((start, end)) = between_quotes(mode, text) else {
+    let Some((begin, close)) = between_quotes(mode, text) else {
         return write_in_class(format, Class::Text, text, output);
     };
+    let mut painter = Painter {
+        format,
+        text,
+        shown: 0,
+        at: begin,
+    };
     if is_single(mode) {
-        write_single(format, mode, text, start, end, output)
+        painter.write_single(mode, close, output)
     } else {
-        write_string(format, mode, text, start, end, output)
+        painter.write_string(mode, close, output)
     }
 }
 
-/// Returns whether such a literal has single quotes.
+/// Returns whether a literal of this mode has single quotes.
 pub fn is_single(mode: Mode) -> bool
     ensures { result ≡ is_single mode }
 {
     matches!(mode, Mode::Char | Mode::Byte)
 }
 
-/// Returns the quote of such a literal.
+/// Returns the quote of a literal of this mode.
 fn quote_of(mode: Mode) -> u8
     ensures value { result ≡ spec.delimiter mode }
     ensures ascii { result < 128 }
@@ -138,9 +147,9 @@ fn quote_of(mode: Mode) -> u8
     if is_single(mode) { b'\'' } else { b'"' }
 }
 
-/// Returns the place of the first byte of this value, or the length of the text.
+/// Returns the offset of the first byte with this value, or the length of the text if there is none.
 #[tactic(auto, using(crate::proofs::PlaceLemmas::place_found, crate::proofs::PlaceLemmas::place_none, crate::proofs::PlaceLemmas::past_first))]
-pub fn first_place(byte: u8, text: &str) -> usize
+pub fn first_offset(byte: u8, text: &str) -> usize
     requires ascii { byte < 128 }
     ensures value { result ≡ spec.first_offset byte text.now }
     ensures past { result < length text.now → IsCharBoundary text.now (result + 1) }
@@ -148,9 +157,9 @@ pub fn first_place(byte: u8, text: &str) -> usize
     memchr(byte, text.as_bytes()).unwrap_or(text.len())
 }
 
-/// Returns the place of the last byte of this value, or 0.
+/// Returns the offset of the last byte with this value, or 0 if there is none.
 #[tactic(auto, using(crate::proofs::PlaceLemmas::last_found, crate::proofs::PlaceLemmas::last_none, crate::proofs::PlaceLemmas::place_lemmas))]
-fn last_place(byte: u8, text: &str) -> usize
+fn last_offset(byte: u8, text: &str) -> usize
     requires ascii { byte < 128 }
     ensures value { result ≡ spec.last_offset byte text.now }
     ensures place { IsCharBoundary text.now result }
@@ -158,29 +167,7 @@ fn last_place(byte: u8, text: &str) -> usize
     memrchr(byte, text.as_bytes()).unwrap_or(0)
 }
 
-/// Writes a literal between single quotes. The text between them goes from the place `begin` to `close`.
-#[tactic(auto, using(crate::proofs::PlaceLemmas::place_lemmas))]
-fn write_single<W: fmt::Write>(
-    format: Format,
-    mode: Mode,
-    text: &str,
-    begin: usize,
-    close: usize,
-    output: &mut W,
-) -> fmt::Result
-    requires begin { IsCharBoundary text.now begin }
-    requires close { IsCharBoundary text.now close }
-    requires order { begin ≤ close }
-    ensures { OnOk result (WritesInCalls W.write_str_gives output.old
-        (with_marks format (spec.parts_from 0 text.now
-        (spec.single_stretches mode begin close text.now))) output.new) }
-{
-    let look = single_look(mode, &text[begin..close]);
-    let shown = write_stretch(format, look, text, 0, begin, close, output)?;
-    write_in_class(format, Class::Text, &text[shown..], output)
-}
-
-/// Returns the look of the text between single quotes, or `None` if it is plain.
+/// Returns the mark of the contents of a literal with single quotes, or `None` if they are plain.
 fn single_look(mode: Mode, inside: &str) -> Option<Look>
     ensures { result ≡ spec.char_look (spec.char_error mode inside.now) inside.now }
 {
@@ -191,7 +178,7 @@ fn single_look(mode: Mode, inside: &str) -> Option<Look>
     }
 }
 
-/// Returns what is wrong between single quotes, or `None` if nothing is.
+/// Returns the error in the contents of a literal with single quotes, or `None` if there is none.
 fn single_error(mode: Mode, inside: &str) -> Option<EscapeError>
     ensures { result ≡ spec.char_error mode inside.now }
 {
@@ -203,102 +190,120 @@ fn single_error(mode: Mode, inside: &str) -> Option<EscapeError>
     Some(error)
 }
 
-/// Writes a literal between double quotes. The text between them goes from the place `begin` to `close`.
-fn write_string<W: fmt::Write>(
+/// Writes a literal stretch by stretch.
+#[derive(Drop)]
+struct Painter<'a> {
     format: Format,
-    mode: Mode,
-    text: &str,
-    begin: usize,
-    close: usize,
-    output: &mut W,
-) -> fmt::Result
-    requires fits { Fits text.now }
-    requires begin { IsCharBoundary text.now begin }
-    requires close { IsCharBoundary text.now close }
-    requires order { begin ≤ close }
-    ensures { OnOk result (WritesInCalls W.write_str_gives output.old
-        (with_marks format (spec.parts_from 0 text.now
-        (means.string_stretches mode begin close text.now))) output.new) }
-{
-    let mut shown = 0;
-    let mut at = begin;
-    for (range, element) in file_elements(&text[begin..close], is_raw(mode)) {
-        let start = begin + range.start;
-        if start < at {
-            continue;
+    text: &'a str,
+    /// The text before this offset is written.
+    shown: usize,
+    /// The text between `shown` and this offset is plain.
+    at: usize,
+}
+
+impl<'a> Painter<'a> {
+    /// Writes a literal with single quotes, whose contents are the text from `at` to `close`.
+    fn write_single<W: fmt::Write>(
+        &mut self,
+        mode: Mode,
+        close: usize,
+        output: &mut W,
+    ) -> fmt::Result
+        requires cut { IsCut self.old.text.now self.old.shown self.old.at }
+        requires close { IsCharBoundary self.old.text.now close }
+        requires order { self.old.at ≤ close }
+        ensures { OnOk result (WritesInCalls W.write_str_gives output.old
+            (with_marks self.old.format (spec.parts_from self.old.shown
+            (drop self.old.shown self.old.text.now)
+            (spec.single_stretches mode self.old.at close self.old.text.now))) output.new) }
+    {
+        let look = single_look(mode, &self.text[self.at..close]);
+        self.mark(look, close, output)?;
+        self.write_rest(output)
+    }
+
+    /// Writes a literal with double quotes, whose contents are the text from `at` to `close`.
+    fn write_string<W: fmt::Write>(
+        &mut self,
+        mode: Mode,
+        close: usize,
+        output: &mut W,
+    ) -> fmt::Result
+        requires fits { Fits self.old.text.now }
+        requires cut { IsCut self.old.text.now self.old.shown self.old.at }
+        requires close { IsCharBoundary self.old.text.now close }
+        requires order { self.old.at ≤ close }
+        ensures { OnOk result (WritesInCalls W.write_str_gives output.old
+            (with_marks self.old.format (spec.parts_from self.old.shown
+            (drop self.old.shown self.old.text.now)
+            (means.string_stretches mode self.old.at close self.old.text.now))) output.new) }
+    {
+        let begin = self.at;
+        for (range, element) in file_elements(&self.text[begin..close], is_raw(mode)) {
+            let start = begin + range.start;
+            // The range of a warning can include the next element.
+            if start < self.at {
+                continue;
+            }
+            self.mark_skipped(start, output)?;
+            self.mark(look_of(mode, element), begin + range.end, output)?;
         }
-        let end = begin + range.end;
-        shown = write_skipped(format, text, shown, at, start, output)?;
-        shown = write_stretch(
-            format,
-            look_of(mode, element),
-            text,
-            shown,
-            start,
-            end,
+        self.mark_skipped(close, output)?;
+        self.write_rest(output)
+    }
+
+    /// Marks the text up to `start` as an escape, if there is any: between two elements is only a skipped line end.
+    fn mark_skipped<W: fmt::Write>(&mut self, start: usize, output: &mut W) -> fmt::Result
+        requires cut { IsCut self.old.text.now self.old.shown self.old.at }
+        requires start { IsCharBoundary self.old.text.now start }
+        requires order { self.old.at ≤ start }
+        ensures { OnOk result (Paints W.write_str_gives self.old output.old
+            (means.gap self.old.at start) start self.new output.new) }
+    {
+        if self.at < start {
+            self.mark(Some(Look::Escape), start, output)
+        } else {
+            Ok(())
+        }
+    }
+
+    /// Writes the text up to `end` with a mark, or leaves it to be written as plain text if there is no mark.
+    #[tactic(auto, using(crate::proofs::LiteralLemmas::writes_stretch, std::proofs::lemmas::Grind::common_steps))]
+    fn mark<W: fmt::Write>(&mut self, look: Option<Look>, end: usize, output: &mut W) -> fmt::Result
+        requires cut { IsCut self.old.text.now self.old.shown self.old.at }
+        requires end { IsCharBoundary self.old.text.now end }
+        requires order { self.old.at ≤ end }
+        ensures { OnOk result (Paints W.write_str_gives self.old output.old
+            (spec.stretch self.old.at end look) end self.new output.new) }
+    {
+        let start = self.at;
+        self.at = end;
+        let Some(look) = look else {
+            return Ok(());
+        };
+        write_in_class(
+            self.format,
+            Class::Text,
+            &self.text[self.shown..start],
             output,
         )?;
-        at = end;
+        write_look(self.format, look, &self.text[start..end], output)?;
+        self.shown = end;
+        Ok(())
     }
-    shown = write_skipped(format, text, shown, at, close, output)?;
-    write_in_class(format, Class::Text, &text[shown..], output)
-}
 
-/// Writes the text between two elements: nothing, or a line end that is skipped.
-fn write_skipped<W: fmt::Write>(
-    format: Format,
-    text: &str,
-    shown: usize,
-    at: usize,
-    start: usize,
-    output: &mut W,
-) -> Result<usize, fmt::Error>
-    requires shown { IsCharBoundary text.now shown }
-    requires at { IsCharBoundary text.now at }
-    requires start { IsCharBoundary text.now start }
-    requires order { (shown ≤ at) × (at ≤ start) }
-    ensures { MatchResult result
-        (λ to. (IsCharBoundary text.now to × (to ≤ start))
-        × means.WritesOn W.write_str_gives format text.now output.old shown (means.gap at start)
-        output.new to) (λ error. Unit {0}) }
-{
-    if at < start {
-        write_stretch(format, Some(Look::Escape), text, shown, at, start, output)
-    } else {
-        Ok(shown)
+    /// Writes the rest of the literal as plain text.
+    fn write_rest<W: fmt::Write>(&self, output: &mut W) -> fmt::Result
+        requires shown { IsCharBoundary self.now.text.now self.now.shown }
+        ensures { OnOk result (WritesInCalls W.write_str_gives output.old
+            (with_marks self.now.format (Own Class.Text (drop self.now.shown self.now.text.now) ∷ []))
+            output.new) }
+    {
+        write_in_class(self.format, Class::Text, &self.text[self.shown..], output)
     }
 }
 
-/// Writes a stretch that is not plain, and before it the plain text that is not written yet. Returns the place up
-/// to which all is written.
-#[tactic(auto, using(crate::proofs::LiteralLemmas::writes_stretch, std::proofs::lemmas::Grind::common_steps))]
-fn write_stretch<W: fmt::Write>(
-    format: Format,
-    look: Option<Look>,
-    text: &str,
-    shown: usize,
-    start: usize,
-    end: usize,
-    output: &mut W,
-) -> Result<usize, fmt::Error>
-    requires shown { IsCharBoundary text.now shown }
-    requires start { IsCharBoundary text.now start }
-    requires end { IsCharBoundary text.now end }
-    requires order { (shown ≤ start) × (start ≤ end) }
-    ensures { MatchResult result
-        (λ to. (IsCharBoundary text.now to × (to ≤ end))
-        × means.WritesOn W.write_str_gives format text.now output.old shown
-        (spec.stretch start end look) output.new to) (λ error. Unit {0}) }
-{
-    let Some(look) = look else {
-        return Ok(shown);
-    };
-    write_in_class(format, Class::Text, &text[shown..start], output)?;
-    write_look(format, look, &text[start..end], output)?;
-    Ok(end)
-}
-
-/// Writes a stretch between its marks.
+/// Writes a stretch with its mark.
 fn write_look<W: fmt::Write>(format: Format, look: Look, text: &str, output: &mut W) -> fmt::Result
     ensures { OnOk result (WritesInCalls W.write_str_gives output.old
         (with_marks format (spec.look_parts look text.now)) output.new) }
@@ -311,7 +316,7 @@ fn write_look<W: fmt::Write>(format: Format, look: Look, text: &str, output: &mu
     }
 }
 
-/// Returns the look of an element, or `None` if it is plain.
+/// Returns the mark of an element, or `None` if it is plain.
 fn look_of(mode: Mode, element: Element) -> Option<Look>
     ensures { result ≡ means.element_look mode element }
 {

@@ -1,4 +1,4 @@
-//! The faults in the text of a token, of which its kind says nothing.
+//! Errors in the text of a token that its kind does not show.
 ghost use Rattle.std.specs.Prelude.{◌≡◌, drop};
 ghost use Rattle.std.specs.List.{between, list_any};
 ghost use Rattle.std.specs.Str.{chars};
@@ -8,28 +8,11 @@ ghost use Rattle.marks.specs.TextFault as spec;
 use crate::fault::Fault;
 use crate::frontmatter::run_of;
 use memchr::memchr;
-use rustc_lexer::{Base, DocStyle, LiteralKind, TokenKind};
+use rustc_lexer::{Base, DocStyle, LiteralKind};
 
-/// Returns what is wrong with the text of a token whose kind says nothing of it, or `None` if nothing is.
-pub fn text_fault(kind: TokenKind, text: &str) -> Option<Fault>
-    requires fits { Fits text.now }
-    ensures { result ≡ spec.text_fault kind text.now }
-{
-    match kind {
-        TokenKind::LineComment { doc_style } | TokenKind::BlockComment { doc_style, .. } => {
-            comment_fault(doc_style, text)
-        }
-        TokenKind::Frontmatter { .. } => frontmatter_fault(text),
-        TokenKind::RawIdent | TokenKind::RawLifetime => raw_name_fault(text),
-        TokenKind::Literal { kind, suffix_start } => {
-            literal_text_fault(kind, suffix_start as usize, text)
-        }
-        _ => None,
-    }
-}
-
-/// Returns what is wrong in a comment, or `None` if nothing is.
-fn comment_fault(doc_style: Option<DocStyle>, text: &str) -> Option<Fault>
+/// Returns the error in the text of a comment, or `None` if there is none.
+#[inline(never)]
+pub fn comment_fault(doc_style: Option<DocStyle>, text: &str) -> Option<Fault>
     requires fits { Fits text.now }
     ensures { result ≡ spec.comment_fault doc_style text.now }
 {
@@ -40,8 +23,8 @@ fn comment_fault(doc_style: Option<DocStyle>, text: &str) -> Option<Fault>
     }
 }
 
-/// Returns what is wrong in a frontmatter, or `None` if nothing is.
-fn frontmatter_fault(text: &str) -> Option<Fault>
+/// Returns the error in the text of a frontmatter, or `None` if there is none.
+pub fn frontmatter_text_fault(text: &str) -> Option<Fault>
     requires fits { Fits text.now }
     ensures { result ≡ spec.frontmatter_fault text.now }
 {
@@ -57,7 +40,7 @@ fn frontmatter_fault(text: &str) -> Option<Fault>
     None
 }
 
-/// Returns whether a carriage return is bare: a byte follows it that is no newline.
+/// Returns whether a text has a bare carriage return: one that a byte other than a newline follows.
 #[tactic(auto, using(crate::proofs::TextFaultLemmas::after_return, crate::proofs::TextFaultLemmas::no_return, crate::proofs::TextFaultLemmas::rest_fits, std::proofs::lemmas::Grind::common_steps))]
 fn has_bare_return(bytes: &[u8]) -> bool
     requires fits { Fits bytes.now }
@@ -73,51 +56,52 @@ fn has_bare_return(bytes: &[u8]) -> bool
     false
 }
 
-/// Returns whether a byte comes that is no newline.
+/// Returns whether the first byte exists and is not a newline.
 fn goes_on(bytes: &[u8]) -> bool
     ensures { result ≡ spec.goes_on bytes.now }
 {
     matches!(bytes, [byte, ..] if *byte != b'\n')
 }
 
-/// Returns the fault of a text in which a character turns the direction, or `None` if none does.
+/// Returns the error of a text with a character that changes the text direction, or `None` if it has none.
 #[tactic(auto, using(crate::proofs::TextFaultLemmas::ascii_stays))]
 fn direction_fault(text: &str) -> Option<Fault>
     ensures { result ≡ spec.direction_fault text.now }
 {
-    // Most texts: few characters are outside of ASCII.
+    // Most texts are ASCII, which this test decides eight bytes at a time or more.
     (!text.is_ascii() && has_turn(text)).then_some(Fault::TextDirectionCodepoint)
 }
 
-/// Returns whether a text has a character that turns the direction.
+/// Returns whether a text has a character that changes the text direction.
 fn has_turn(text: &str) -> bool
     ensures { result ≡ list_any spec.turns_direction (chars text.now) }
 {
     text.chars().any(turns_direction)
 }
 
-/// Returns whether a character turns the direction of text.
+/// Returns whether a character changes the text direction.
 fn turns_direction(c: char) -> bool
     ensures { result ≡ spec.turns_direction c }
 {
     matches!(c, '\u{202a}'..='\u{202e}' | '\u{2066}'..='\u{2069}')
 }
 
-/// The words that cannot be raw, as names and as lifetimes.
+/// The words that cannot be raw, as identifiers and as lifetimes.
 const NEVER_RAW: [&str; 10] = [
     "r#self", "r#Self", "r#super", "r#crate", "r#_", "'r#self", "'r#Self", "'r#super", "'r#crate",
     "'r#_",
 ];
 
-/// Returns what is wrong with a raw name, or `None` if nothing is.
-fn raw_name_fault(text: &str) -> Option<Fault>
+/// Returns the error of a raw identifier or a raw lifetime, or `None` if it has none.
+#[inline(never)]
+pub fn raw_name_fault(text: &str) -> Option<Fault>
     ensures { result ≡ spec.raw_name_fault text.now }
 {
     NEVER_RAW.contains(&text).then_some(Fault::RawKeyword)
 }
 
-/// Returns what is wrong with a literal whose suffix begins at this place, or `None` if nothing is.
-fn literal_text_fault(kind: LiteralKind, suffix_start: usize, text: &str) -> Option<Fault>
+/// Returns the error in the text of a literal whose suffix starts at this offset, or `None` if there is none.
+pub fn literal_text_fault(kind: LiteralKind, suffix_start: usize, text: &str) -> Option<Fault>
     ensures { result ≡ spec.literal_text_fault kind suffix_start text.now }
 {
     match kind {
@@ -154,14 +138,14 @@ fn digits_of(suffix_start: usize, text: &[u8]) -> &[u8]
     &text[end.min(2)..end]
 }
 
-/// Returns what is wrong with digits, of which the base has these, or `None` if nothing is.
+/// Returns the error of digits of a base with only `these` digits, or `None` if there is none.
 fn digit_fault(these: &[u8], digits: &[u8]) -> Option<Fault>
     ensures { result ≡ spec.digit_fault these.now digits.now }
 {
     (run_of(these, digits) != digits.len()).then_some(Fault::InvalidDigit)
 }
 
-/// Returns what is wrong with the suffix of a literal, or `None` if nothing is.
+/// Returns the error of the suffix of a literal, or `None` if there is none.
 #[tactic(auto, using(crate::proofs::TextFaultLemmas::suffix_here))]
 fn suffix_fault(suffix_start: usize, text: &[u8]) -> Option<Fault>
     ensures { result ≡ spec.suffix_fault (drop suffix_start text.now) }

@@ -1,4 +1,4 @@
-//! A Rust source with its tokens marked: by HTML tags, by the colours of a terminal, or only by messages about
+//! Writes Rust source with its tokens marked: with HTML tags, with terminal colours, or only with messages about
 //! malformed tokens.
 //!
 //! ```
@@ -13,14 +13,14 @@
 //! );
 //! ```
 //!
-//! [`class_of`], [`fault_of`], [`keyword_kind`] and [`literal_contents`] tell the same of a single token, for those who
-//! show it in their own way.
+//! To display tokens in another way, call [`class_of`], [`fault_of`], [`keyword_kind`] and [`literal_contents`] for
+//! each token.
 //!
-//! Nothing here allocates, and the crate needs no `std`.
+//! The crate does not allocate and does not need `std`.
 //!
-//! The modules below `erased` are generated from a proved source in Rattle, which is Rust with contracts, by deleting
-//! the contracts. The rest is written by hand. The repository's `docs/ERASED.md` says what is claimed and what is
-//! trusted.
+//! The modules in `erased` are generated from a verified source in Rattle, which is Rust with contracts, by deleting
+//! the contracts. The rest is hand-written. `docs/ERASED.md` in the repository lists the guarantees and the trusted
+//! computing base.
 
 #![no_std]
 #![deny(missing_docs)]
@@ -33,12 +33,12 @@
 
 /// The proved source without its contracts, generated from `crates/marks`.
 ///
-/// This is for packages that are generated in the same way, like `highlight` and the library for C: their calls are
-/// proved to meet the contracts, which the calls here do not test. They may change with the source. All other callers
-/// use the calls at the crate's root.
-// Contracts alone use some of its imports and variables.
+/// Only for packages that are generated in the same way, like `highlight` and the C library: these functions do not
+/// check their preconditions, and those callers are proved to meet them. The functions can change with the source.
+/// Other callers use the functions at the crate's root.
+// Only contracts use some of its imports and variables.
 #[allow(missing_docs, unused_imports, unused_variables, dead_code)]
-// The prover has a loop over what an iterator still gives as `while let`.
+// A loop over the rest of an iterator is a `while let` for the prover.
 #[allow(clippy::while_let_on_iterator)]
 #[allow(
     clippy::missing_errors_doc,
@@ -57,7 +57,7 @@ pub use rustc_lexer::Edition;
 use core::fmt;
 use rustc_lexer::TokenKind;
 
-/// Returns the text. Panics if it is too long.
+/// Returns the text, or panics if it is too long.
 #[track_caller]
 fn fitting(text: &str) -> &str {
     assert!(
@@ -67,10 +67,12 @@ fn fitting(text: &str) -> &str {
     text
 }
 
-/// Returns what is wrong with a token, by its kind and its text. Returns `None` if nothing is wrong. If two things are, it
-/// returns one.
+/// Returns the error of a token with this kind and text, or `None` if it has none.
 ///
-/// A frontmatter's kind does not say how it ends: the text does.
+/// If a token has two errors, one of them is returned. Errors at the end of a frontmatter depend on its text only, so
+/// the kind alone does not show whether a token is valid.
+///
+/// # Examples
 ///
 /// ```
 /// use marks::{Edition, Fault, fault_of};
@@ -94,11 +96,15 @@ pub fn fault_of(kind: TokenKind, text: &str) -> Option<Fault> {
     erased::fault_of(kind, fitting(text))
 }
 
-/// Writes a whole file in an edition: its shebang line, if it has one, between the marks of a comment, then each token
-/// between its marks. The file may begin with a frontmatter, and with a byte order mark, which is no token here.
+/// Writes a whole file in an edition, each token between its marks.
 ///
-/// In a page, U+0000 and carriage returns are entities; elsewhere control characters but tabs and line ends are shown
-/// as symbols, like `␛`, since a terminal obeys them, unless the format is [`Format::Raw`].
+/// A shebang line is marked as a comment. The file can start with a frontmatter, and with a byte order mark, which is
+/// written as it is.
+///
+/// In HTML, U+0000 and carriage returns are written as entities. In the other formats except [`Format::Raw`], control
+/// characters other than tabs and line ends are written as symbols like `␛`, since a terminal would obey them.
+///
+/// # Examples
 ///
 /// ```
 /// use marks::{Edition, Format, write_marked};
@@ -117,7 +123,7 @@ pub fn fault_of(kind: TokenKind, text: &str) -> Option<Fault> {
 ///
 /// # Errors
 ///
-/// An error comes from the output, which then has a beginning of what was to be written.
+/// Returns the error of the output, which then contains a prefix of the marked text.
 #[doc(alias = "highlight")]
 #[track_caller]
 pub fn write_marked<W: fmt::Write>(
@@ -129,11 +135,12 @@ pub fn write_marked<W: fmt::Write>(
     erased::write_marked(format, edition, fitting(text), output)
 }
 
-/// Writes the first `count` tokens of a text in an edition, or all if it has fewer, each between its marks. The text is
-/// read as a part of a file: a frontmatter or a shebang line is read as other tokens.
+/// Writes the first `count` tokens of a text in an edition, or all tokens if it has fewer, each between its marks.
 ///
-/// So the visible part of a long text can be written without the rest. A token depends on nothing before it, and on at
-/// most two characters after it.
+/// The text is lexed as a fragment of a file: a frontmatter or a shebang line is lexed as other tokens. A token depends
+/// on nothing before it and on at most two characters after it, so this can write the visible fragment of a long text.
+///
+/// # Examples
 ///
 /// ```
 /// use marks::{Edition, Format, write_first_tokens};
@@ -151,7 +158,7 @@ pub fn write_marked<W: fmt::Write>(
 ///
 /// # Errors
 ///
-/// An error comes from the output, which then has a beginning of what was to be written.
+/// Returns the error of the output, which then contains a prefix of the marked text.
 #[doc(alias = "highlight")]
 #[track_caller]
 pub fn write_first_tokens<W: fmt::Write>(

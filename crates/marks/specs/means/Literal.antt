@@ -1,7 +1,7 @@
 -- The stretches of a literal, as the code finds them in the items of what stands between the
 -- quotes.
-use Rattle.std.specs.Prelude.{ℕ, ◌+◌, nat_lt, if◌then◌else◌, List, [], ◌∷◌, ◌++◌, drop, Option, Some, None}
-use Rattle.std.specs.{Fmt.{WritesInCalls}, List.{between}}
+use Rattle.std.specs.Prelude.{◌≡◌, ℕ, ◌+◌, ◌≤◌, nat_lt, if◌then◌else◌, List, [], ◌∷◌, ◌++◌, drop, Option, Some, None}
+use Rattle.std.specs.{Fmt.{WritesInCalls}, List.{between}, Str.{IsCharBoundary}}
 use Rattle.rustc_lexer.specs.Classes.{Utf8}
 use Rattle.rustc_literal_escaper.specs.declared.element.Element.{Element}
 use Rattle.rustc_literal_escaper.specs.declared.element.Element.TheVariants.{Plain}
@@ -11,6 +11,7 @@ use Rattle.rustc_literal_escaper.specs.Grammar.{Item}
 use Rattle.rustc_literal_escaper.specs.Meaning.{error_of, is_raw}
 use Rattle.marks.specs.declared.literal.Look.{Look}
 use Rattle.marks.specs.declared.literal.Look.TheVariants.{Escape, Wrong}
+use Rattle.marks.specs.declared.literal.Painter.{Painter}
 use Rattle.marks.specs.declared.format.Format.{Format}
 use Rattle.marks.specs.LineEnds.{file_items}
 use Rattle.marks.specs.Literal.{Stretch, parts_from, stretch}
@@ -53,3 +54,18 @@ WritesOn {W} took format text old shown stretches new to =
     → WritesInCalls took new (with_marks format (parts_from to (drop to text) more)) last
     → WritesInCalls took old
     (with_marks format (parts_from shown (drop shown text) (stretches ++ more))) last
+
+-- a text may be cut at these two offsets
+pub record IsCut (text : Utf8) (shown at : ℕ) : Type 0 where
+  pub first : IsCharBoundary text shown
+  pub second : IsCharBoundary text at
+  pub order : shown ≤ at
+
+-- a painter has passed the text up to the offset `end`, and has written these stretches of it
+pub record Paints {W : Type 0} (took : W → List ℕ → W → Type 0) (old : Painter) (before : W)
+    (stretches : List Stretch) (end : ℕ) (new : Painter) (after : W) : Type 0 where
+  pub format : new.format ≡ old.format
+  pub text : new.text.now ≡ old.text.now
+  pub cut : IsCut new.text.now new.shown new.at
+  pub at : new.at ≡ end
+  pub writes : WritesOn took old.format old.text.now before old.shown stretches after new.shown

@@ -1,89 +1,91 @@
 // Made by tools/erase from crates/marks/src/fault.rt: edit that file.
-//! The faults of tokens.
+//! Errors of tokens.
 
 use crate::erased::frontmatter::{end_fault, has_crlf};
-use crate::erased::text_fault::text_fault;
+use crate::erased::text_fault::{
+    comment_fault, frontmatter_text_fault, literal_text_fault, raw_name_fault,
+};
 use core::error::Error;
 use core::fmt;
 use rustc_lexer::erased::{LiteralKind, RawStrError, TokenKind, starts_raw, validate_raw_str};
 use rustc_literal_escaper::erased::EscapeError;
 
-/// A fault of a token. Its `Display` writes a sentence about it.
+/// An error of a token. `Display` writes a message.
 ///
-/// [`fault_of`](crate::fault_of) never returns `InLiteral`, since a literal may have many such faults:
-/// [`literal_contents`](crate::literal_contents) returns the text that has them, for the calls of
-/// `rustc_literal_escaper`.
+/// [`fault_of`](crate::fault_of) never returns `InLiteral`, since a literal can have many such errors.
+/// [`literal_contents`](crate::literal_contents) returns the text that has them, and
+/// [`FaultsInFile`](crate::FaultsInFile) iterates over them.
 #[derive(Clone, Copy, Debug, PartialEq, Eq)]
 #[non_exhaustive]
 #[derive(Hash)]
 pub enum Fault {
-    /// Nothing closes a block comment.
+    /// A block comment is unterminated.
     UnterminatedBlockComment,
-    /// White space comes before the dashes of a frontmatter.
+    /// Whitespace precedes the opening fence of a frontmatter.
     WhitespaceBeforeFrontmatter,
-    /// The first line of a frontmatter has more on it than is allowed.
+    /// The first line of a frontmatter has more after the fence than an infostring.
     InvalidInfostring,
-    /// No line closes a frontmatter.
+    /// A frontmatter is unclosed.
     UnclosedFrontmatter,
-    /// White space comes before the dashes that close a frontmatter.
+    /// Whitespace precedes the closing fence of a frontmatter.
     WhitespaceBeforeFrontmatterClose,
-    /// A frontmatter opens and closes with these numbers of dashes.
+    /// The opening and the closing fence of a frontmatter have these different numbers of dashes.
     FrontmatterCloseMismatch { opening: u32, closing: u32 },
-    /// The last line of a frontmatter has more on it than dashes.
+    /// The closing fence of a frontmatter is followed by other text on its line.
     ExtraAfterFrontmatterClose,
-    /// A name holds an emoji.
+    /// An identifier contains an emoji.
     InvalidName,
-    /// A name comes right before a quote or a hash.
+    /// An identifier directly before a quote or a hash is not a known prefix.
     UnknownPrefix,
-    /// A lifetime comes right before a hash.
+    /// A lifetime directly before a hash is not a known prefix.
     UnknownLifetimePrefix,
-    /// The text has `#"` or `##`, which are reserved.
+    /// `#"` and `##` are reserved.
     GuardedString,
-    /// The name of a lifetime begins with an ASCII digit or an emoji, or a later character of it is an emoji that may
-    /// not continue an identifier.
+    /// The name of a lifetime starts with an ASCII digit or an emoji, or contains an emoji that cannot continue an
+    /// identifier.
     InvalidLifetime,
-    /// No token begins with the character.
+    /// No token starts with the character.
     UnknownCharacter,
-    /// No digit follows the prefix of a number's base.
+    /// A number has no digits after the prefix of its base.
     EmptyNumber,
-    /// No digit follows the letter of an exponent.
+    /// An exponent has no digits.
     EmptyExponent,
-    /// Nothing closes a character.
+    /// A character literal is unterminated.
     UnterminatedChar,
-    /// Nothing closes a byte.
+    /// A byte literal is unterminated.
     UnterminatedByte,
-    /// Nothing closes a string.
+    /// A string is unterminated.
     UnterminatedString,
-    /// There is neither a hash nor a quote where a raw string should begin.
+    /// The prefix of a raw string is followed by neither a hash nor a quote.
     InvalidRawStarter,
-    /// Nothing closes a raw string, and no hash follows a quote in it.
+    /// A raw string is unterminated, and no quote in it is followed by a hash.
     UnterminatedRawString { expected: u32 },
-    /// Nothing closes a raw string. Too few hashes follow the quote that ends at byte `end` of it.
+    /// A raw string is unterminated. Too few hashes follow the quote that ends at byte `end` of it.
     TooFewHashes { expected: u32, found: u32, end: u32 },
     /// A raw string has more than 255 hashes on each side.
     TooManyHashes { found: u32 },
-    /// Something is wrong between the quotes of a literal.
+    /// The contents of a literal have an error or a warning.
     InLiteral(EscapeError),
-    /// A number of base 2 or 8 has a digit that its base does not have.
+    /// A number of base 2 or 8 has a digit that is invalid in its base.
     InvalidDigit,
-    /// A number of another base than ten has a point or an exponent.
+    /// A number with a prefix for its base has a decimal point or an exponent.
     FloatOfBase,
     /// The word after `r#` or `'r#` is `self`, `Self`, `super`, `crate` or `_`.
     RawKeyword,
     /// The suffix of a literal is `_`.
     UnderscoreSuffix,
-    /// A doc comment holds a carriage return that no newline follows.
+    /// A doc comment contains a bare carriage return.
     BareCarriageReturnInDocComment,
-    /// A frontmatter holds a carriage return that no newline follows.
+    /// A frontmatter contains a bare carriage return.
     BareCarriageReturnInFrontmatter,
-    /// A frontmatter has more than 255 dashes on each side.
+    /// The fences of a frontmatter have more than 255 dashes.
     TooManyDashes { found: u32 },
-    /// A comment or a literal holds a character that turns the direction of text.
+    /// A comment or a literal contains a character that changes the text direction.
     TextDirectionCodepoint,
 }
 
 impl Fault {
-    /// Returns the number of the fault, from 1 on, for other languages. It never changes.
+    /// Returns the number of the error in the C ABI, from 1 on. It never changes.
     #[must_use]
     pub fn number(self) -> u8 {
         match self {
@@ -122,31 +124,27 @@ impl Fault {
     }
 }
 
-/// Returns what is wrong with a token, by its kind and its text. Returns `None` if nothing is wrong. If two things are, it
-/// returns one. CR LF is a newline, and so is a carriage return at the end of a doc comment or a frontmatter.
+/// Returns the error of a token with this kind and text, or one of its errors if it has two. CR LF counts as a newline,
+/// and so does a carriage return at the end of a doc comment or a frontmatter.
 pub fn fault_of(kind: TokenKind, text: &str) -> Option<Fault> {
-    match kind_fault(kind, text) {
-        None => text_fault(kind, text),
-        fault => fault,
-    }
-}
-
-/// Returns what the kind of a token says to be wrong, or `None` if it says nothing.
-fn kind_fault(kind: TokenKind, text: &str) -> Option<Fault> {
+    // Most tokens match the last arm. The calls are not inlined, so that this arm needs no stack frame.
     match kind {
+        TokenKind::LineComment { doc_style } => comment_fault(doc_style, text),
         TokenKind::BlockComment {
             terminated: false, ..
         } => Some(Fault::UnterminatedBlockComment),
+        TokenKind::BlockComment { doc_style, .. } => comment_fault(doc_style, text),
         TokenKind::Frontmatter {
             has_invalid_preceding_whitespace: true,
             ..
         } => Some(Fault::WhitespaceBeforeFrontmatter),
         TokenKind::Frontmatter {
             invalid_infostring, ..
-        } => match end_fault(text) {
-            None if invalid_infostring && !has_crlf(text) => Some(Fault::InvalidInfostring),
-            fault => fault,
-        },
+        } => frontmatter_fault(invalid_infostring, text),
+        TokenKind::RawIdent | TokenKind::RawLifetime => raw_name_fault(text),
+        TokenKind::Literal { kind, suffix_start } => {
+            literal_fault(kind, suffix_start as usize, text)
+        }
         TokenKind::InvalidIdent => Some(Fault::InvalidName),
         TokenKind::UnknownPrefix => Some(Fault::UnknownPrefix),
         TokenKind::UnknownPrefixLifetime => Some(Fault::UnknownLifetimePrefix),
@@ -155,13 +153,32 @@ fn kind_fault(kind: TokenKind, text: &str) -> Option<Fault> {
             starts_with_number: true,
         } => Some(Fault::InvalidLifetime),
         TokenKind::Unknown => Some(Fault::UnknownCharacter),
-        TokenKind::Literal { kind, .. } => literal_fault(kind, text),
         _ => None,
     }
 }
 
-/// Returns what is wrong with a literal, or `None` if nothing is.
-fn literal_fault(kind: LiteralKind, text: &str) -> Option<Fault> {
+/// Returns the error of a frontmatter that no whitespace precedes, or `None` if it has none. The error of its last line
+/// comes first, then that of its infostring, then that of its text.
+#[inline(never)]
+fn frontmatter_fault(invalid_infostring: bool, text: &str) -> Option<Fault> {
+    match end_fault(text) {
+        None if invalid_infostring && !has_crlf(text) => Some(Fault::InvalidInfostring),
+        None => frontmatter_text_fault(text),
+        fault => fault,
+    }
+}
+
+/// Returns the error of a literal, or `None` if it has none: that of its kind, or else that of its text.
+#[inline(never)]
+fn literal_fault(kind: LiteralKind, suffix_start: usize, text: &str) -> Option<Fault> {
+    match literal_kind_fault(kind, text) {
+        None => literal_text_fault(kind, suffix_start, text),
+        fault => fault,
+    }
+}
+
+/// Returns the error that the kind of a literal shows, or `None` if it shows none.
+fn literal_kind_fault(kind: LiteralKind, text: &str) -> Option<Fault> {
     match kind {
         LiteralKind::Int {
             empty_int: true, ..
@@ -183,7 +200,7 @@ fn literal_fault(kind: LiteralKind, text: &str) -> Option<Fault> {
     }
 }
 
-/// Returns why a raw string is refused, or `None` if it is not. Its prefix has `prefix_len` characters.
+/// Returns the error of a raw string whose prefix has `prefix_len` characters, or `None` if it has none.
 fn raw_fault(text: &str, prefix_len: u32) -> Option<Fault> {
     if !starts_raw(text, prefix_len) {
         return None;

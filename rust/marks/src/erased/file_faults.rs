@@ -2,7 +2,7 @@
 //! What is wrong in a literal of a file.
 
 use crate::erased::line_ends::{FileChars, FileElements, file_elements};
-use crate::erased::literal::{first_place, is_single};
+use crate::erased::literal::{first_offset, is_single};
 use core::iter::Iterator;
 use core::ops::Range;
 use rustc_literal_escaper::erased::{EscapeError, Faults, Mode};
@@ -39,7 +39,7 @@ impl<'a> FaultsInFile<'a> {
             elements: file_elements("", false),
             mode,
         };
-        if first_place(b'\r', contents) == contents.len() {
+        if first_offset(b'\r', contents) == contents.len() {
             found.faults = Faults::new(contents, mode);
         } else if is_single(mode) {
             found.alone = single_error(contents, mode);

@@ -1,5 +1,5 @@
 // Made by tools/erase from crates/marks/src/literal.rt: edit that file.
-//! Writes literals: their escapes, and what is wrong in them.
+//! Writes literals with their escapes and errors marked.
 
 use crate::erased::class::Class;
 use crate::erased::fault::Fault;
@@ -13,17 +13,16 @@ use memchr::{memchr, memrchr};
 use rustc_lexer::erased::{LiteralKind, TokenKind};
 use rustc_literal_escaper::erased::{Element, EscapeError, Mode};
 
-/// The look of a stretch of a literal that is not plain.
+/// The mark of a stretch of a literal that is not plain.
 #[derive(Clone, Copy, Debug, PartialEq, Eq)]
 pub enum Look {
     /// An escape.
     Escape,
-    /// Something that is wrong.
+    /// An error or a warning.
     Wrong(EscapeError),
 }
 
-/// Returns the `Mode` of a closed literal. Returns `None` for a number, for a literal that is not closed, and for a token
-/// that is not a literal.
+/// Returns the mode of a terminated literal, or `None` for a number, an unterminated literal and any other token.
 pub fn mode_of(kind: TokenKind) -> Option<Mode> {
     let TokenKind::Literal { kind, .. } = kind else {
         return None;
@@ -41,12 +40,15 @@ pub fn mode_of(kind: TokenKind) -> Option<Mode> {
     }
 }
 
-/// Returns where the text between the quotes of a literal is, in bytes from the start of the literal, and the `Mode` in which
-/// its escapes are read. Takes the literal's kind and text. Returns `None` for a number, for a literal that is not closed,
-/// and for a token that is not a literal. A suffix may follow the closing quote.
+/// Returns the [`Mode`] of a literal, and the byte range between its quotes.
 ///
-/// These are the arguments that the calls of `rustc_literal_escaper` take. The ranges that they give count from the start
-/// of the range that this call returns.
+/// Returns `None` for a number, an unterminated literal and a token that is not a literal. A suffix may follow the
+/// closing quote.
+///
+/// The functions of `rustc_literal_escaper` accept this mode and the text in this range. The ranges that they report
+/// are relative to its start.
+///
+/// # Examples
 ///
 /// ```
 /// use marks::literal_contents;
@@ -69,11 +71,11 @@ pub fn literal_contents(kind: TokenKind, text: &str) -> Option<(Mode, Range<usiz
     Some((mode, start..end))
 }
 
-/// Returns where the text between the quotes of a literal begins and ends, or `None` if there are no two quotes.
+/// Returns the offsets at which the contents of a literal start and end, or `None` if it does not have two quotes.
 fn between_quotes(mode: Mode, text: &str) -> Option<(usize, usize)> {
     let quote = quote_of(mode);
-    let first = first_place(quote, text);
-    let last = last_place(quote, text);
+    let first = first_offset(quote, text);
+    let last = last_offset(quote, text);
     if first < last {
         Some((first + 1, last))
     } else {
@@ -81,58 +83,50 @@ fn between_quotes(mode: Mode, text: &str) -> Option<(usize, usize)> {
     }
 }
 
-/// Writes a closed literal: its escapes in their class, its faults between their marks, and the rest as text.
+/// Writes a terminated literal: its escapes in their class, its errors between their marks, and the rest as text.
 pub fn write_literal<W: fmt::Write>(
     format: Format,
     mode: Mode,
     text: &str,
     output: &mut W,
 ) -> fmt::Result {
-    let Some((start, end)) = between_quotes(mode, text) else {
+    let Some((begin, close)) = between_quotes(mode, text) else {
         return write_in_class(format, Class::Text, text, output);
     };
+    let mut painter = Painter {
+        format,
+        text,
+        shown: 0,
+        at: begin,
+    };
     if is_single(mode) {
-        write_single(format, mode, text, start, end, output)
+        painter.write_single(mode, close, output)
     } else {
-        write_string(format, mode, text, start, end, output)
+        painter.write_string(mode, close, output)
     }
 }
 
-/// Returns whether such a literal has single quotes.
+/// Returns whether a literal of this mode has single quotes.
 pub fn is_single(mode: Mode) -> bool {
     matches!(mode, Mode::Char | Mode::Byte)
 }
 
-/// Returns the quote of such a literal.
+/// Returns the quote of a literal of this mode.
 fn quote_of(mode: Mode) -> u8 {
     if is_single(mode) { b'\'' } else { b'"' }
 }
 
-/// Returns the place of the first byte of this value, or the length of the text.
-pub fn first_place(byte: u8, text: &str) -> usize {
+/// Returns the offset of the first byte with this value, or the length of the text if there is none.
+pub fn first_offset(byte: u8, text: &str) -> usize {
     memchr(byte, text.as_bytes()).unwrap_or(text.len())
 }
 
-/// Returns the place of the last byte of this value, or 0.
-fn last_place(byte: u8, text: &str) -> usize {
+/// Returns the offset of the last byte with this value, or 0 if there is none.
+fn last_offset(byte: u8, text: &str) -> usize {
     memrchr(byte, text.as_bytes()).unwrap_or(0)
 }
 
-/// Writes a literal between single quotes. The text between them goes from the place `begin` to `close`.
-fn write_single<W: fmt::Write>(
-    format: Format,
-    mode: Mode,
-    text: &str,
-    begin: usize,
-    close: usize,
-    output: &mut W,
-) -> fmt::Result {
-    let look = single_look(mode, &text[begin..close]);
-    let shown = write_stretch(format, look, text, 0, begin, close, output)?;
-    write_in_class(format, Class::Text, &text[shown..], output)
-}
-
-/// Returns the look of the text between single quotes, or `None` if it is plain.
+/// Returns the mark of the contents of a literal with single quotes, or `None` if they are plain.
 fn single_look(mode: Mode, inside: &str) -> Option<Look> {
     match single_error(mode, inside) {
         Some(error) => Some(Look::Wrong(error)),
@@ -141,7 +135,7 @@ fn single_look(mode: Mode, inside: &str) -> Option<Look> {
     }
 }
 
-/// Returns what is wrong between single quotes, or `None` if nothing is.
+/// Returns the error in the contents of a literal with single quotes, or `None` if there is none.
 fn single_error(mode: Mode, inside: &str) -> Option<EscapeError> {
     let mode = match mode {
         Mode::Byte => Mode::Byte,
@@ -151,75 +145,89 @@ fn single_error(mode: Mode, inside: &str) -> Option<EscapeError> {
     Some(error)
 }
 
-/// Writes a literal between double quotes. The text between them goes from the place `begin` to `close`.
-fn write_string<W: fmt::Write>(
+/// Writes a literal stretch by stretch.
+struct Painter<'a> {
     format: Format,
-    mode: Mode,
-    text: &str,
-    begin: usize,
-    close: usize,
-    output: &mut W,
-) -> fmt::Result {
-    let mut shown = 0;
-    let mut at = begin;
-    for (range, element) in file_elements(&text[begin..close], is_raw(mode)) {
-        let start = begin + range.start;
-        if start < at {
-            continue;
+    text: &'a str,
+    /// The text before this offset is written.
+    shown: usize,
+    /// The text between `shown` and this offset is plain.
+    at: usize,
+}
+
+impl<'a> Painter<'a> {
+    /// Writes a literal with single quotes, whose contents are the text from `at` to `close`.
+    fn write_single<W: fmt::Write>(
+        &mut self,
+        mode: Mode,
+        close: usize,
+        output: &mut W,
+    ) -> fmt::Result {
+        let look = single_look(mode, &self.text[self.at..close]);
+        self.mark(look, close, output)?;
+        self.write_rest(output)
+    }
+
+    /// Writes a literal with double quotes, whose contents are the text from `at` to `close`.
+    fn write_string<W: fmt::Write>(
+        &mut self,
+        mode: Mode,
+        close: usize,
+        output: &mut W,
+    ) -> fmt::Result {
+        let begin = self.at;
+        for (range, element) in file_elements(&self.text[begin..close], is_raw(mode)) {
+            let start = begin + range.start;
+            // The range of a warning can include the next element.
+            if start < self.at {
+                continue;
+            }
+            self.mark_skipped(start, output)?;
+            self.mark(look_of(mode, element), begin + range.end, output)?;
         }
-        let end = begin + range.end;
-        shown = write_skipped(format, text, shown, at, start, output)?;
-        shown = write_stretch(
-            format,
-            look_of(mode, element),
-            text,
-            shown,
-            start,
-            end,
+        self.mark_skipped(close, output)?;
+        self.write_rest(output)
+    }
+
+    /// Marks the text up to `start` as an escape, if there is any: between two elements is only a skipped line end.
+    fn mark_skipped<W: fmt::Write>(&mut self, start: usize, output: &mut W) -> fmt::Result {
+        if self.at < start {
+            self.mark(Some(Look::Escape), start, output)
+        } else {
+            Ok(())
+        }
+    }
+
+    /// Writes the text up to `end` with a mark, or leaves it to be written as plain text if there is no mark.
+    fn mark<W: fmt::Write>(
+        &mut self,
+        look: Option<Look>,
+        end: usize,
+        output: &mut W,
+    ) -> fmt::Result {
+        let start = self.at;
+        self.at = end;
+        let Some(look) = look else {
+            return Ok(());
+        };
+        write_in_class(
+            self.format,
+            Class::Text,
+            &self.text[self.shown..start],
             output,
         )?;
-        at = end;
+        write_look(self.format, look, &self.text[start..end], output)?;
+        self.shown = end;
+        Ok(())
     }
-    shown = write_skipped(format, text, shown, at, close, output)?;
-    write_in_class(format, Class::Text, &text[shown..], output)
-}
 
-/// Writes the text between two elements: nothing, or a line end that is skipped.
-fn write_skipped<W: fmt::Write>(
-    format: Format,
-    text: &str,
-    shown: usize,
-    at: usize,
-    start: usize,
-    output: &mut W,
-) -> Result<usize, fmt::Error> {
-    if at < start {
-        write_stretch(format, Some(Look::Escape), text, shown, at, start, output)
-    } else {
-        Ok(shown)
+    /// Writes the rest of the literal as plain text.
+    fn write_rest<W: fmt::Write>(&self, output: &mut W) -> fmt::Result {
+        write_in_class(self.format, Class::Text, &self.text[self.shown..], output)
     }
 }
 
-/// Writes a stretch that is not plain, and before it the plain text that is not written yet. Returns the place up
-/// to which all is written.
-fn write_stretch<W: fmt::Write>(
-    format: Format,
-    look: Option<Look>,
-    text: &str,
-    shown: usize,
-    start: usize,
-    end: usize,
-    output: &mut W,
-) -> Result<usize, fmt::Error> {
-    let Some(look) = look else {
-        return Ok(shown);
-    };
-    write_in_class(format, Class::Text, &text[shown..start], output)?;
-    write_look(format, look, &text[start..end], output)?;
-    Ok(end)
-}
-
-/// Writes a stretch between its marks.
+/// Writes a stretch with its mark.
 fn write_look<W: fmt::Write>(
     format: Format,
     look: Look,
@@ -234,7 +242,7 @@ fn write_look<W: fmt::Write>(
     }
 }
 
-/// Returns the look of an element, or `None` if it is plain.
+/// Returns the mark of an element, or `None` if it is plain.
 fn look_of(mode: Mode, element: Element) -> Option<Look> {
     match (element.error_in(mode), element) {
         (Some(error), _) => Some(Look::Wrong(error)),

@@ -1,28 +1,14 @@
 // Made by tools/erase from crates/marks/src/text_fault.rt: edit that file.
-//! The faults in the text of a token, of which its kind says nothing.
+//! Errors in the text of a token that its kind does not show.
 
 use crate::erased::fault::Fault;
 use crate::erased::frontmatter::run_of;
 use memchr::memchr;
-use rustc_lexer::erased::{Base, DocStyle, LiteralKind, TokenKind};
+use rustc_lexer::erased::{Base, DocStyle, LiteralKind};
 
-/// Returns what is wrong with the text of a token whose kind says nothing of it, or `None` if nothing is.
-pub fn text_fault(kind: TokenKind, text: &str) -> Option<Fault> {
-    match kind {
-        TokenKind::LineComment { doc_style } | TokenKind::BlockComment { doc_style, .. } => {
-            comment_fault(doc_style, text)
-        }
-        TokenKind::Frontmatter { .. } => frontmatter_fault(text),
-        TokenKind::RawIdent | TokenKind::RawLifetime => raw_name_fault(text),
-        TokenKind::Literal { kind, suffix_start } => {
-            literal_text_fault(kind, suffix_start as usize, text)
-        }
-        _ => None,
-    }
-}
-
-/// Returns what is wrong in a comment, or `None` if nothing is.
-fn comment_fault(doc_style: Option<DocStyle>, text: &str) -> Option<Fault> {
+/// Returns the error in the text of a comment, or `None` if there is none.
+#[inline(never)]
+pub fn comment_fault(doc_style: Option<DocStyle>, text: &str) -> Option<Fault> {
     match doc_style {
         None => direction_fault(text),
         Some(_) if has_bare_return(text.as_bytes()) => Some(Fault::BareCarriageReturnInDocComment),
@@ -30,8 +16,8 @@ fn comment_fault(doc_style: Option<DocStyle>, text: &str) -> Option<Fault> {
     }
 }
 
-/// Returns what is wrong in a frontmatter, or `None` if nothing is.
-fn frontmatter_fault(text: &str) -> Option<Fault> {
+/// Returns the error in the text of a frontmatter, or `None` if there is none.
+pub fn frontmatter_text_fault(text: &str) -> Option<Fault> {
     if has_bare_return(text.as_bytes()) {
         return Some(Fault::BareCarriageReturnInFrontmatter);
     }
@@ -44,7 +30,7 @@ fn frontmatter_fault(text: &str) -> Option<Fault> {
     None
 }
 
-/// Returns whether a carriage return is bare: a byte follows it that is no newline.
+/// Returns whether a text has a bare carriage return: one that a byte other than a newline follows.
 fn has_bare_return(bytes: &[u8]) -> bool {
     let mut rest = bytes;
     while let Some(at) = memchr(b'\r', rest) {
@@ -56,40 +42,41 @@ fn has_bare_return(bytes: &[u8]) -> bool {
     false
 }
 
-/// Returns whether a byte comes that is no newline.
+/// Returns whether the first byte exists and is not a newline.
 fn goes_on(bytes: &[u8]) -> bool {
     matches!(bytes, [byte, ..] if *byte != b'\n')
 }
 
-/// Returns the fault of a text in which a character turns the direction, or `None` if none does.
+/// Returns the error of a text with a character that changes the text direction, or `None` if it has none.
 fn direction_fault(text: &str) -> Option<Fault> {
-    // Most texts: few characters are outside of ASCII.
+    // Most texts are ASCII, which this test decides eight bytes at a time or more.
     (!text.is_ascii() && has_turn(text)).then_some(Fault::TextDirectionCodepoint)
 }
 
-/// Returns whether a text has a character that turns the direction.
+/// Returns whether a text has a character that changes the text direction.
 fn has_turn(text: &str) -> bool {
     text.chars().any(turns_direction)
 }
 
-/// Returns whether a character turns the direction of text.
+/// Returns whether a character changes the text direction.
 fn turns_direction(c: char) -> bool {
     matches!(c, '\u{202a}'..='\u{202e}' | '\u{2066}'..='\u{2069}')
 }
 
-/// The words that cannot be raw, as names and as lifetimes.
+/// The words that cannot be raw, as identifiers and as lifetimes.
 const NEVER_RAW: [&str; 10] = [
     "r#self", "r#Self", "r#super", "r#crate", "r#_", "'r#self", "'r#Self", "'r#super", "'r#crate",
     "'r#_",
 ];
 
-/// Returns what is wrong with a raw name, or `None` if nothing is.
-fn raw_name_fault(text: &str) -> Option<Fault> {
+/// Returns the error of a raw identifier or a raw lifetime, or `None` if it has none.
+#[inline(never)]
+pub fn raw_name_fault(text: &str) -> Option<Fault> {
     NEVER_RAW.contains(&text).then_some(Fault::RawKeyword)
 }
 
-/// Returns what is wrong with a literal whose suffix begins at this place, or `None` if nothing is.
-fn literal_text_fault(kind: LiteralKind, suffix_start: usize, text: &str) -> Option<Fault> {
+/// Returns the error in the text of a literal whose suffix starts at this offset, or `None` if there is none.
+pub fn literal_text_fault(kind: LiteralKind, suffix_start: usize, text: &str) -> Option<Fault> {
     match kind {
         LiteralKind::Int {
             base: Base::Binary, ..
@@ -119,12 +106,12 @@ fn digits_of(suffix_start: usize, text: &[u8]) -> &[u8] {
     &text[end.min(2)..end]
 }
 
-/// Returns what is wrong with digits, of which the base has these, or `None` if nothing is.
+/// Returns the error of digits of a base with only `these` digits, or `None` if there is none.
 fn digit_fault(these: &[u8], digits: &[u8]) -> Option<Fault> {
     (run_of(these, digits) != digits.len()).then_some(Fault::InvalidDigit)
 }
 
-/// Returns what is wrong with the suffix of a literal, or `None` if nothing is.
+/// Returns the error of the suffix of a literal, or `None` if there is none.
 fn suffix_fault(suffix_start: usize, text: &[u8]) -> Option<Fault> {
     let suffix = &text[suffix_start.min(text.len())..];
     (suffix.len() == 1 && suffix[0] == b'_').then_some(Fault::UnderscoreSuffix)

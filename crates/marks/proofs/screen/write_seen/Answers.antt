@@ -1,9 +1,12 @@
-use Rattle.std.proofs.lemmas.Str.{IsUtf8-past_char}
-use Rattle.marks.proofs.ScreenLemmas.{writes_char}
+use Rattle.std.proofs.Common.{refl}
+use Rattle.marks.proofs.ScreenLemmas.{writes_stretch}
 use Rattle.marks.proofs.screen.write_seen.Goals as goal
 
-pub loop-c-preserved : goal.loop-c-preserved
-loop-c-preserved g c = record {
-  utf8 = IsUtf8-past_char _ _ _ c.loop-c.invariant.utf8 c.in-Some.ensures.1;
-  left = λ w more. c.loop-c.invariant.left w (writes_char g.W.Write.write_str_gives c.args.class c.loop-c.output c.write_char.new.self w _ _ _ _ c.in-Some.ensures.0 c.seen_char.ensures c.in_ok-write_char.ensures.writes more);
-}
+pub loop-front-preserved : goal.loop-front-preserved
+loop-front-preserved g c =
+    let found = c.in-Some.ensures in
+    record {
+      utf8 = found.4;
+      left = λ w more. c.loop-front.invariant.left w (writes_stretch g.W.Write.write_str_gives c.args.class c.loop-front.output c.write_str.new.self c.write_char.new.self w _ _ _ _ _
+          found.3 found.0 found.1 c.seen_char.ensures (c.in_ok-write_str.ensures.ok refl) c.in_ok-write_char.ensures.writes more);
+    }
