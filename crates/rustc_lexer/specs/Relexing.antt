@@ -34,7 +34,7 @@ pub record IsMadeOf (first : List ℕ → Token) (before lengths : List ℕ) (ed
 
 -- a text after an edit: the lengths of the tokens that it had before, the edit, and how far it is
 -- lexed again
-pub record EditedText : Type 0 where
+pub record RelexModel : Type 0 where
   pub text : List ℕ
   pub lengths : List ℕ
   pub change : Change

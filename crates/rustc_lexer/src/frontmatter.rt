@@ -1,7 +1,6 @@
 //! Frontmatter: a block between two fences of dashes, which may come before the first token.
 ghost use Rattle.std.specs.Prelude.{◌≡◌, ℕ, ◌+◌, ◌-◌, ◌≤◌, ◌<◌, ◌==◌, ◌&&◌, true, false, length, nat_lt, slice_index, take, drop, codes, MatchOption, IfSome, None, ◌∷◌};
 ghost use Rattle.std.specs.Str.{chars, IsCharBoundary};
-ghost use Rattle.memchr.specs.Find.{IsFirstByte, is_byte};
 ghost use Rattle.rustc_lexer.specs.{Edition};
 ghost use Rattle.rustc_lexer.specs.Classes;
 ghost use Rattle.rustc_lexer.specs.Classes.{Fits, begins, is_among, next_is};
@@ -15,10 +14,9 @@ ghost use Rattle.rustc_lexer.specs.means.Taking as state;
 
 use crate::classes::{is_horizontal_whitespace, is_id_continue, is_id_start, is_whitespace};
 use crate::edition::{Edition, token_in};
-use crate::kernels::skip_apart;
+use crate::kernels::{find_byte, skip_apart};
 use crate::scan::{eat_while, eat_whitespace, next_is, split_first};
 use crate::token::{FrontmatterAllowed, Token, TokenKind};
-use memchr::memchr;
 
 /// The least number of dashes in a fence.
 const MIN_DASHES: usize = 3;
@@ -238,15 +236,4 @@ fn skip_front(first: u8, more: &[u8], rest: &[u8]) -> usize
         Some(third) => skip_apart(first, more[0], *third, rest),
         None => 0,
     }
-}
-
-/// Returns the first place of a byte. Mostly it is the next byte, and no search begins.
-#[inline]
-fn find_byte(byte: u8, rest: &[u8]) -> Option<usize>
-    ensures { IsFirstByte (is_byte byte) rest.now result }
-{
-    if rest.first() == Some(&byte) {
-        return Some(0);
-    }
-    memchr(byte, rest)
 }

@@ -10,20 +10,18 @@ ghost use Rattle.rustc_lexer.specs.Edits.{IsEdit, IsInside, IsRelexed, apply, pa
 ghost use Rattle.rustc_lexer.specs.Relexing.{known};
 ghost use Rattle.rustc_lexer.specs.Relexing.{IsChange, MayGoOn};
 ghost use Rattle.rustc_lexer.specs.means.Checkpoints.{AreBounds, IsMovable, IsReplaced, end_of};
-ghost use Rattle.rustc_lexer.specs.means.Relexing.{IsLexed, OfOld};
+ghost use Rattle.rustc_lexer.specs.means.Relexing.{IsLexed, ForEachOldText};
 ghost use Rattle.rustc_lexer.specs.means.Document as means;
 
 use crate::entry::stepper::Stepper;
 use crate::relex::checkpoints::Checkpoints;
 use crate::relex::document_edit::HeadEdit;
 use crate::relex::front::TokenStart;
-use crate::relex::relexing::{Edited, Relexing};
+use crate::relex::lex::BUFFER_LEN;
+use crate::relex::relexing::{EditedText, Relexing};
 use crate::relex::replace::replace;
 use crate::token::{Token, TokenKind};
 use std::alloc::{AllocError, Global};
-
-/// How many tokens are lexed at once, but for the first one.
-const BUFFER_LEN: usize = 128;
 
 /// One edit, which borrows its insertion.
 #[derive(Clone, Copy, Debug, PartialEq, Eq)]
@@ -85,7 +83,7 @@ pub(crate) struct Replacement {
 pub(crate) fn relex<S: Stepper>(
     alloc: Global,
     stepper: &mut S,
-    edited: &Edited<'_, Token>,
+    edited: &EditedText<'_, Token>,
     near: TokenStart,
 ) -> Result<Replacement, AllocError>
     requires is_text { IsText edited.now.text.now }
@@ -95,18 +93,18 @@ pub(crate) fn relex<S: Stepper>(
     ensures grammar { S.grammar stepper.new ≡ S.grammar stepper.old }
 
     // Which tokens replace old ones, and which old ones.
-    ensures lexed { IfOk result (λ r. OfOld (S.grammar stepper.old).first edited.now near
+    ensures lexed { IfOk result (λ r. ForEachOldText (S.grammar stepper.old).first edited.now near
         (λ before insert. IsLexed (S.grammar stepper.old).first before edited.now.change edited.now.text.now
         r.tokens.items r.at)) }
-    ensures bounds { IfOk result (λ r. OfOld (S.grammar stepper.old).first edited.now near
+    ensures bounds { IfOk result (λ r. ForEachOldText (S.grammar stepper.old).first edited.now near
         (λ before insert. AreBounds (tokens_by (S.grammar stepper.old).first edited.now.text.now) r.bounds)) }
-    ensures may_go_on { IfOk result (λ r. MayGoOn edited.now.text.now (length edited.now.old.now) r.at) }
+    ensures may_go_on { IfOk result (λ r. MayGoOn edited.now.text.now (length edited.now.old_tokens.now) r.at) }
 
     // How many steps were taken, also if it fails.
     ensures count { IfOk result
         (λ r. S.count stepper.new ≡ S.count stepper.old + length r.tokens.items) }
     ensures rose { S.count stepper.old ≤ S.count stepper.new }
-    ensures few { IfErr result (λ _. OfOld (S.grammar stepper.old).first edited.now near
+    ensures few { IfErr result (λ _. ForEachOldText (S.grammar stepper.old).first edited.now near
         (λ before insert. (r : Relexed)
         → IsRelexed (part_by (S.grammar stepper.old).first) before edited.now.change.start
         edited.now.change.old_stop insert r

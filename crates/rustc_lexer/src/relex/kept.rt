@@ -14,7 +14,7 @@ use crate::relex::checkpoints::Checkpoints;
 use crate::relex::document_edit::HeadEdit;
 use crate::relex::edit::relex;
 use crate::relex::lex::lex_all;
-use crate::relex::relexing::{Change, Edited, Relexed};
+use crate::relex::relexing::{Change, EditedText, Relexed};
 use crate::token::Token;
 use std::alloc::{AllocError, Global};
 use std::marker::PhantomData;
@@ -62,15 +62,15 @@ pub(crate) fn renew<S: Stepper, E: Extent>(
     let made = kept.text.as_str();
     let now = E::find_head(made);
     let head = HeadEdit::between(kept.head, now, edit.start);
-    let edited = Edited {
+    let edited = EditedText {
         text: &made[now.body..],
-        old: &kept.tokens.as_slice()[kept.head.count()..],
+        old_tokens: &kept.tokens.as_slice()[kept.head.count()..],
         change: head.body_change(edit),
     };
     let near = kept.checkpoints.nearest(edited.change.start);
     let lexed = relex(kept.alloc, &mut kept.stepper, &edited, near)?;
     let checkpoints = lexed.checkpoints(&kept.checkpoints, edited.text.len());
-    let counts = lexed.at.counts(edited.old.len());
+    let counts = lexed.at.counts(edited.old_tokens.len());
     lexed.put_into(kept.alloc, &mut kept.tokens, head)?;
     kept.head = now;
     kept.checkpoints = checkpoints;

@@ -5,10 +5,9 @@ use crate::erased::classes::{
     is_horizontal_whitespace, is_id_continue, is_id_start, is_whitespace,
 };
 use crate::erased::edition::{Edition, token_in};
-use crate::erased::kernels::skip_apart;
+use crate::erased::kernels::{find_byte, skip_apart};
 use crate::erased::scan::{eat_while, eat_whitespace, next_is, split_first};
 use crate::erased::token::{FrontmatterAllowed, Token, TokenKind};
-use memchr::memchr;
 
 /// The least number of dashes in a fence.
 const MIN_DASHES: usize = 3;
@@ -174,13 +173,4 @@ fn skip_front(first: u8, more: &[u8], rest: &[u8]) -> usize {
         Some(third) => skip_apart(first, more[0], *third, rest),
         None => 0,
     }
-}
-
-/// Returns the first place of a byte. Mostly it is the next byte, and no search begins.
-#[inline]
-fn find_byte(byte: u8, rest: &[u8]) -> Option<usize> {
-    if rest.first() == Some(&byte) {
-        return Some(0);
-    }
-    memchr(byte, rest)
 }

@@ -6,13 +6,11 @@ use crate::erased::entry::stepper::Stepper;
 use crate::erased::relex::checkpoints::Checkpoints;
 use crate::erased::relex::document_edit::HeadEdit;
 use crate::erased::relex::front::TokenStart;
-use crate::erased::relex::relexing::{Edited, Relexing};
+use crate::erased::relex::lex::BUFFER_LEN;
+use crate::erased::relex::relexing::{EditedText, Relexing};
 use crate::erased::relex::replace::replace;
 use crate::erased::token::{Token, TokenKind};
 use crate::support::{AllocError, Global};
-
-/// How many tokens are lexed at once, but for the first one.
-const BUFFER_LEN: usize = 128;
 
 /// One edit, which borrows its insertion.
 #[derive(Clone, Copy, Debug, PartialEq, Eq, Hash)]
@@ -62,7 +60,7 @@ pub(crate) struct Replacement {
 pub(crate) fn relex<S: Stepper>(
     alloc: Global,
     stepper: &mut S,
-    edited: &Edited<'_, Token>,
+    edited: &EditedText<'_, Token>,
     near: TokenStart,
 ) -> Result<Replacement, AllocError> {
     let mut tokens = Vec::new(alloc);

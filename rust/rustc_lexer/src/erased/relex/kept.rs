@@ -8,7 +8,7 @@ use crate::erased::relex::checkpoints::Checkpoints;
 use crate::erased::relex::document_edit::HeadEdit;
 use crate::erased::relex::edit::relex;
 use crate::erased::relex::lex::lex_all;
-use crate::erased::relex::relexing::{Change, Edited, Relexed};
+use crate::erased::relex::relexing::{Change, EditedText, Relexed};
 use crate::erased::token::Token;
 use crate::support::{AllocError, Global};
 use core::marker::PhantomData;
@@ -36,15 +36,15 @@ pub(crate) fn renew<S: Stepper, E: Extent>(
     let made = kept.text.as_str();
     let now = E::find_head(made);
     let head = HeadEdit::between(kept.head, now, edit.start);
-    let edited = Edited {
+    let edited = EditedText {
         text: &made[now.body..],
-        old: &kept.tokens.as_slice()[kept.head.count()..],
+        old_tokens: &kept.tokens.as_slice()[kept.head.count()..],
         change: head.body_change(edit),
     };
     let near = kept.checkpoints.nearest(edited.change.start);
     let lexed = relex(kept.alloc, &mut kept.stepper, &edited, near)?;
     let checkpoints = lexed.checkpoints(&kept.checkpoints, edited.text.len());
-    let counts = lexed.at.counts(edited.old.len());
+    let counts = lexed.at.counts(edited.old_tokens.len());
     lexed.put_into(kept.alloc, &mut kept.tokens, head)?;
     kept.head = now;
     kept.checkpoints = checkpoints;

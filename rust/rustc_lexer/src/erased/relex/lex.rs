@@ -8,8 +8,8 @@ use crate::erased::relex::front::TokenStart;
 use crate::erased::token::{Token, TokenKind};
 use crate::support::AllocError;
 
-/// How many tokens are lexed at once, and how many there are between two checkpoints.
-const BUFFER_LEN: usize = 128;
+/// The number of tokens that are lexed at once, and between two checkpoints.
+pub(crate) const BUFFER_LEN: usize = 128;
 
 /// Lexes all tokens of a text, and appends them to a list. Returns checkpoints among them.
 pub(crate) fn lex_all<S: Stepper>(
