@@ -17,6 +17,7 @@ use crate::edition::{Edition, token_in};
 use crate::kernels::{find_byte, skip_apart};
 use crate::scan::{eat_while, eat_whitespace, next_is, split_first};
 use crate::token::{FrontmatterAllowed, Token, TokenKind};
+use memchr::memchr;
 
 /// The least number of dashes in a fence.
 const MIN_DASHES: usize = 3;
@@ -43,8 +44,8 @@ pub(crate) fn token_at(text: &str, allowed: FrontmatterAllowed, edition: Edition
     }
 }
 
-/// Returns whether a frontmatter may be at the front of the text, as the token determines that is there otherwise: white
-/// space before three dashes, or the first of them.
+/// Returns whether a frontmatter may be at the front of the text, as the token determines that is there otherwise:
+/// white space before three dashes, or the first of them.
 #[inline(always)]
 fn may_open(text: &str, token: Token) -> bool
     requires { token.len ≤ length text.now }
@@ -195,8 +196,8 @@ fn line_end(rest: &[u8], offset: usize) -> usize
     }
 }
 
-/// Returns the first place of a byte and what follows it in the pattern. It searches for that byte. So it does not have
-/// to make a searcher, which would allocate on the heap.
+/// Returns the first place of a byte and what follows it in the pattern. It searches for that byte. So it does not
+/// have to make a searcher, which would allocate on the heap.
 fn find_pattern(rest: &[u8], first: u8, more: &[u8]) -> Option<usize>
     ensures offset { result ≡ spec.first (first ∷ more.now) rest.now }
     ensures inside { IfSome result (λ offset. offset + 1 + length more.now ≤ length rest.now) }

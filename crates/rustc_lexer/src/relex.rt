@@ -1,4 +1,4 @@
-//! Texts that are kept with their tokens, and edits of them.
+//! Incremental lexing: texts with their tokens, and edits of them.
 mod body_change;
 mod checkpoints;
 mod common;

@@ -12,8 +12,8 @@ use crate::status::{OK, Refusal, refuse, text_of, utf8_text_of};
 use crate::token::CToken;
 use rustc_lexer::{Change, Edition, Measured, Relex, Relexing, Steps, TokenStart};
 
-/// An applied edit, by its offsets in bytes. It replaced the bytes from `start` up to `old_stop` of the old text with those
-/// from `start` up to `new_stop` of the current text.
+/// An applied edit, by its offsets in bytes. It replaced the bytes from `start` up to `old_stop` of the old text with
+/// those from `start` up to `new_stop` of the current text.
 #[repr(C)]
 #[derive(Clone, Copy, Debug, PartialEq, Eq)]
 pub struct CEdit {
@@ -33,8 +33,8 @@ const STAGE_DONE: usize = 2;
 #[repr(C)]
 #[derive(Clone, Copy, Debug, PartialEq, Eq)]
 pub struct CRelexing {
-    /// The number of old tokens that stay at the front. At stage 0: the index of any token boundary of the old text, at which
-    /// the search for the front starts.
+    /// The number of old tokens that stay at the front. At stage 0: the index of any token boundary of the old text,
+    /// at which the search for the front starts.
     pub kept_front: usize,
     /// The offset at which the tokens at the front end, in bytes.
     pub front_offset: usize,
@@ -58,12 +58,12 @@ impl Measured for CToken {
     }
 }
 
-/// Lexes the part of the current text that an edit changed. Writes its tokens into the buffer, as many as there is room
-/// for, and their number into `count`. They come between the old tokens that stay at the front and those that stay at the
-/// back.
+/// Lexes the part of the current text that an edit changed. Writes its tokens into the buffer, as many as there is
+/// room for, and their number into `count`. They come between the old tokens that stay at the front and those that
+/// stay at the back.
 ///
-/// `old` has the tokens of the text before the edit, of which only the lengths are read. Any other tokens are safe, but
-/// then the result has no meaning.
+/// `old` has the tokens of the text before the edit, of which only the lengths are read. Any other tokens are safe,
+/// but then the result has no meaning.
 #[unsafe(no_mangle)]
 pub extern "C" fn rustc_lexer_relex(
     text: &[u8],
@@ -132,8 +132,8 @@ pub(crate) fn change_of(edit: &CEdit) -> Change
     }
 }
 
-/// Starts or resumes relexing, or returns `None` if the change cannot have resulted in the text, or no call can have left
-/// these numbers.
+/// Starts or resumes relexing, or returns `None` if the change cannot have resulted in the text, or no call can have
+/// left these numbers.
 fn relex_at<'a>(
     text: &'a str,
     old: &'a [CToken],

@@ -38,7 +38,7 @@ pub record IsFront (old : List ℕ) (tokens : List Token) (lengths text : List �
     pub lengths_are : HasLengths tokens lengths
     pub same : take start text ≡ take start old
 
--- what a change did to the text that it made
+-- the effect of a change on the text that it made
 abbrev pub damage_of : List ℕ → Change → Damage
 damage_of text change =
     record { past = change.new_stop; old_stop = change.old_stop; end = length text }
@@ -67,8 +67,8 @@ pub record IsLexed (first : List ℕ → Token) (old : List ℕ) (change : Chang
   pub lexed : at.lexed ≡ length tokens
   pub tokens_are : tokens ≡ take at.lexed (drop at.front.index (tokens_by first text))
 
--- `P` holds for each text that has the old tokens and of which the edit made this text, if `near` is
--- a boundary of those tokens
+-- `P` holds for each text that has the old tokens and from which the edit made this text, if `near`
+-- is a boundary of those tokens
 abbrev pub ForEachOldText : (List ℕ → Token) → EditedText Token → TokenStart → (List ℕ → List ℕ → Type 0) → Type 0
 ForEachOldText first edited near P =
     (before insert : List ℕ)

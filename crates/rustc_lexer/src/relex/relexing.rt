@@ -21,8 +21,8 @@ use std::marker::Model;
 /// The maximum offset of a token boundary. No text is longer, even if a `usize` has 32 bits.
 const MOST: usize = usize::MAX / 2;
 
-/// An applied edit, by its offsets in bytes. It replaced `start..old_stop` of the old text with `start..new_stop` of the
-/// current text.
+/// An applied edit, by its offsets in bytes. It replaced `start..old_stop` of the old text with `start..new_stop` of
+/// the current text.
 #[derive(Clone, Copy, Debug, PartialEq, Eq)]
 pub struct Change {
     /// Where the change starts, in both texts.
@@ -34,8 +34,9 @@ pub struct Change {
 }
 
 impl Change {
-    /// Returns whether the change can have resulted in this text: the inserted range is inside the text and on character
-    /// boundaries, the old offsets are in order, and `old_stop` is below 2^32. The old text itself is not checked.
+    /// Returns whether the change can have resulted in this text: the inserted range is inside the text and on
+    /// character boundaries, the old offsets are in order, and `old_stop` is below 2^32. The old text itself is not
+    /// checked.
     pub fn may_make(&self, text: &str) -> bool
         ensures { IsTrue result ↔ IsChange text.now self.now }
     {
@@ -102,14 +103,14 @@ impl Relexed {
         }
     }
 
-    /// Returns the counts of two consecutive edits, or lists of edits: `self` has the counts of the first, and `next` of
-    /// the second. There were `old_count` tokens before the first.
+    /// Returns the counts of two consecutive edits, or lists of edits: `self` has the counts of the first, and `next`
+    /// of the second. There were `old_count` tokens before the first.
     ///
-    /// At each end, the result keeps the minimum of the two. If one of them keeps [`all`](Relexed::all) tokens, the result
-    /// is the other one.
+    /// At each end, the result keeps the minimum of the two. If one of them keeps [`all`](Relexed::all) tokens, the
+    /// result is the other one.
     ///
-    /// To repaint, start with `all` of the tokens that were painted last; `old_count` is their number. Before the first
-    /// paint, start with [`none`](Relexed::none) of the text's tokens, and `old_count` is 0.
+    /// To repaint, start with `all` of the tokens that were painted last; `old_count` is their number. Before the
+    /// first paint, start with [`none`](Relexed::none) of the text's tokens, and `old_count` is 0.
     ///
     /// ```
     /// use rustc_lexer::Relexed;
@@ -179,8 +180,8 @@ pub struct Relexing {
 }
 
 impl Relexing {
-    /// Finds the kept front, and returns a state in which nothing has been lexed yet. The search for the front starts at
-    /// `near`, which can be any boundary of the old tokens.
+    /// Finds the kept front, and returns a state in which nothing has been lexed yet. The search for the front starts
+    /// at `near`, which can be any boundary of the old tokens.
     pub(crate) fn begin<T: Measured>(edited: &EditedText<'_, T>, near: TokenStart) -> Relexing
         requires fits { Fits edited.now.text.now }
         requires change { IsChange edited.now.text.now edited.now.change }
@@ -202,8 +203,8 @@ impl Relexing {
         }
     }
 
-    /// Returns whether relexing this text with this many old tokens can continue from this state. It can from each state
-    /// that `begin` and `next` leave.
+    /// Returns whether relexing this text with this many old tokens can continue from this state. It can from each
+    /// state that `begin` and `next` leave.
     fn may_go_on(&self, text: &str, old_count: usize) -> bool
         ensures { IsTrue result ↔ MayGoOn text.now old_count self.now }
     {
@@ -245,13 +246,15 @@ impl Relexing {
             ((self.new ≡ self.old) × (S.count stepper.new ≡ S.count stepper.old)
             × (is_over edited.now.text.now self.old ≡ true))
             (λ token. (token ≡ (S.grammar stepper.old).first (drop self.old.at edited.now.text.now))
-            × TakesSteps (S.grammar stepper.old).first edited.now.text.now edited.now.change.new_stop self.old 1 self.new
+            × TakesSteps (S.grammar stepper.old).first edited.now.text.now edited.now.change.new_stop
+            self.old 1 self.new
             × (S.count stepper.new ≡ S.count stepper.old + 1)
             × (is_over edited.now.text.now self.old ≡ false)) }
 
         // If the old tokens are those of an old text, it is the next token of the present one.
         ensures under_way { (before insert : List ℕ)
-            → IsMadeOf (S.grammar stepper.old).first before (map T.bytes edited.now.old_tokens.now) edited.now.change insert edited.now.text.now
+            → IsMadeOf (S.grammar stepper.old).first before (map T.bytes edited.now.old_tokens.now)
+            edited.now.change insert edited.now.text.now
             → IsUnderWay (S.grammar stepper.old).first before edited.now.change edited.now.text.now self.old
             → IsUnderWay (S.grammar stepper.old).first before edited.now.change edited.now.text.now self.new
             × MatchOption result (self.new.met ≡ true) (λ token.
@@ -304,8 +307,8 @@ impl Relexing {
         ensures over { result < length buffer.old → is_over edited.now.text.now self.new ≡ true }
 
         // If the old tokens are those of an old text, these are the next tokens of the present one.
-        ensures under_way { GoesOn (S.grammar stepper.old).first (map T.bytes edited.now.old_tokens.now) edited.now.text.now edited.now.change
-            self.old self.new }
+        ensures under_way { GoesOn (S.grammar stepper.old).first
+            (map T.bytes edited.now.old_tokens.now) edited.now.text.now edited.now.change self.old self.new }
     {
         let mut count = 0;
         'places: while count < buffer.len() {
@@ -318,8 +321,8 @@ impl Relexing {
         count
     }
 
-    /// Lexes many tokens at once and writes them into the buffer, until it is full or up to the next offset at which they
-    /// can meet the old ones. Returns their number.
+    /// Lexes many tokens at once and writes them into the buffer, until it is full or up to the next offset at which
+    /// they can meet the old ones. Returns their number.
     pub(crate) fn block<S: Stepper, T: Measured, R: FromToken>(
         &mut self,
         stepper: &mut S,
@@ -343,8 +346,8 @@ impl Relexing {
         ensures some { 0 < result }
         ensures ahead { self.old.at < self.new.at }
         ensures buffer { result ≤ length buffer.old }
-        ensures under_way { GoesOn (S.grammar stepper.old).first (map T.bytes edited.now.old_tokens.now) edited.now.text.now edited.now.change
-            self.old self.new }
+        ensures under_way { GoesOn (S.grammar stepper.old).first
+            (map T.bytes edited.now.old_tokens.now) edited.now.text.now edited.now.change self.old self.new }
     {
         let end = self.least_meeting(edited);
         let (count, bytes) = stepper.fill(&edited.text[self.at..], end - self.at, buffer);
@@ -415,8 +418,9 @@ impl Relexing {
 
 /// Lexes the part of an edited text that the edit changed, from old tokens in a list of your own.
 ///
-/// It reads only the lengths of the old tokens. If these are the tokens of the old text, and the change resulted in the
-/// current text, then the tokens and the counts are exact. Any other tokens are safe, but then the result has no meaning.
+/// It reads only the lengths of the old tokens. If these are the tokens of the old text, and the change resulted in
+/// the current text, then the tokens and the counts are exact. Any other tokens are safe, but then the result has no
+/// meaning.
 ///
 /// In plain Rust:
 ///
@@ -497,8 +501,8 @@ impl<'a, T: Measured> Relex<'a, T> {
         Some(Relex { edited, at })
     }
 
-    /// Continues from a state that [`state`](Relex::state) returned, with the same text, old tokens and change. Returns
-    /// `None` if no call can have left such a state.
+    /// Continues from a state that [`state`](Relex::state) returned, with the same text, old tokens and change.
+    /// Returns `None` if no call can have left such a state.
     pub fn resume(
         text: &'a str,
         old_tokens: &'a [T],

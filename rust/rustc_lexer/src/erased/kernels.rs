@@ -188,8 +188,8 @@ fn places(byte: u8, bytes: &[u8]) -> u64 {
         .to_bitmask()
 }
 
-/// Returns a number of bytes at the front among which the three do not stand together. It looks at 16 places at a time,
-/// and stops at such bytes, or where fewer are left.
+/// Returns a number of bytes at the front among which the three do not stand together. It looks at 16 places at a
+/// time, and stops at such bytes, or where fewer are left.
 pub(crate) fn skip_apart(one: u8, two: u8, three: u8, bytes: &[u8]) -> usize {
     let mut end = 0;
     while bytes.len() - end > 17 {

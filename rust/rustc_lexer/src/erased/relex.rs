@@ -1,5 +1,5 @@
 // Made by tools/erase from crates/rustc_lexer/src/relex.rt: edit that file.
-//! Texts that are kept with their tokens, and edits of them.
+//! Incremental lexing: texts with their tokens, and edits of them.
 mod body_change;
 mod checkpoints;
 mod common;

@@ -1,5 +1,5 @@
 // Made by tools/erase from crates/rustc_lexer/src/relex/kept.rt: edit that file.
-//! A text with its tokens, and what an edit of it needs.
+//! A text with its tokens, and the state that its edits need.
 use crate::support::{String, Vec};
 
 use crate::erased::entry::stepper::Stepper;
@@ -13,7 +13,7 @@ use crate::erased::token::Token;
 use crate::support::{AllocError, Global};
 use core::marker::PhantomData;
 
-/// A text with its tokens, and what an edit needs of them.
+/// A text with its tokens, and the state that its edits need.
 #[derive(Clone)]
 pub(crate) struct Kept<S: Stepper, E: Extent> {
     pub alloc: Global,
@@ -21,14 +21,14 @@ pub(crate) struct Kept<S: Stepper, E: Extent> {
     pub text: String,
     pub tokens: Vec<Token>,
     pub stepper: S,
-    /// The head of a whole document. A part of one has none.
+    /// The head of a whole document. A fragment has none.
     pub head: Head,
-    /// Boundaries of the body's tokens, at which the search of an edit may begin.
+    /// Boundaries of the body's tokens, at which the search for the kept front can start.
     pub checkpoints: Checkpoints,
 }
 
-/// Lexes again what an edit has changed of the text, and puts it among what is kept, which is still that of the text before
-/// the edit. If an allocation fails, it stays so.
+/// Relexes the part of the text that an edit changed, and updates tokens, head and checkpoints, which are still those
+/// of the text before the edit. If an allocation fails, they stay unchanged.
 pub(crate) fn renew<S: Stepper, E: Extent>(
     kept: &mut Kept<S, E>,
     edit: Change,
@@ -51,7 +51,8 @@ pub(crate) fn renew<S: Stepper, E: Extent>(
     Ok(head.document_counts(counts))
 }
 
-/// Lexes the tokens of a text: those of its head, which is known, and those of its body with the stepper.
+/// Returns the tokens of a text: the tokens of its head, which is known, and those of its body, lexed with the
+/// stepper.
 pub(crate) fn lex_body<S: Stepper>(
     alloc: Global,
     head: Head,

@@ -9,8 +9,8 @@ use crate::erased::token::Token;
 /// The maximum offset of a token boundary. No text is longer, even if a `usize` has 32 bits.
 const MOST: usize = usize::MAX / 2;
 
-/// An applied edit, by its offsets in bytes. It replaced `start..old_stop` of the old text with `start..new_stop` of the
-/// current text.
+/// An applied edit, by its offsets in bytes. It replaced `start..old_stop` of the old text with `start..new_stop` of
+/// the current text.
 #[derive(Clone, Copy, Debug, PartialEq, Eq, Hash)]
 pub struct Change {
     /// Where the change starts, in both texts.
@@ -22,8 +22,9 @@ pub struct Change {
 }
 
 impl Change {
-    /// Returns whether the change can have resulted in this text: the inserted range is inside the text and on character
-    /// boundaries, the old offsets are in order, and `old_stop` is below 2^32. The old text itself is not checked.
+    /// Returns whether the change can have resulted in this text: the inserted range is inside the text and on
+    /// character boundaries, the old offsets are in order, and `old_stop` is below 2^32. The old text itself is not
+    /// checked.
     #[must_use]
     pub fn may_make(&self, text: &str) -> bool {
         self.start <= self.old_stop
@@ -85,14 +86,14 @@ impl Relexed {
         }
     }
 
-    /// Returns the counts of two consecutive edits, or lists of edits: `self` has the counts of the first, and `next` of
-    /// the second. There were `old_count` tokens before the first.
+    /// Returns the counts of two consecutive edits, or lists of edits: `self` has the counts of the first, and `next`
+    /// of the second. There were `old_count` tokens before the first.
     ///
-    /// At each end, the result keeps the minimum of the two. If one of them keeps [`all`](Relexed::all) tokens, the result
-    /// is the other one.
+    /// At each end, the result keeps the minimum of the two. If one of them keeps [`all`](Relexed::all) tokens, the
+    /// result is the other one.
     ///
-    /// To repaint, start with `all` of the tokens that were painted last; `old_count` is their number. Before the first
-    /// paint, start with [`none`](Relexed::none) of the text's tokens, and `old_count` is 0.
+    /// To repaint, start with `all` of the tokens that were painted last; `old_count` is their number. Before the
+    /// first paint, start with [`none`](Relexed::none) of the text's tokens, and `old_count` is 0.
     ///
     /// ```
     /// use rustc_lexer::Relexed;
@@ -150,8 +151,8 @@ pub struct Relexing {
 }
 
 impl Relexing {
-    /// Finds the kept front, and returns a state in which nothing has been lexed yet. The search for the front starts at
-    /// `near`, which can be any boundary of the old tokens.
+    /// Finds the kept front, and returns a state in which nothing has been lexed yet. The search for the front starts
+    /// at `near`, which can be any boundary of the old tokens.
     pub(crate) fn begin<T: Measured>(edited: &EditedText<'_, T>, near: TokenStart) -> Relexing {
         let front = kept_front(edited.text, edited.old_tokens, edited.change.start, near);
         let to = follow(edited.old_tokens, front, front.offset, edited.damage());
@@ -164,8 +165,8 @@ impl Relexing {
         }
     }
 
-    /// Returns whether relexing this text with this many old tokens can continue from this state. It can from each state
-    /// that `begin` and `next` leave.
+    /// Returns whether relexing this text with this many old tokens can continue from this state. It can from each
+    /// state that `begin` and `next` leave.
     fn may_go_on(&self, text: &str, old_count: usize) -> bool {
         text.is_char_boundary(self.at)
             && self.back.index <= old_count
@@ -220,8 +221,8 @@ impl Relexing {
         count
     }
 
-    /// Lexes many tokens at once and writes them into the buffer, until it is full or up to the next offset at which they
-    /// can meet the old ones. Returns their number.
+    /// Lexes many tokens at once and writes them into the buffer, until it is full or up to the next offset at which
+    /// they can meet the old ones. Returns their number.
     pub(crate) fn block<S: Stepper, T: Measured, R: FromToken>(
         &mut self,
         stepper: &mut S,
@@ -271,8 +272,9 @@ impl Relexing {
 
 /// Lexes the part of an edited text that the edit changed, from old tokens in a list of your own.
 ///
-/// It reads only the lengths of the old tokens. If these are the tokens of the old text, and the change resulted in the
-/// current text, then the tokens and the counts are exact. Any other tokens are safe, but then the result has no meaning.
+/// It reads only the lengths of the old tokens. If these are the tokens of the old text, and the change resulted in
+/// the current text, then the tokens and the counts are exact. Any other tokens are safe, but then the result has no
+/// meaning.
 ///
 /// In plain Rust:
 ///
@@ -326,8 +328,8 @@ impl<'a, T: Measured> Relex<'a, T> {
         Some(Relex { edited, at })
     }
 
-    /// Continues from a state that [`state`](Relex::state) returned, with the same text, old tokens and change. Returns
-    /// `None` if no call can have left such a state.
+    /// Continues from a state that [`state`](Relex::state) returned, with the same text, old tokens and change.
+    /// Returns `None` if no call can have left such a state.
     pub fn resume(
         text: &'a str,
         old_tokens: &'a [T],
