@@ -422,16 +422,18 @@ fn relexing_that_cannot_start() {
     let start = Relex::begin(text, &old, change, TokenStart::default());
     let start = start.unwrap().state();
     assert!(resumes(start));
-    let back = |index, offset| TokenStart { index, offset };
-    for refused in [
-        Relexing { at: 2, ..start },
-        Relexing { at: 4, ..start },
-        Relexing { lexed: start.at + 1, ..start },
-        Relexing { back: back(3, 0), ..start },
-        Relexing { front: back(1, 1), back: back(0, 0), ..start },
-        Relexing { back: back(0, usize::MAX), ..start },
-    ] {
-        assert!(!resumes(refused), "{refused:?}");
+    let spoil: [fn(&mut Relexing); 6] = [
+        |state| state.at = 2,
+        |state| state.at = 4,
+        |state| state.lexed = state.at + 1,
+        |state| state.back.index = 3,
+        |state| (state.front.index, state.back.index) = (1, 0),
+        |state| state.back.offset = usize::MAX,
+    ];
+    for spoil in spoil {
+        let mut state = start;
+        spoil(&mut state);
+        assert!(!resumes(state), "{state:?}");
     }
 }
 
@@ -481,7 +483,10 @@ fn lists_of_the_caller() {
             filled.extend_from_slice(&buffer[..count]);
             assert!(count == buffer.len() || again.is_over());
         }
-        assert_eq!((filled, again.state()), (made[kept..].to_vec(), relex.state()));
+        assert_eq!(
+            (filled, again.state()),
+            (made[kept..].to_vec(), relex.state())
+        );
         made.extend(&old_body[old_body.len() - wanted.kept_back..]);
         assert_eq!(made, held.tokens(), "{range:?} of {old:?} is {insert:?}");
         if of_body.keeps_head {
