@@ -53,7 +53,7 @@ pub record IsEdited {S E : Type 0} (layout : List ℕ → Layout) (old : Held S)
   pub same_tokens : OnErr result (new.tokens ≡ old.tokens)
 
 -- the step count of the stepper, `before` and `after` an edit of the text
-pub record IsCounted {E : Type 0} (layout : List ℕ → Layout) (text : List ℕ) (start stop : ℕ)
+pub record HasStepCount {E : Type 0} (layout : List ℕ → Layout) (text : List ℕ) (start stop : ℕ)
     (insert : List ℕ) (result : Result Relexed E) (before after : ℕ) : Type 0 where
   -- the stepper takes one step for each lexed token, except for the tokens of a new head
   pub count : IfOk result
@@ -78,7 +78,7 @@ pub record AreMade {S T : Type 0} (layout : List ℕ → Layout) (old : Held S) 
   pub stop_text : IfErr result (λ e. new.text ≡ apply_list old.text (take (stop_at e) edits))
 
 -- the step count of the stepper, `before` and `after` a list of edits of the text
-pub record AreCounted {T : Type 0} (layout : List ℕ → Layout) (text : List ℕ) (edits : List Edit)
+pub record HaveStepCounts {T : Type 0} (layout : List ℕ → Layout) (text : List ℕ) (edits : List Edit)
     (result : Result T EditStop) (before after : ℕ) : Type 0 where
   pub count : OnOk result (AreStepped layout text edits before after)
   pub stop_count : IfErr result (λ e. IsStopStepped e layout text edits before after)

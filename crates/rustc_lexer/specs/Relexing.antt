@@ -1,5 +1,5 @@
--- Relexing for a caller who keeps the list of tokens and passes only their lengths, and the head of
--- a whole document.
+-- Relexing for a caller who stores the tokens and passes only their lengths, and the head of a whole
+-- document.
 use Rattle.std.specs.Prelude.{ℕ, zero, suc, ◌≡◌, ◌↔◌, ◌+◌, ◌<◌, ◌≤◌, ◌^◌, ◌||◌, max, count_by, Bool, true, false, IsTrue, nat_eq, List, [], ◌∷◌, ◌++◌, length, map, take, drop, IsCharBoundary, IsUtf8, Option, Some, None}
 use Rattle.rustc_lexer.specs.declared.{head.Head.Head}
 use Rattle.rustc_lexer.specs.declared.relex.{relexing.Change.Change, relexing.Relexed.Relexed, relexing.Relexing.Relexing}
@@ -11,14 +11,14 @@ use Rattle.rustc_lexer.specs.Edits.{IsEdit, IsInside, IsMeeting, IsRelexed, Keep
 use Rattle.rustc_lexer.specs.Locality.{has_two}
 use Rattle.rustc_lexer.specs.Partition.{bound, tokens_by}
 
--- the change may have made the text: the inserted range is inside the text, between characters, and
--- the old offsets are in order and below 2 ^ 32
+-- the change can have resulted in the text: the inserted range is inside the text, on character
+-- boundaries, and the old offsets are in order and below 2 ^ 32
 pub record IsChange (text : List ℕ) (change : Change) : Type 0 where
   pub inserted : IsInside text change.start change.new_stop
   pub start_le_old : change.start ≤ change.old_stop
   pub old_short : change.old_stop < 2 ^ 32
 
--- the edit is valid for the text `before`, and made `text` of it by inserting `insert`
+-- the edit is valid for the text `before`, and resulted in `text` by inserting `insert`
 pub record IsEditOf (before : List ℕ) (edit : Change) (insert text : List ℕ) : Type 0 where
   pub is_text : IsText before
   pub inserted : IsUtf8 insert
@@ -32,15 +32,15 @@ pub record IsMadeOf (first : List ℕ → Token) (before lengths : List ℕ) (ed
   pub edit_of : IsEditOf before edit insert text
   pub lengths_are : lengths ≡ map (λ (t : Token). t.len) (tokens_by first before)
 
--- a text after an edit: the lengths of the tokens that it had before, the edit, and how far it is
--- lexed again
-pub record EditedText : Type 0 where
+-- the model of `Relex`: the text after an edit, the lengths of the tokens before the edit, the edit,
+-- and the progress
+pub record RelexModel : Type 0 where
   pub text : List ℕ
   pub lengths : List ℕ
   pub change : Change
   pub at : Relexing
 
--- how many of the new tokens are known: those that are kept at the front, and those that were lexed
+-- the number of new tokens that are known: the kept front, and those that were lexed
 abbrev pub known : Relexing → ℕ
 known at = at.front.index + at.lexed
 
@@ -56,9 +56,9 @@ pub record MayGoOn (text : List ℕ) (count : ℕ) (at : Relexing) : Type 0 wher
 abbrev pub is_over : List ℕ → Relexing → Bool
 is_over text at = at.met || nat_eq at.at (length text)
 
--- what `count` calls of `next` do, if relexing is not over before any of them. They lex the first
--- `count` tokens of the text that is left. As long as they stay before `past`, where the edit ends,
--- they do not advance in the old tokens, and do not meet them
+-- the effect of `count` calls of `next`, if relexing is not over before any of them. They lex the
+-- first `count` tokens of the text that is left. Before `past`, where the edit ends, they do not
+-- advance in the old tokens, and do not meet them
 pub record TakesSteps (first : List ℕ → Token) (text : List ℕ) (past : ℕ) (at : Relexing)
     (count : ℕ) (at' : Relexing) : Type 0 where
   pub inside : count ≤ length (tokens_by first (drop at.at text))
@@ -69,10 +69,13 @@ pub record TakesSteps (first : List ℕ → Token) (text : List ℕ) (past : ℕ
   pub same_back : at'.at < past → at'.back ≡ at.back
   pub not_met : 0 < count → at'.at < past → at'.met ≡ false
 
--- relexing after a change of the old text came from the end of the kept front to a boundary of the
--- new tokens, and met no old one on the way. `met` says whether it meets one here. `back` is the
--- first boundary of the old tokens that is not before this one, moved back by the change, or the
--- last boundary; up to the end of the change it is that of the front
+-- the invariant of relexing, for the tokens of the old text. Callers need not read it: `begin`
+-- establishes it, `next` and `fill` preserve it, and `counts` is exact if it holds.
+--
+-- Relexing went from the end of the kept front to a boundary of the new tokens, and met no old one on
+-- the way. `met` says whether it meets one here. `back` is the first boundary of the old tokens that
+-- is not before this one, moved back by the change, or the last boundary. Up to the end of the change
+-- it is the end of the front
 pub record IsUnderWay (first : List ℕ → Token) (old : List ℕ) (change : Change) (text : List ℕ)
     (at : Relexing) : Type 0 where
   pub front : at.front.index
@@ -93,9 +96,8 @@ pub record IsUnderWay (first : List ℕ → Token) (old : List ℕ) (change : Ch
   pub reached : change.new_stop ≤ at.at → at.back.index < length (tokens_by first old)
       → at.at + change.old_stop ≤ at.back.offset + change.new_stop
 
--- for each old text whose tokens have these lengths, and of which the change made this text:
--- relexing that was under way before is still so after, and the text that was left had exactly the
--- tokens that were still to come
+-- for each old text whose tokens have these lengths, and from which the change made this text: the
+-- invariant is preserved, and the text that was left had exactly the tokens that were still to come
 abbrev pub GoesOn : (List ℕ → Token) → List ℕ → List ℕ → Change → Relexing → Relexing → Type 0
 GoesOn first lengths text change at at' =
     (before insert : List ℕ) → IsMadeOf first before lengths change insert text
@@ -112,7 +114,7 @@ IsWhole old new at =
 
 -- ---- the head of a document, and how an edit of the document changes its body
 
--- the tokens of a frontmatter after `space` bytes of white space; none if there is no frontmatter
+-- the tokens of a frontmatter after `space` bytes of whitespace; none if there is no frontmatter
 abbrev pub front_tokens : ℕ → Option Token → List Token
 front_tokens space None = []
 front_tokens zero (Some front) = front ∷ []
@@ -129,9 +131,9 @@ pub record IsHeadOf (text : List ℕ) (head : Head) : Type 0 where
   pub bare : head.frontmatter ≡ None → head.space_len ≡ 0
   pub end_is : head.body ≡ body_start text
 
--- what an edit changes in the body, which began at `from` and now begins at `to`. If the edit keeps
--- the head, that is the edit itself. Otherwise it is all from the start of the body up to the first
--- place past the edit at which both bodies have begun
+-- the change of the body, which started at `from` and now starts at `to`. If the edit keeps the head,
+-- this is the edit itself. Otherwise it extends from the start of the body to the first position
+-- after the edit at which both bodies have started
 abbrev pub IsInBody : Bool → ℕ → ℕ → Change → Change → Type 0
 IsInBody true from to edit change =
     (edit.start ≡ from + change.start) × (edit.old_stop ≡ from + change.old_stop)
@@ -141,9 +143,9 @@ IsInBody false from to edit change =
     × (edit.new_stop + more ≡ to + change.new_stop)
     × ((n : ℕ) → from ≤ edit.old_stop + n → to ≤ edit.new_stop + n → more ≤ n)
 
--- the change is what the edit means for the body: it made the present body of the old one. `kept`
--- says whether the edit keeps the head. From the counts of the body follow those of the document:
--- the tokens of a head that stays are kept in front, and those of a new one are lexed
+-- the change of the body, which made the current body from the old one. `kept` says whether the edit
+-- keeps the head. The counts of the document follow from those of the body: the tokens of a head that
+-- stays are kept at the front, and those of a new one are lexed
 pub record IsBodyChange (first : List ℕ → Token) (before : List ℕ) (edit : Change)
     (insert text : List ℕ) (kept : Bool) (change : Change) : Type 0 where
   pub keeps : IsTrue kept ↔ KeepsHead (whole_by first before) (whole_by first text) edit.start

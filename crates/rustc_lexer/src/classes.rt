@@ -83,3 +83,11 @@ pub fn fits(text: &str) -> bool
 {
     text.len() <= u32::MAX as usize
 }
+
+/// Returns whether a word directly before the character is a prefix.
+#[inline(always)]
+pub(crate) fn ends_prefix(c: char) -> bool
+    ensures { result ≡ Classes.ends_prefix c }
+{
+    matches!(c, '#' | '"' | '\'')
+}

@@ -1,7 +1,6 @@
 //! Frontmatter: a block between two fences of dashes, which may come before the first token.
 ghost use Rattle.std.specs.Prelude.{◌≡◌, ℕ, ◌+◌, ◌-◌, ◌≤◌, ◌<◌, ◌==◌, ◌&&◌, true, false, length, nat_lt, slice_index, take, drop, codes, MatchOption, IfSome, None, ◌∷◌};
 ghost use Rattle.std.specs.Str.{chars, IsCharBoundary};
-ghost use Rattle.memchr.specs.Find.{IsFirstByte, is_byte};
 ghost use Rattle.rustc_lexer.specs.{Edition};
 ghost use Rattle.rustc_lexer.specs.Classes;
 ghost use Rattle.rustc_lexer.specs.Classes.{Fits, begins, is_among, next_is};
@@ -15,7 +14,7 @@ ghost use Rattle.rustc_lexer.specs.means.Taking as state;
 
 use crate::classes::{is_horizontal_whitespace, is_id_continue, is_id_start, is_whitespace};
 use crate::edition::{Edition, token_in};
-use crate::kernels::skip_apart;
+use crate::kernels::{find_byte, skip_apart};
 use crate::scan::{eat_while, eat_whitespace, next_is, split_first};
 use crate::token::{FrontmatterAllowed, Token, TokenKind};
 use memchr::memchr;
@@ -45,8 +44,8 @@ pub(crate) fn token_at(text: &str, allowed: FrontmatterAllowed, edition: Edition
     }
 }
 
-/// Returns whether a frontmatter may be at the front of the text, as the token determines that is there otherwise: white
-/// space before three dashes, or the first of them.
+/// Returns whether a frontmatter may be at the front of the text, as the token determines that is there otherwise:
+/// white space before three dashes, or the first of them.
 #[inline(always)]
 fn may_open(text: &str, token: Token) -> bool
     requires { token.len ≤ length text.now }
@@ -197,8 +196,8 @@ fn line_end(rest: &[u8], offset: usize) -> usize
     }
 }
 
-/// Returns the first place of a byte and what follows it in the pattern. It searches for that byte. So it does not have
-/// to make a searcher, which would allocate on the heap.
+/// Returns the first place of a byte and what follows it in the pattern. It searches for that byte. So it does not
+/// have to make a searcher, which would allocate on the heap.
 fn find_pattern(rest: &[u8], first: u8, more: &[u8]) -> Option<usize>
     ensures offset { result ≡ spec.first (first ∷ more.now) rest.now }
     ensures inside { IfSome result (λ offset. offset + 1 + length more.now ≤ length rest.now) }
@@ -238,15 +237,4 @@ fn skip_front(first: u8, more: &[u8], rest: &[u8]) -> usize
         Some(third) => skip_apart(first, more[0], *third, rest),
         None => 0,
     }
-}
-
-/// Returns the first place of a byte. Mostly it is the next byte, and no search begins.
-#[inline]
-fn find_byte(byte: u8, rest: &[u8]) -> Option<usize>
-    ensures { IsFirstByte (is_byte byte) rest.now result }
-{
-    if rest.first() == Some(&byte) {
-        return Some(0);
-    }
-    memchr(byte, rest)
 }

@@ -15,7 +15,7 @@ use std::alloc::AllocError;
 /// The head of a document, which is the part before its body: a shebang line and a frontmatter.
 ///
 /// It is for a program that keeps the tokens of a whole document in lists of its own. [`Head::change_to`] returns what
-/// an edit of the document changes in its body, and [`Relexing`](crate::Relexing) lexes that again.
+/// an edit of the document changes in its body, and [`Relex`](crate::Relex) re-lexes that.
 ///
 /// ```
 /// use rustc_lexer::incremental::{Change, Head};

@@ -6,9 +6,10 @@ ghost use Rattle.std.specs.Simd.Lanes.{mask_l};
 ghost use Rattle.std.proofs.Common.{arith};
 ghost use Rattle.rustc_lexer.specs.means.ByteRuns.{is_continue_byte, is_space_byte, outside};
 ghost use Rattle.rustc_lexer.specs.means.Ends.{bit, IsEnds};
-ghost use Rattle.rustc_lexer.specs.means.Quick.{is_space_lead, turns_word};
+ghost use Rattle.rustc_lexer.specs.means.Quick;
 ghost use Rattle.rustc_lexer.specs.means.Scan;
 
+use crate::classes::ends_prefix;
 use memchr::{memchr, memchr2};
 use std::simd::prelude::*;
 
@@ -254,8 +255,8 @@ fn places(byte: u8, bytes: &[u8]) -> u64
         .to_bitmask()
 }
 
-/// Returns a number of bytes at the front among which the three do not stand together. It looks at 16 places at a time,
-/// and stops at such bytes, or where fewer are left.
+/// Returns a number of bytes at the front among which the three do not stand together. It looks at 16 places at a
+/// time, and stops at such bytes, or where fewer are left.
 pub(crate) fn skip_apart(one: u8, two: u8, three: u8, bytes: &[u8]) -> usize
     ensures apart { (k : ℕ) → k < result
         → ((is_byte one (slice_index bytes.now k) && is_byte two (slice_index bytes.now (suc k)))
@@ -280,19 +281,27 @@ pub(crate) fn skip_apart(one: u8, two: u8, three: u8, bytes: &[u8]) -> usize
 /// Returns whether a word that ends at `end` is an identifier, as the byte after it determines.
 #[inline(always)]
 pub(crate) fn ends_word(bytes: &[u8], end: usize) -> bool
-    ensures { result ≡ not (Scan.next_is turns_word (drop end bytes.now)) }
+    ensures { result ≡ not (Scan.next_is Quick.turns_word (drop end bytes.now)) }
 {
     if end < bytes.len() {
-        bytes[end] < 128 && !matches!(bytes[end], b'#' | b'"' | b'\'')
+        !turns_word(bytes[end])
     } else {
         true
     }
 }
 
+/// Returns whether a word before the byte can be something other than an identifier.
+#[inline(always)]
+pub(crate) fn turns_word(byte: u8) -> bool
+    ensures { result ≡ Quick.turns_word byte }
+{
+    byte >= 128 || ends_prefix(byte as char)
+}
+
 /// Returns whether there is no white space outside ASCII at `end`, as the first byte there determines.
 #[inline(always)]
 pub(crate) fn ends_space(bytes: &[u8], end: usize) -> bool
-    ensures { result ≡ not (Scan.next_is is_space_lead (drop end bytes.now)) }
+    ensures { result ≡ not (Scan.next_is Quick.is_space_lead (drop end bytes.now)) }
 {
     if end < bytes.len() {
         bytes[end] != 0xC2 && bytes[end] != 0xE2

@@ -33,7 +33,7 @@ pub use head::Head;
 pub use lexemes::ident::is_ident;
 pub use raw_check::{starts_raw, validate_raw_str};
 pub use relex::{
-    BodyChange, Change, Edit, EditStop, Edited, JoinError, JoinedText, Lexed, LexedDocument,
+    BodyChange, Change, Edit, EditStop, JoinError, JoinedText, Lexed, LexedDocument,
     LexedText, Measured, Piece, Pieces, Relex, Relexed, Relexing, Stopped, TokenStart, is_seam,
     settled, settled_in, token_around,
 };

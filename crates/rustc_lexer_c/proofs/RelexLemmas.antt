@@ -1,16 +1,31 @@
 -- How far a text is relexed, as numbers and back.
-use Rattle.std.proofs.Common.{◌≡◌, ◌≢◌, ℕ, ◌+◌, ◌-◌, ◌<◌, ◌≤◌, true, List, ◌++◌, length, map, take, drop, sym, ap, ◌∙◌, subst, arith, take-add}
+use Rattle.std.specs.Prelude.{IfSome}
+use Rattle.std.proofs.Common.{◌≡◌, ◌≢◌, ℕ, ◌+◌, ◌-◌, ◌<◌, ◌≤◌, true, List, ◌++◌, length, map, take, drop, refl, sym, ap, ◌∙◌, subst, arith, take-add, Option, Some, None}
 use Rattle.std.proofs.lemmas.{Grind.{common_steps}, List.{length-map, length-take-le, drop_at, take-map, drop-map}}
 use Rattle.rustc_lexer.specs.declared.{edition.Edition.{Edition}, relex.relexing.Relexed.{Relexed}}
 use Rattle.rustc_lexer.specs.declared.{relex.relexing.Relexing.{Relexing}, token.Token.{Token}}
 use Rattle.rustc_lexer.specs.{Tokens.{tokens_by, tokens_of}, Answers.{first_in}, LanguageText.{part}}
 use Rattle.rustc_lexer.specs.{Edits.{IsRelexed, part_by}, Relexing.{known}}
-use Rattle.rustc_lexer.specs.Relexing.{IsMadeOf, IsUnderWay, IsWhole, MayGoOn, TakesSteps, is_over}
+use Rattle.rustc_lexer.specs.Relexing.{IsChange, IsMadeOf, IsUnderWay, IsWhole, MayGoOn, TakesSteps, is_over}
+use Rattle.rustc_lexer.specs.{Classes.{IsText}, LanguageCalls.{edition_of_year}}
 use Rattle.rustc_lexer.specs.{Locality.{IsGrammar}, laws.Edition.{edition_grammar}}
 use Rattle.rustc_lexer.proofs.lemmas.edits.{OneAnswer.{counts_of, relexed_is}, UnderWay.{over_met, few_lexed, counts_met}}
 use Rattle.rustc_lexer_c.specs.declared.{relex.{CEdit.{CEdit}, CRelexing.{CRelexing}}, token.CToken.{CToken}}
 use Rattle.rustc_lexer_c.specs.Numbers.{token_numbers}
-use Rattle.rustc_lexer_c.specs.Relex.{IsPassed, IsRelexBatch, change_of, front_of, lexed_before, numbers_of, relexing_of, written}
+use Rattle.rustc_lexer_c.specs.Relex.{IsPassed, IsRelexBatch, MayRelex, Relexes, change_of, front_of, lexed_before, numbers_of, relexing_of, written}
+
+-- what follows for the value of an `Option`, if there is one
+pub if_some : {X : Type 0} {P Q : X → Type 0} (r : Option X) → IfSome r P → ((x : X) → P x → Q x) → IfSome r Q
+if_some None p all = tt
+if_some (Some x) p all = all x p
+
+pub if_each : {X : Type 0} {P Q R S : X → Type 0} (r : Option X) → IfSome r P → IfSome r Q → IfSome r R
+    → ((x : X) → P x → Q x → R x → S x) → IfSome r S
+if_each None p q r all = tt
+if_each (Some x) p q r all = all x p q r
+
+pub none_some : {X : Type 0} {x : X} → Some x ≡ None → ⊥
+none_some e = grind (arith, common_steps)
 
 -- the numbers are those of where it stands
 relex_back : (text : List ℕ) (n : ℕ) (at : Relexing) → at.back.index ≤ n → is_over text at ≡ at.met → relexing_of n (numbers_of text n at) ≡ at
@@ -82,4 +97,29 @@ module _ (edition : Edition) (text : List ℕ) (old : List CToken) (change : CEd
           counts = λ e. subst (λ (n : ℕ). let r : Relexed = record { kept_front = at.front.index; lexed = at.lexed; kept_back = n - at.back.index } in IsRelexed (part_by first) before change.start change.old_stop insert r) all (met (grind (arith, common_steps))).0;
           list = λ e are. list_whole (tokens_by first before) (tokens_by first text) at (length old - (length old - at.back.index)) old back are (met (grind (arith, common_steps))).1;
         };
+  }
+
+  -- a call that is done
+  pub relexed : IsText text → (year : ℕ) → edition_of_year year ≡ Some edition
+      → ¬ (¬ (IsChange text (change_of change) × MayRelex text (length old) c))
+      → count ≤ length buffer → TakesSteps first text (change_of change).new_stop begin count at
+      → filled ≡ map token_numbers (take count (tokens_by first (drop begin.at text))) ++ drop count buffer
+      → MayGoOn text (length old) at → (count < length buffer → is_over text at ≡ true) → begin.lexed ≡ lexed_before c
+      → (c.stage ≢ 0 → begin.front ≡ front_of c)
+      → ((first : List ℕ → Token) (before insert : List ℕ) → IsGrammar first → IsMadeOf first before lens (change_of change) insert text → IsPassed first before (change_of change) text (length old) c → IsUnderWay first before (change_of change) text begin)
+      → ((before insert : List ℕ) → IsMadeOf first before lens (change_of change) insert text → IsUnderWay first before (change_of change) text begin → IsUnderWay first before (change_of change) text at × (tokens_by first (drop begin.at text) ≡ drop (known begin) (tokens_by first text)))
+      → Relexes text old change year c (numbers_of text (length old) at) buffer filled count 0
+  relexed is year year_is asked within steps tokens may over_of before_lexed begun_front begun stands = record {
+    status_is = record {
+      ok = λ _ _ _ _ _. refl;
+      not_utf8 = λ _ not. absurd (not is.utf8);
+      too_long = λ long. absurd (omega (arith, long, is.fits));
+      bad_edition = λ _ none. grind (arith, common_steps);
+      bad_edit = λ _ _ _ not. absurd (asked not);
+    };
+    batch = λ _ other other_is.
+        let same : edition ≡ other = cc in
+        subst (λ e. IsRelexBatch e text old change c buffer (numbers_of text (length old) at) filled count) same
+        (batch_is within steps tokens may over_of before_lexed begun_front begun stands);
+    refused = λ not. absurd (not refl);
   }

@@ -11,19 +11,19 @@ use crate::status::{Refusal, done, refuse, text_of, utf8_text_of};
 use crate::token::{CToken, token_numbers};
 use rustc_lexer::{Edition, FrontmatterAllowed, tokenize, tokenize_as};
 
-/// A place in a text, from which the next tokens are taken.
+/// The position in a text from which the next tokens are lexed.
 #[repr(C)]
 #[derive(Clone, Copy, Debug, PartialEq, Eq)]
 pub struct CPlace {
-    /// The place in bytes from the start of the text.
+    /// The offset in bytes from the start of the text.
     pub at: u32,
-    /// Whether a frontmatter may come there: 0 for no, any other number for yes.
+    /// Whether a frontmatter is allowed there: 0 for no, any other number for yes.
     pub frontmatter_allowed: u32,
 }
 
-/// Writes the tokens from a place on into the buffer, as many as there is room for, and their number into `count`.
-/// Moves the place to the end of these tokens, so that the next call goes on there. Past the last token the number
-/// is 0. The tokens are those of the newest edition.
+/// Writes the tokens from a position on into the buffer, as many as there is room for, and their number into `count`.
+/// Moves the position to the end of these tokens, where the next call continues. After the last token the number is 0.
+/// The tokens are those of the newest edition.
 ///
 /// Each call checks the whole text. `rustc_lexer_tokens_unchecked` does not.
 #[unsafe(no_mangle)]
@@ -41,8 +41,8 @@ pub extern "C" fn rustc_lexer_tokens(
     }
 }
 
-/// Writes the tokens from a place on, of a text that `rustc_lexer_check` found to be UTF-8. Does not check it
-/// again.
+/// Does what `rustc_lexer_tokens` does, without checking again that the text is UTF-8. `rustc_lexer_check` must have
+/// accepted it.
 #[unsafe(no_mangle)]
 pub extern "C" fn rustc_lexer_tokens_unchecked(
     text: &[u8],
@@ -81,8 +81,8 @@ pub extern "C" fn rustc_lexer_tokens_in(
     }
 }
 
-/// Does what `rustc_lexer_tokens_in` does, with a text that `rustc_lexer_check` found to be UTF-8. Does not check it
-/// again.
+/// Does what `rustc_lexer_tokens_in` does, without checking again that the text is UTF-8. `rustc_lexer_check` must
+/// have accepted it.
 #[unsafe(no_mangle)]
 pub extern "C" fn rustc_lexer_tokens_in_unchecked(
     text: &[u8],
@@ -108,8 +108,8 @@ pub extern "C" fn rustc_lexer_tokens_in_unchecked(
     }
 }
 
-/// Returns the first token of a text that `rustc_lexer_check` found to be UTF-8. Returns zeros if there is no
-/// token: if the text is empty, or has more than `u32::MAX` bytes.
+/// Returns the first token of a text, or zeros if the text is empty or has more than `u32::MAX` bytes. The text must
+/// be UTF-8.
 #[unsafe(no_mangle)]
 pub extern "C" fn rustc_lexer_first_token_unchecked(text: &[u8], frontmatter_allowed: u32) -> CToken
     requires utf8 { IsUtf8 text.now }
@@ -138,7 +138,7 @@ fn first_token(text: &str, allowed: FrontmatterAllowed) -> CToken
         .map_or(NO_TOKEN, token_numbers)
 }
 
-/// Zeros, which are not a token.
+/// Zeros, which are no token.
 pub(crate) const NO_TOKEN: CToken = CToken {
     kind: 0,
     first: 0,
@@ -148,8 +148,8 @@ pub(crate) const NO_TOKEN: CToken = CToken {
     len: 0,
 };
 
-/// Writes the batch at a place between characters. Returns its number of tokens. It is inlined, so the call for the
-/// newest edition, a constant there, does not test which it is.
+/// Writes the batch at a character boundary. Returns its number of tokens. It is inlined because the newest edition
+/// is a constant in one caller, which then does not test the edition.
 #[inline(always)]
 fn fill(text: &str, edition: Edition, place: &mut CPlace, buffer: &mut [CToken]) -> usize
     requires fits { Fits text.now }

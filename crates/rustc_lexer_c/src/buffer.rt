@@ -1,4 +1,4 @@
-//! A caller's buffer, which is written from its front on.
+//! A caller's buffer, which is filled from its start.
 ghost use Rattle.std.specs.Prelude.{◌≡◌, ◌↔◌, IsOk};
 ghost use Rattle.rustc_lexer_c.specs.Buffer.{Appends, HasRoom};
 
@@ -12,7 +12,7 @@ pub(crate) struct Buffer<'a> {
 }
 
 impl<'a> Buffer<'a> {
-    /// Creates a buffer of which nothing is written.
+    /// Creates an empty buffer.
     pub(crate) fn new(bytes: &'a mut [u8]) -> Buffer<'a>
         ensures same_reference { result.bytes.ghost_name ≡ bytes.entry.ghost_name }
         ensures value { result.bytes.now ≡ bytes.old }
@@ -25,7 +25,7 @@ impl<'a> Buffer<'a> {
 impl<'a> fmt::Write for Buffer<'a> {
     ghost write_str_gives = { Appends };
 
-    /// Appends a text to what is written, unless there is too little room for it.
+    /// Appends a text, or returns an error if there is too little room for it.
     #[tactic(auto, using(crate::proofs::OutputLemmas::filled_within, crate::proofs::OutputLemmas::filled_front, crate::proofs::OutputLemmas::filled_rest, std::proofs::lemmas::Grind::common_steps))]
     fn write_str(&mut self, s: &str) -> fmt::Result
         ensures ok { IsOk result → Appends self.old s.now self.new }

@@ -1,4 +1,4 @@
-//! Classes of characters. A caller passes the code of a character.
+//! Classes of characters. A caller passes a character's code point.
 ghost use Rattle.std.specs.Prelude.{◌≡◌, false};
 ghost use Rattle.std.specs.Char.{IsScalar};
 ghost use Rattle.std.specs.Str.{IsUtf8, chars};
@@ -9,7 +9,7 @@ ghost use Rattle.rustc_lexer_c.specs.Numbers.{bool_number};
 use crate::status::{done, refuse, text_of};
 use rustc_lexer::{is_horizontal_whitespace, is_id_continue, is_id_start, is_ident, is_whitespace};
 
-/// Returns whether the character is white space in Rust. Returns false for a number that is not a character.
+/// Returns whether the character is whitespace in Rust. Returns false for a number that is not a character.
 #[unsafe(no_mangle)]
 pub extern "C" fn rustc_lexer_is_whitespace(code: u32) -> bool
     ensures class { IsScalar code → result ≡ Classes.is_whitespace code }

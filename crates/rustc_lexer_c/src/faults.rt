@@ -1,4 +1,4 @@
-//! The class and the fault of a token.
+//! The class and the error of a token.
 ghost use Rattle.std.specs.Prelude.{◌≡◌, ◌≢◌, None};
 ghost use Rattle.rustc_lexer.specs.declared.edition.Edition.{Edition};
 ghost use Rattle.rustc_lexer.specs.declared.token.Token.{Token};
@@ -16,7 +16,7 @@ use crate::token::CToken;
 use marks::{Fault, class_of, fault_of};
 use rustc_lexer::{Base, DocStyle, LiteralKind, TokenKind};
 
-/// Writes the number of the class of a token in the edition of a year, by its numbers and its text.
+/// Writes the number of a token's class in the edition of a year. The token is passed as its numbers and its text.
 #[tactic(auto, using(crate::proofs::FaultLemmas::same_class))]
 #[unsafe(no_mangle)]
 pub extern "C" fn rustc_lexer_class(
@@ -43,7 +43,7 @@ pub extern "C" fn rustc_lexer_class(
     }
 }
 
-/// Writes the number of the fault of a token, by its numbers and its text, or 0 if it has none.
+/// Writes the number of a token's error, or 0 if it has none. The token is passed as its numbers and its text.
 #[tactic(auto, using(crate::proofs::FaultLemmas::same_fault))]
 #[unsafe(no_mangle)]
 pub extern "C" fn rustc_lexer_fault(text: &[u8], token: &CToken, number: &mut u32) -> u32
@@ -58,7 +58,7 @@ pub extern "C" fn rustc_lexer_fault(text: &[u8], token: &CToken, number: &mut u3
     }
 }
 
-/// Returns the number of a fault, or 0 if there is none.
+/// Returns the number of an error, or 0 if there is none.
 fn number_of(fault: Option<Fault>) -> u32
     ensures { result ≡ spec.number_of fault }
 {
@@ -68,7 +68,7 @@ fn number_of(fault: Option<Fault>) -> u32
     }
 }
 
-/// Returns the kind with these numbers, as far as a class or a fault depends on it.
+/// Returns the kind with these numbers, as far as a class or an error depends on it.
 fn kind_of(token: &CToken) -> TokenKind
     ensures { result ≡ spec.kind_of token.now }
 {
@@ -103,7 +103,7 @@ fn kind_of(token: &CToken) -> TokenKind
     }
 }
 
-/// Returns the kind of literal with these numbers, as far as a class or a fault depends on it.
+/// Returns the kind of literal with these numbers, as far as a class or an error depends on it.
 fn literal_of(token: &CToken) -> LiteralKind
     ensures { result ≡ spec.literal_of token.now }
 {

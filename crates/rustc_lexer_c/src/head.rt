@@ -1,4 +1,4 @@
-//! The head of a document, and what an edit of the document changes in its body.
+//! The head of a document, and the change of its body by an edit of the document.
 ghost use Rattle.std.specs.Prelude.{◌≡◌, ◌<◌, ◌^◌};
 ghost use Rattle.std.specs.Str.{IsUtf8};
 ghost use Rattle.rustc_lexer_c.specs.Head as spec;
@@ -9,26 +9,26 @@ use crate::status::{OK, Refusal, text_of, utf8_text_of};
 use crate::token::{CToken, token_numbers};
 use rustc_lexer::{Change, Head, Token, TokenKind};
 
-/// The head of a document, which is the part before its body: a shebang line and a frontmatter.
+/// The head of a document: the shebang line and the frontmatter, which come before the body.
 #[repr(C)]
 #[derive(Clone, Copy, Debug, PartialEq, Eq)]
 pub struct CHead {
     /// The length of the shebang line in bytes, or 0.
     pub shebang_len: u32,
-    /// Where the body begins, in bytes from the start of the text.
+    /// The offset at which the body starts, in bytes.
     pub body: u32,
-    /// How many tokens come before the body: 0, 1 or 2.
+    /// The number of tokens before the body: 0, 1 or 2.
     pub count: u32,
-    /// These tokens. Behind them are zeros.
+    /// These tokens, followed by zeros.
     pub tokens: [CToken; 2],
 }
 
-/// Finds what an edit of a document changes in its body, and the head of the present text.
+/// Finds the head of the current text, and the change of the body by an edit of the document.
 ///
-/// Before the call `head` is the head of the text before the edit, as the call for the edit before left it. Zeros are
-/// the head of an empty text. Writes the present head there, into `body_edit` what changes in the body, by places from
-/// where the body begins, and into `head_kept` 1 if all tokens of the head stay, else 0. If the call is refused, it
-/// writes nothing.
+/// Before the call, `head` is the head of the text before the edit, as the call for the previous edit left it. Zeros
+/// are the head of an empty text. Writes the current head there. Writes the change of the body into `body_edit`, by
+/// offsets from the start of the body, and 1 into `head_kept` if all tokens of the head stay, else 0. If the call
+/// fails, it writes nothing.
 #[unsafe(no_mangle)]
 pub extern "C" fn rustc_lexer_body_edit(
     text: &[u8],
@@ -46,7 +46,8 @@ pub extern "C" fn rustc_lexer_body_edit(
     }
 }
 
-/// Finds the same in a text that `rustc_lexer_check` found to be UTF-8. Does not check it again.
+/// Does what `rustc_lexer_body_edit` does, without checking again that the text is UTF-8. `rustc_lexer_check` must
+/// have accepted it.
 #[unsafe(no_mangle)]
 pub extern "C" fn rustc_lexer_body_edit_unchecked(
     text: &[u8],
@@ -78,7 +79,7 @@ pub extern "C" fn rustc_lexer_body_edit_unchecked(
     OK
 }
 
-/// Returns the head that the numbers tell.
+/// Returns the head with these numbers.
 fn head_of(numbers: &CHead) -> Head
     ensures head { result ≡ spec.head_of numbers.now }
     ensures end { result.body < 2 ^ 32 }
@@ -97,7 +98,7 @@ fn head_of(numbers: &CHead) -> Head
     }
 }
 
-/// Returns the frontmatter that the numbers tell.
+/// Returns the frontmatter with these numbers.
 fn frontmatter_of(numbers: CToken) -> Token
     ensures { result ≡ spec.frontmatter_of numbers }
 {

@@ -1,4 +1,4 @@
-//! Writes the tokens of a text between marks.
+//! Writes highlighted tokens of a text.
 ghost use Rattle.std.specs.Prelude.{◌≡◌, ◌≢◌, Some, OnOk, take};
 ghost use Rattle.rustc_lexer.specs.declared.edition.Edition.{Edition};
 ghost use Rattle.rustc_lexer.specs.Classes.{Fits};
@@ -18,8 +18,8 @@ use marks::{Format, write_first_tokens};
 use rustc_lexer::Edition;
 use std::fmt;
 
-/// Writes the first `count` tokens of a text in an edition at the front of the buffer, each between the marks of a
-/// format, or all tokens if it has fewer. Writes the number of bytes into `written`.
+/// Writes the first `count` tokens of a text in an edition to the start of the buffer, each between the marks of a
+/// format, or all tokens if there are fewer. Writes the number of bytes into `written`.
 ///
 /// If the buffer is too small, `written` is 0, and the contents of the buffer are unspecified.
 #[unsafe(no_mangle)]
@@ -70,7 +70,7 @@ fn format_of(number: u32) -> Option<Format>
     }
 }
 
-/// Writes marked tokens into a buffer of which nothing is written.
+/// Writes marked tokens into an empty buffer.
 #[tactic(auto, using(crate::proofs::OutputLemmas::written_front, std::proofs::lemmas::Grind::common_steps))]
 fn fill(
     format: Format,

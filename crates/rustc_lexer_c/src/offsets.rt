@@ -4,11 +4,11 @@ ghost use Rattle.rustc_lexer_c.specs.Offsets.{FindsToken};
 use crate::token::CToken;
 use rustc_lexer::{TokenStart, token_around};
 
-/// Finds the token that contains the byte at `offset`, and writes its number and where it begins. Returns whether
-/// there is one. If there is none, the two numbers stay.
+/// Finds the token that contains the byte at `offset`, and writes its index and the offset at which it starts. Returns
+/// whether there is one. If there is none, the two numbers stay unchanged.
 ///
-/// The search begins at the two numbers that the caller gives: those of any boundary of the tokens. It reads the
-/// lengths of the tokens between there and the offset. If the two are no boundary, the answer means nothing.
+/// The search starts at the index and offset that the caller passes, which can be any token boundary. It reads the
+/// lengths of the tokens between there and `offset`. If they are no boundary, the result has no meaning.
 #[unsafe(no_mangle)]
 pub extern "C" fn rustc_lexer_token_start_at(
     tokens: &[CToken],

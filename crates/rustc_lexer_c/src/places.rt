@@ -1,4 +1,4 @@
-//! Places in a text: the end of its shebang line, and the end of the tokens that are certain.
+//! Offsets in a text: the end of its shebang line, and the end of its final tokens.
 ghost use Rattle.std.specs.Prelude.{◌≡◌};
 ghost use Rattle.std.specs.Str.{IsUtf8};
 ghost use Rattle.rustc_lexer.specs.Answers.{shebang};
@@ -9,8 +9,8 @@ ghost use Rattle.rustc_lexer_c.specs.Status.{OK, Writes};
 use crate::status::{done, refuse, text_of, utf8_text_of};
 use rustc_lexer::{settled, strip_shebang};
 
-/// Writes the length in bytes of the shebang line at the front of a text, without the end of the line, or 0 if
-/// there is none.
+/// Writes the length in bytes of the shebang line at the start of a text, without the line ending, or 0 if there is
+/// none.
 #[unsafe(no_mangle)]
 pub extern "C" fn rustc_lexer_strip_shebang(text: &[u8], line_len: &mut usize) -> u32
     ensures { Writes text.now (Unit {0}) OK (some_or_zero (shebang text.now))
@@ -22,8 +22,8 @@ pub extern "C" fn rustc_lexer_strip_shebang(text: &[u8], line_len: &mut usize) -
     }
 }
 
-/// Writes the length of the shebang line of a text that `rustc_lexer_check` found to be UTF-8. Does not check it
-/// again.
+/// Does what `rustc_lexer_strip_shebang` does, without checking again that the text is UTF-8. `rustc_lexer_check` must
+/// have accepted it.
 #[unsafe(no_mangle)]
 pub extern "C" fn rustc_lexer_strip_shebang_unchecked(text: &[u8], line_len: &mut usize) -> u32
     requires utf8 { IsUtf8 text.now }
@@ -36,8 +36,8 @@ pub extern "C" fn rustc_lexer_strip_shebang_unchecked(text: &[u8], line_len: &mu
     }
 }
 
-/// Writes where the last token that at least two characters follow ends, or 0. However the text continues, its
-/// tokens up to there stay as they are, if no frontmatter is allowed.
+/// Writes the byte offset up to which the tokens are final, whatever is appended: the end of the last token that at
+/// least two characters follow, or 0. No frontmatter is allowed.
 #[unsafe(no_mangle)]
 pub extern "C" fn rustc_lexer_settled(text: &[u8], end: &mut usize) -> u32
     ensures { TellsSettled text.now end.new result }
@@ -48,8 +48,8 @@ pub extern "C" fn rustc_lexer_settled(text: &[u8], end: &mut usize) -> u32
     }
 }
 
-/// Writes where the last token that at least two characters follow ends, or 0, of a text that `rustc_lexer_check`
-/// found to be UTF-8. Does not check it again.
+/// Does what `rustc_lexer_settled` does, without checking again that the text is UTF-8. `rustc_lexer_check` must have
+/// accepted it.
 #[unsafe(no_mangle)]
 pub extern "C" fn rustc_lexer_settled_unchecked(text: &[u8], end: &mut usize) -> u32
     requires utf8 { IsUtf8 text.now }

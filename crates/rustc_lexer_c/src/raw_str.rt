@@ -12,7 +12,7 @@ use rustc_lexer::{
     Cursor, FrontmatterAllowed, GuardedStr, RawStrError, starts_raw, validate_raw_str,
 };
 
-/// The reason why a raw string is refused. A field that the error does not have is 0.
+/// The error of a raw string. A field that the error does not have is 0.
 #[repr(C)]
 #[derive(Clone, Copy, Debug, PartialEq, Eq)]
 pub struct CRawStrError {
@@ -20,13 +20,13 @@ pub struct CRawStrError {
     pub error: u32,
     /// For 1: the character.
     pub bad_char: u32,
-    /// For 2: how many hashes would close the string.
+    /// For 2: the number of hashes that would close the string.
     pub expected: u32,
-    /// For 2: the most hashes after a quote in it. For 3: how many there are.
+    /// For 2: the maximum number of hashes after a quote in it. For 3: their number.
     pub found: u32,
     /// For 2: whether there is an offset, 0 or 1.
     pub has_offset: u32,
-    /// For 2: where the first quote that `found` hashes follow ends, in bytes.
+    /// For 2: the end of the first quote that is followed by `found` hashes, in bytes.
     pub possible_terminator_offset: u32,
 }
 
@@ -36,7 +36,7 @@ pub struct CRawStrError {
 pub struct CGuardedStr {
     /// Whether there is one, 0 or 1.
     pub is_some: u32,
-    /// How many hashes come before it.
+    /// The number of hashes before it.
     pub n_hashes: u32,
     /// Whether a quote closes it, 0 or 1.
     pub terminated: u32,
@@ -44,8 +44,7 @@ pub struct CGuardedStr {
     pub token_len: u32,
 }
 
-/// Checks the raw string at the front of the text, and writes why it is refused. Its prefix has `prefix_len`
-/// characters.
+/// Checks the raw string at the start of the text, and writes its error. Its prefix has `prefix_len` characters.
 #[unsafe(no_mangle)]
 pub extern "C" fn rustc_lexer_validate_raw_str(
     text: &[u8],
@@ -61,8 +60,8 @@ pub extern "C" fn rustc_lexer_validate_raw_str(
     }
 }
 
-/// Checks the raw string of a text that `rustc_lexer_check` found to be UTF-8. Does not check the text again: it
-/// reads no more than the string.
+/// Does what `rustc_lexer_validate_raw_str` does, without checking again that the text is UTF-8. It reads no more
+/// than the string. `rustc_lexer_check` must have accepted the text.
 #[unsafe(no_mangle)]
 pub extern "C" fn rustc_lexer_validate_raw_str_unchecked(
     text: &[u8],
@@ -86,8 +85,8 @@ pub extern "C" fn rustc_lexer_validate_raw_str_unchecked(
 /// Returns whether character number `prefix_len` of the text, counted from 1, is an `r`. The text is UTF-8, of any
 /// length.
 ///
-/// For a text of at most `u32::MAX` bytes this is false exactly when `rustc_lexer_validate_raw_str` returns 4. For
-/// a longer one that call returns 2, whatever this returns.
+/// For a text of at most `u32::MAX` bytes this is false exactly if `rustc_lexer_validate_raw_str` returns 4. For a
+/// longer one that call always returns 2.
 #[unsafe(no_mangle)]
 pub extern "C" fn rustc_lexer_starts_raw_unchecked(text: &[u8], prefix_len: u32) -> bool
     requires utf8 { IsUtf8 text.now }
@@ -97,8 +96,8 @@ pub extern "C" fn rustc_lexer_starts_raw_unchecked(text: &[u8], prefix_len: u32)
     starts_raw(unsafe { std::str::from_utf8_unchecked(text) }, prefix_len)
 }
 
-/// Writes the guarded string at the front of the text, or zeros if there is none. Hashes at the front are then part
-/// of the next token.
+/// Writes the guarded string at the start of the text, or zeros if there is none. Hashes at the start are then part of
+/// the next token.
 #[unsafe(no_mangle)]
 pub extern "C" fn rustc_lexer_guarded_str(text: &[u8], string: &mut CGuardedStr) -> u32
     ensures { Writes text.now (Unit {0}) OK (spec.guarded_at text.now) (spec.guarded_numbers None)
@@ -110,8 +109,8 @@ pub extern "C" fn rustc_lexer_guarded_str(text: &[u8], string: &mut CGuardedStr)
     }
 }
 
-/// Writes the guarded string of a text that `rustc_lexer_check` found to be UTF-8. Does not check the text again:
-/// it reads no more than the string.
+/// Does what `rustc_lexer_guarded_str` does, without checking again that the text is UTF-8. It reads no more than the
+/// string. `rustc_lexer_check` must have accepted the text.
 #[unsafe(no_mangle)]
 pub extern "C" fn rustc_lexer_guarded_str_unchecked(text: &[u8], string: &mut CGuardedStr) -> u32
     requires utf8 { IsUtf8 text.now }

@@ -1,21 +1,19 @@
-//! Lexes an edited text again, from its old tokens.
-ghost use Rattle.std.specs.Prelude.{◌≡◌, ◌≢◌, ◌↔◌, List, ℕ, Some, None, IfSome, length, map};
+//! Relexing: lexes only the part of an edited text that the edit changed.
+ghost use Rattle.std.specs.Prelude.{◌≡◌, ◌≢◌, ◌↔◌, ◌<◌, ◌≤◌, List, ℕ, None, IfSome, length, map};
 ghost use Rattle.std.specs.Str.{IsUtf8};
-ghost use Rattle.rustc_lexer.specs.declared.edition.Edition.{Edition};
 ghost use Rattle.rustc_lexer.specs.declared.token.Token.{Token};
 ghost use Rattle.rustc_lexer.specs.Classes.{Fits};
 ghost use Rattle.rustc_lexer.specs.LanguageCalls.{edition_of_year};
 ghost use Rattle.rustc_lexer.specs.Relexing.{IsChange, IsMadeOf, IsUnderWay, MayGoOn};
 ghost use Rattle.rustc_lexer.specs.Locality.{IsGrammar};
 ghost use Rattle.rustc_lexer_c.specs.Relex as spec;
-ghost use Rattle.rustc_lexer_c.specs.Status.{OK};
 
 use crate::status::{OK, Refusal, refuse, text_of, utf8_text_of};
 use crate::token::CToken;
-use rustc_lexer::{Change, Edited, Edition, Measured, Relexing, Steps, TokenStart};
+use rustc_lexer::{Change, Edition, Measured, Relex, Relexing, Steps, TokenStart};
 
-/// An edit that was made, by its places in bytes. It took out what was from `start` up to `old_stop` in the old
-/// text, and put in what is from `start` up to `new_stop` in the present text.
+/// An applied edit, by its offsets in bytes. It replaced the bytes from `start` up to `old_stop` of the old text with
+/// those from `start` up to `new_stop` of the current text.
 #[repr(C)]
 #[derive(Clone, Copy, Debug, PartialEq, Eq)]
 pub struct CEdit {
@@ -24,29 +22,29 @@ pub struct CEdit {
     pub new_stop: u32,
 }
 
-/// The stages of lexing an edited text again: before the first call, while tokens are left to write, and after the last.
+/// The stages of relexing: before the first call, while tokens are left to write, and after the last one.
 const STAGE_BEGIN: usize = 0;
 
 const STAGE_MORE: usize = 1;
 
 const STAGE_DONE: usize = 2;
 
-/// How far an edited text has been lexed again.
+/// How far an edited text has been relexed.
 #[repr(C)]
 #[derive(Clone, Copy, Debug, PartialEq, Eq)]
 pub struct CRelexing {
-    /// How many old tokens stay at the front. At stage 0: the number of any bound of the old tokens, where the
-    /// search for the front begins.
+    /// The number of old tokens that stay at the front. At stage 0: the index of any token boundary of the old text,
+    /// at which the search for the front starts.
     pub kept_front: usize,
-    /// Where the tokens at the front end, in bytes.
+    /// The offset at which the tokens at the front end, in bytes.
     pub front_offset: usize,
-    /// How many tokens all calls have written.
+    /// The number of tokens that all calls have written.
     pub lexed: usize,
-    /// How many old tokens stay at the back, at stage 2.
+    /// The number of old tokens that stay at the back, at stage 2.
     pub kept_back: usize,
-    /// Where the tokens at the back begin in the old text.
+    /// The offset in the old text at which the tokens at the back start.
     pub back_offset: usize,
-    /// Where the tokens that were written end in the present text. At stage 2 those at the back begin there.
+    /// The offset in the current text at which the written tokens end. At stage 2 the tokens at the back start there.
     pub at: usize,
     /// 0 before the first call, 1 if there are more tokens to write, 2 if there are none.
     pub stage: usize,
@@ -60,12 +58,12 @@ impl Measured for CToken {
     }
 }
 
-/// Writes the tokens of the present text that an edit makes necessary into the buffer, as many as there is room
-/// for, and their number into `count`. They come between the old tokens that stay at the front and those that stay
-/// at the back.
+/// Lexes the part of the current text that an edit changed. Writes its tokens into the buffer, as many as there is
+/// room for, and their number into `count`. They come between the old tokens that stay at the front and those that
+/// stay at the back.
 ///
-/// `old` has the tokens of the text before the edit, of which it reads only the lengths. Any other tokens may be
-/// passed too, but then the answer means nothing.
+/// `old` has the tokens of the text before the edit, of which only the lengths are read. Any other tokens are safe,
+/// but then the result has no meaning.
 #[unsafe(no_mangle)]
 pub extern "C" fn rustc_lexer_relex(
     text: &[u8],
@@ -80,13 +78,13 @@ pub extern "C" fn rustc_lexer_relex(
         buffer.old buffer.new count.new result }
 {
     match text_of(text) {
-        Ok(text) => relex(text, old, edit, edition, relexing, buffer, count),
+        Ok(_) => rustc_lexer_relex_unchecked(text, old, edit, edition, relexing, buffer, count),
         Err(refusal) => refuse(refusal, 0, count),
     }
 }
 
-/// Relexes a text that `rustc_lexer_check` found to be UTF-8. Does not check it again. Otherwise it does what
-/// `rustc_lexer_relex` does.
+/// Does what `rustc_lexer_relex` does, without checking again that the text is UTF-8. `rustc_lexer_check` must have
+/// accepted it.
 #[unsafe(no_mangle)]
 pub extern "C" fn rustc_lexer_relex_unchecked(
     text: &[u8],
@@ -101,44 +99,18 @@ pub extern "C" fn rustc_lexer_relex_unchecked(
     ensures { spec.Relexes text.now old.now edit.now edition relexing.old relexing.new
         buffer.old buffer.new count.new result }
 {
-    match utf8_text_of(text) {
-        Ok(text) => relex(text, old, edit, edition, relexing, buffer, count),
-        Err(refusal) => refuse(refusal, 0, count),
-    }
-}
-
-/// Relexes a text.
-fn relex(
-    text: &str,
-    old: &[CToken],
-    edit: &CEdit,
-    edition: u32,
-    relexing: &mut CRelexing,
-    buffer: &mut [CToken],
-    count: &mut usize,
-) -> u32
-    requires fits { Fits text.now }
-    ensures status { spec.IsRelexStatus text.now edit.now edition (length old.now) relexing.old
-        result }
-    ensures batch { result ≡ OK → (year : Edition) → edition_of_year edition ≡ Some year
-        → spec.IsRelexBatch year text.now old.now edit.now relexing.old
-        buffer.old relexing.new buffer.new count.new }
-    ensures refused { result ≢ OK
-        → (relexing.new ≡ relexing.old) × (buffer.new ≡ buffer.old) × (count.new ≡ 0) }
-{
+    let text = match utf8_text_of(text) {
+        Ok(text) => text,
+        Err(refusal) => return refuse(refusal, 0, count),
+    };
     let Some(edition) = edition_of(edition) else {
         return refuse(Refusal::BadEdition, 0, count);
     };
-    let change = change_of(edit);
-    if !change.may_make(text) {
-        return refuse(Refusal::BadEdit, 0, count);
-    }
-    let edited = Edited { text, old, change };
-    let Some(mut at) = standing(&edited, relexing) else {
+    let Some(mut relex) = relex_at(text, old, change_of(edit), relexing) else {
         return refuse(Refusal::BadEdit, 0, count);
     };
-    *count = at.fill(&mut Steps::new_in(edition), &edited, buffer);
-    *relexing = relexing_numbers(&at, text, old.len());
+    *count = relex.fill(&mut Steps::new_in(edition), buffer);
+    *relexing = relexing_numbers(&relex);
     OK
 }
 
@@ -149,7 +121,7 @@ pub(crate) fn edition_of(year: u32) -> Option<Edition>
     Edition::try_from(u16::try_from(year).ok()?).ok()
 }
 
-/// Returns what the edit changed.
+/// Returns the change that the edit made.
 pub(crate) fn change_of(edit: &CEdit) -> Change
     ensures { result ≡ spec.change_of edit.now }
 {
@@ -160,55 +132,81 @@ pub(crate) fn change_of(edit: &CEdit) -> Change
     }
 }
 
-/// Returns where to begin or to go on, or `None` if no call left these numbers.
-fn standing(edited: &Edited<'_, CToken>, relexing: &CRelexing) -> Option<Relexing>
-    requires fits { Fits edited.now.text.now }
-    requires change { IsChange edited.now.text.now edited.now.change }
-    ensures none { result ≡ None ↔ ¬ (spec.MayRelex edited.now.text.now (length edited.now.old.now) relexing.now) }
-    ensures some { IfSome result (λ at. MayGoOn edited.now.text.now (length edited.now.old.now) at
-        × (at.lexed ≡ spec.lexed_before relexing.now)
-        × (relexing.now.stage ≢ spec.STAGE_BEGIN → at.front ≡ spec.front_of relexing.now)
+/// Starts or resumes relexing, or returns `None` if the change cannot have resulted in the text, or no call can have
+/// left these numbers.
+fn relex_at<'a>(
+    text: &'a str,
+    old: &'a [CToken],
+    change: Change,
+    relexing: &CRelexing,
+) -> Option<Relex<'a, CToken>>
+    requires fits { Fits text.now }
+    ensures none { result ≡ None
+        ↔ ¬ (IsChange text.now change × spec.MayRelex text.now (length old.now) relexing.now) }
+    ensures some { IfSome result (λ r. (r.text ≡ text.now)
+        × (r.lengths ≡ map (λ (t : CToken). t.len) old.now) × (r.change ≡ change)
+        × (r.at.lexed ≡ spec.lexed_before relexing.now)
+        × (relexing.now.stage ≢ spec.STAGE_BEGIN → r.at.front ≡ spec.front_of relexing.now)
         × ((first : List ℕ → Token) (before insert : List ℕ) → IsGrammar first
-        → IsMadeOf first before (map (λ (t : CToken). t.len) edited.now.old.now) edited.now.change insert edited.now.text.now
-        → spec.IsPassed first before edited.now.change edited.now.text.now (length edited.now.old.now) relexing.now
-        → IsUnderWay first before edited.now.change edited.now.text.now at)) }
+        → IsMadeOf first before (map (λ (t : CToken). t.len) old.now) change insert text.now
+        → spec.IsPassed first before change text.now (length old.now) relexing.now
+        → IsUnderWay first before change text.now r.at)) }
 {
-    let front = TokenStart {
+    if relexing.stage == STAGE_BEGIN {
+        return Relex::begin(text, old, change, front_of(relexing));
+    }
+    let Some(state) = state_of(relexing, old.len()) else {
+        return None;
+    };
+    Relex::resume(text, old, change, state)
+}
+
+/// Returns the token boundary in the fields for the front.
+fn front_of(relexing: &CRelexing) -> TokenStart
+    ensures { result ≡ spec.front_of relexing.now }
+{
+    TokenStart {
         index: relexing.kept_front,
         offset: relexing.front_offset,
-    };
-    if relexing.stage == STAGE_BEGIN {
-        return Some(Relexing::begin(edited, front));
     }
-    if relexing.kept_back > edited.old.len() {
+}
+
+/// Returns the state that the numbers stand for, or `None` if there are fewer old tokens than stay at the back.
+fn state_of(relexing: &CRelexing, old_count: usize) -> Option<Relexing>
+    ensures none { result ≡ None → old_count < relexing.now.kept_back }
+    ensures some { IfSome result (λ state. (relexing.now.kept_back ≤ old_count)
+        × (state ≡ spec.relexing_of old_count relexing.now)) }
+{
+    if relexing.kept_back > old_count {
         return None;
     }
-    let at = Relexing {
-        front,
+    Some(Relexing {
+        front: front_of(relexing),
         lexed: relexing.lexed,
         back: TokenStart {
-            index: edited.old.len() - relexing.kept_back,
+            index: old_count - relexing.kept_back,
             offset: relexing.back_offset,
         },
         at: relexing.at,
         met: relexing.stage == STAGE_DONE,
-    };
-    at.may_go_on(edited.text, edited.old.len()).then_some(at)
+    })
 }
 
 /// Returns how far the text is relexed, as numbers.
-fn relexing_numbers(at: &Relexing, text: &str, old_count: usize) -> CRelexing
-    requires may_go_on { MayGoOn text.now old_count at.now }
-    ensures { result ≡ spec.numbers_of text.now old_count at.now }
+fn relexing_numbers(relex: &Relex<'_, CToken>) -> CRelexing
+    ensures numbers { result
+        ≡ spec.numbers_of relex.now.text (length relex.now.lengths) relex.now.at }
+    ensures may_go_on { MayGoOn relex.now.text (length relex.now.lengths) relex.now.at }
 {
+    let state = relex.state();
     CRelexing {
-        kept_front: at.front.index,
-        front_offset: at.front.offset,
-        lexed: at.lexed,
-        kept_back: old_count - at.back.index,
-        back_offset: at.back.offset,
-        at: at.at,
-        stage: if at.is_over(text) {
+        kept_front: state.front.index,
+        front_offset: state.front.offset,
+        lexed: state.lexed,
+        kept_back: relex.counts().kept_back,
+        back_offset: state.back.offset,
+        at: state.at,
+        stage: if relex.is_over() {
             STAGE_DONE
         } else {
             STAGE_MORE

@@ -1,4 +1,4 @@
-//! Whether the parts of a text may touch.
+//! Whether two pieces of a text can touch without changing their tokens.
 ghost use Rattle.std.specs.Prelude.{◌≡◌, ◌≢◌, Some};
 ghost use Rattle.rustc_lexer.specs.declared.edition.Edition.{Edition};
 ghost use Rattle.rustc_lexer.specs.LanguageCalls.{edition_of_year};
@@ -9,8 +9,8 @@ use crate::relex::edition_of;
 use crate::status::{Refusal, done, refuse, text_of};
 use rustc_lexer::is_seam;
 
-/// Writes whether the tokens of a text in an edition are those of its part before `at`, and then those of its part after
-/// `at`.
+/// Writes whether the tokens of a text in an edition are those of the text before `at`, followed by those of the text
+/// after `at`.
 #[unsafe(no_mangle)]
 pub extern "C" fn rustc_lexer_is_seam(text: &[u8], at: usize, edition: u32, is: &mut u32) -> u32
     ensures status { IsPlaceStatus text.now at edition result }

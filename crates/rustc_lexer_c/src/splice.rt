@@ -1,14 +1,14 @@
-//! Puts the tokens of an edit into a caller's list.
+//! Splices the tokens of an edit into a caller's list.
 ghost use Rattle.std.specs.Prelude.{◌≡◌, ◌+◌, ◌≤◌, ◌++◌, length, take, drop};
 ghost use Rattle.rustc_lexer_c.specs.Splice.{Splices};
 
 use crate::status::{Refusal, done};
 use crate::token::CToken;
 
-/// Puts `lexed` in place of the tokens between the first `kept_front` and the last `kept_back` of a list, and writes
-/// how many it then has into `count`. The list has the first `count` places of the buffer.
+/// Replaces the tokens between the first `kept_front` and the last `kept_back` of a list with `lexed`, and writes the
+/// new number of tokens into `count`. The list is at the start of the buffer and has `count` tokens.
 ///
-/// If the two are more than its tokens, or the buffer has too few places, nothing is written.
+/// If it has fewer tokens than the two together, or the buffer is too small, nothing is written.
 #[unsafe(no_mangle)]
 pub extern "C" fn rustc_lexer_splice(
     buffer: &mut [CToken],

@@ -1,4 +1,4 @@
-//! The statuses of calls, and the checks that give them.
+//! The statuses of calls, and the checks that return them.
 ghost use Rattle.std.specs.Prelude.{◌≡◌, MatchResult};
 ghost use Rattle.std.specs.Str.{IsUtf8};
 ghost use Rattle.rustc_lexer.specs.Classes.{IsText};
@@ -7,20 +7,20 @@ ghost use Rattle.rustc_lexer_c.specs.Status as spec;
 /// The status of a call that succeeded.
 pub(crate) const OK: u32 = 0;
 
-/// The reason why a call is refused. A refused call changes nothing, except where its description says so.
+/// The reason why a call fails. A failed call changes nothing, unless its description says so.
 #[derive(Clone, Copy)]
 pub(crate) enum Refusal {
     /// The bytes are not UTF-8.
     NotUtf8 = 1,
     /// The text has more than `u32::MAX` bytes.
     TooLong = 2,
-    /// The place is past the end of the text, or inside a character.
+    /// The offset is after the end of the text, or inside a character.
     BadPlace = 3,
-    /// No raw string begins at the front of the text.
+    /// No raw string begins at the start of the text.
     NotRaw = 4,
     /// No edition has the year.
     BadEdition = 5,
-    /// The edit cannot have made the text, or relexing cannot go on from the numbers.
+    /// The edit cannot have resulted in the text, or relexing cannot continue from the numbers.
     BadEdit = 6,
     /// No literal has the mode.
     BadMode = 7,
@@ -39,7 +39,7 @@ impl Refusal {
     }
 }
 
-/// Writes an answer, and returns the status of success.
+/// Writes a result, and returns the status of success.
 pub(crate) fn done<T: Copy>(answer: T, written: &mut T) -> u32
     ensures status { result ≡ 0 }
     ensures written { written.new ≡ answer }
@@ -48,7 +48,7 @@ pub(crate) fn done<T: Copy>(answer: T, written: &mut T) -> u32
     OK
 }
 
-/// Writes the value for no answer, and returns the status of the refusal.
+/// Writes the value for no result, and returns the status of the failure.
 pub(crate) fn refuse<T: Copy>(refusal: Refusal, none: T, written: &mut T) -> u32
     ensures status { result ≡ spec.refusal_number refusal }
     ensures written { written.new ≡ none }
@@ -57,7 +57,7 @@ pub(crate) fn refuse<T: Copy>(refusal: Refusal, none: T, written: &mut T) -> u32
     refusal.number()
 }
 
-/// Returns the bytes as a text that can be lexed, or why it cannot be.
+/// Returns the bytes as a text that can be lexed, or the reason why they cannot be lexed.
 pub(crate) fn text_of(bytes: &[u8]) -> Result<&str, Refusal>
     ensures { MatchResult result
         (λ text. (text.now ≡ bytes.now) × IsText bytes.now) (spec.IsNoText bytes.now) }
@@ -68,8 +68,8 @@ pub(crate) fn text_of(bytes: &[u8]) -> Result<&str, Refusal>
     std::str::from_utf8(bytes).map_err(|_| Refusal::NotUtf8)
 }
 
-/// Returns bytes that are UTF-8 as a text that can be lexed, or why it cannot be. Does not check that they are
-/// UTF-8.
+/// Returns bytes that are UTF-8 as a text that can be lexed, or the reason why they cannot be lexed. Does not check
+/// that they are UTF-8.
 pub(crate) fn utf8_text_of(bytes: &[u8]) -> Result<&str, Refusal>
     requires utf8 { IsUtf8 bytes.now }
     ensures { MatchResult result

@@ -5,11 +5,10 @@ ghost use Rattle.rustc_lexer_c.specs.Numbers as numbers;
 
 use rustc_lexer::{DocStyle, FromToken, LiteralKind, Token, TokenKind};
 
-/// A token in the form that C sees: its kind, the fields of the kind as one byte each, and its length. A byte
-/// without a field is 0.
+/// A token as C sees it: its kind, the fields of the kind as one byte each, and its length. A byte without a field is
+/// 0.
 ///
-/// These are the bytes of a `Token` of plain Rust whose enums are `repr(u8)`, with the numbers of
-/// `specs/Numbers.antt`.
+/// A `Token` in Rust whose enums were `repr(u8)` would have the same bytes, with the numbers of `specs/Numbers.antt`.
 #[repr(C)]
 #[derive(Clone, Copy, Debug, PartialEq, Eq)]
 pub struct CToken {
@@ -21,7 +20,7 @@ pub struct CToken {
     pub second: u8,
     /// For a literal, the second field of the literal's kind.
     pub third: u8,
-    /// For a literal, where its suffix begins, in bytes from the start of the token.
+    /// For a literal, the offset of its suffix, in bytes from the start of the token.
     pub suffix_start: u32,
     /// The length in bytes.
     pub len: u32,

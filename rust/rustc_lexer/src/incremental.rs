@@ -1,15 +1,16 @@
-//! The tokens of an edited text in lists of your own: how to lex again only what an edit changed.
+//! Incremental lexing for tokens in lists of your own: lexes only what an edit changed.
 //!
-//! [`LexedText`](crate::LexedText) and [`LexedDocument`](crate::LexedDocument) store a text with its tokens. A program
-//! that stores them in its own way calls [`Relexing`], with [`Head`] for a whole file. These calls test nothing: lists
-//! or a head that are not those of the old text give wrong tokens or a panic.
+//! [`LexedText`](crate::LexedText) and [`LexedDocument`](crate::LexedDocument) store a text with its tokens. If your program
+//! stores them in its own way, call [`Relex`], with [`Head`] for a whole file. `Relex` rejects a change that cannot have
+//! resulted in the text. It cannot check that the tokens are those of the old text: with any others the result has no
+//! meaning. `Head::change_to` checks nothing, and can panic with a head or an edit of another text.
 //!
 //! # A whole file
 //!
-//! The list has the tokens of the body, which is what follows the shebang line and the frontmatter.
+//! The list has the tokens of the body, which is the text after the shebang line and the frontmatter (the *head*).
 //!
 //! ```
-//! use rustc_lexer::incremental::{Change, Edited, Head, Relexing};
+//! use rustc_lexer::incremental::{Change, Head, Relex};
 //! use rustc_lexer::{Edition, Steps, Token, TokenStart, tokenize_document};
 //!
 //! struct File {
@@ -26,13 +27,12 @@
 //!         let change = self.head.change_to(head, change).change;
 //!         let text = &self.text[head.body..];
 //!         let mut steps = Steps::new();
-//!         let edited = Edited { text, old: &self.body, change };
-//!         let mut relexing = Relexing::begin(&edited, TokenStart::default());
+//!         let mut relex = Relex::begin(text, &self.body, change, TokenStart::default()).unwrap();
 //!         let mut lexed = Vec::new();
-//!         while let Some(token) = relexing.next(&mut steps, &edited) {
+//!         while let Some(token) = relex.next(&mut steps) {
 //!             lexed.push(token);
 //!         }
-//!         let counts = relexing.counts(self.body.len());
+//!         let counts = relex.counts();
 //!         let back = self.body.len() - counts.kept_back;
 //!         self.body.splice(counts.kept_front..back, lexed);
 //!         self.head = head;
@@ -48,8 +48,8 @@
 //! assert_eq!(file.text, "#!a\n---\n---\nlet b;");
 //! ```
 
-#[doc(alias("incremental", "relex", "reparse"))]
+#[doc(alias("incremental", "relexing", "reparse"))]
 #[doc(inline)]
-pub use crate::erased::Relexing;
+pub use crate::erased::Relex;
 #[doc(inline)]
-pub use crate::erased::{BodyChange, Change, Edited, Head, Measured};
+pub use crate::erased::{BodyChange, Change, Head, Measured, Relexing};

@@ -126,7 +126,7 @@ pub use kept::{Lexed, LexedDocument, LexedText};
 #[cfg(all(doc, not(feature = "alloc")))]
 use erased::{JoinedText, LexedDocument, LexedText, Pieces};
 #[cfg(doc)]
-use incremental::{Head, Relexing};
+use incremental::{Head, Relex};
 pub use pieces::TokenPieces;
 use rattle_support as support;
 pub use rattle_support::AllocError;

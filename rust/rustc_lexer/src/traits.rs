@@ -1,5 +1,6 @@
 //! Traits of `core` that the proved source does not have.
 
+use crate::incremental::{Measured, Relex};
 use crate::{Edition, FrontmatterAllowed, Steps};
 use core::fmt;
 
@@ -34,6 +35,14 @@ impl PartialEq for Steps {
 }
 
 impl Eq for Steps {}
+
+impl<T: Measured> fmt::Debug for Relex<'_, T> {
+    fn fmt(&self, f: &mut fmt::Formatter<'_>) -> fmt::Result {
+        f.debug_struct("Relex")
+            .field("state", &self.state())
+            .finish_non_exhaustive()
+    }
+}
 
 impl fmt::Debug for Steps {
     fn fmt(&self, f: &mut fmt::Formatter<'_>) -> fmt::Result {

@@ -6,7 +6,7 @@ mod random;
 use made::{counts, edit, token};
 use random::Random;
 use rattle_support::Global;
-use rustc_lexer::incremental::{Edited, Change, Head, Relexing};
+use rustc_lexer::incremental::{Change, Head, Relex, Relexing};
 use rustc_lexer::{
     EditStop, Edition, FrontmatterAllowed, LexedDocument, LexedText, Relexed, Stepper, Steps,
     Token, TokenKind, TokenStart, erased, strip_shebang, tokenize_as, tokenize_document,
@@ -378,25 +378,63 @@ fn a_list_of_the_caller() {
         old_stop: 5,
         new_stop: 6,
     };
-    assert!(change.may_make(text));
-    let edited = Edited {
-        text,
-        old: &old,
-        change,
-    };
-    let mut relexing = Relexing::begin(&edited, TokenStart::default());
+    let mut relex = Relex::begin(text, &old, change, TokenStart::default()).unwrap();
     let (mut steps, mut buffer) = (Steps::new(), [token(TokenKind::Eof, 0); 2]);
-    let filled = relexing.fill(&mut steps, &edited, &mut buffer);
-    assert_eq!((filled, buffer), (2, [word, space]));
-    let next = relexing.next(&mut steps, &edited);
-    assert_eq!((next, relexing.is_over(text)), (Some(letter), false));
-    let filled = relexing.fill(&mut steps, &edited, &mut buffer);
-    assert_eq!((filled, buffer), (2, [space, letter]));
-    assert!(relexing.is_over(text));
-    let filled = relexing.fill(&mut steps, &edited, &mut buffer);
-    let next = relexing.next(&mut steps, &edited);
-    assert_eq!((filled, next), (0, None));
-    assert_eq!(relexing.counts(old.len()), counts(0, 5, 2));
+    assert_eq!(relex.fill(&mut steps, &mut buffer), 2);
+    assert_eq!(buffer, [word, space]);
+    // A second value continues where the first one stopped.
+    let mut relex = Relex::resume(text, &old, change, relex.state()).unwrap();
+    assert_eq!(relex.next(&mut steps), Some(letter));
+    assert!(!relex.is_over());
+    assert_eq!(relex.fill(&mut steps, &mut buffer), 2);
+    assert_eq!(buffer, [space, letter]);
+    assert!(relex.is_over());
+    assert_eq!(relex.fill(&mut steps, &mut buffer), 0);
+    assert_eq!(relex.next(&mut steps), None);
+    assert_eq!(relex.counts(), counts(0, 5, 2));
+    assert!(format!("{relex:?}").starts_with("Relex"));
+}
+
+/// A change that cannot have resulted in the text, and states that no call leaves.
+#[test]
+fn relexing_that_cannot_start() {
+    let old = [1, 2].map(|len| token(TokenKind::Ident, len));
+    let text = "aé";
+    let change = |start, old_stop, new_stop| Change {
+        start,
+        old_stop,
+        new_stop,
+    };
+    let begins = |change| Relex::begin(text, &old, change, TokenStart::default()).is_some();
+    assert!(begins(change(1, 3, 3)) && begins(change(0, u32::MAX as usize, 1)));
+    for refused in [
+        change(2, 2, 2),
+        change(1, 1, 2),
+        change(1, 0, 3),
+        change(3, 3, 1),
+        change(1, 1, 4),
+        change(0, u32::MAX as usize + 1, 1),
+    ] {
+        assert!(!refused.may_make(text) && !begins(refused), "{refused:?}");
+    }
+    let change = change(1, 3, 3);
+    let resumes = |state| Relex::resume(text, &old, change, state).is_some();
+    let start = Relex::begin(text, &old, change, TokenStart::default());
+    let start = start.unwrap().state();
+    assert!(resumes(start));
+    let spoil: [fn(&mut Relexing); 6] = [
+        |state| state.at = 2,
+        |state| state.at = 4,
+        |state| state.lexed = state.at + 1,
+        |state| state.back.index = 3,
+        |state| (state.front.index, state.back.index) = (1, 0),
+        |state| state.back.offset = usize::MAX,
+    ];
+    for spoil in spoil {
+        let mut state = start;
+        spoil(&mut state);
+        assert!(!resumes(state), "{state:?}");
+    }
 }
 
 /// On lists of one's own, an edit of the body gives the tokens and the counts of a `LexedDocument`.
@@ -422,34 +460,33 @@ fn lists_of_the_caller() {
         let change = of_body.change;
         let (index, offset) = (0, 0);
         let first = TokenStart { index, offset };
-        assert!(change.may_make(body));
-        let edited = Edited {
-            text: body,
-            old: old_body,
-            change,
-        };
         let mut steps = Steps::new();
-        let mut relexing = Relexing::begin(&edited, first);
+        let mut relex = Relex::begin(body, old_body, change, first).unwrap();
+        let mut again = relex.clone();
         let mut made = tokens_of(now);
-        let kept = made.len() + relexing.front.index;
-        made.extend(&old_body[..relexing.front.index]);
-        while let Some(token) = relexing.next(&mut steps, &edited) {
+        let front = relex.state().front.index;
+        let kept = made.len() + front;
+        made.extend(&old_body[..front]);
+        while let Some(token) = relex.next(&mut steps) {
             made.push(token);
-            let passed = relexing.at.checked_sub(change.new_stop);
-            assert!(passed.is_none_or(|passed| relexing.back.offset >= change.old_stop + passed));
+            let state = relex.state();
+            let passed = state.at.checked_sub(change.new_stop);
+            assert!(passed.is_none_or(|passed| state.back.offset >= change.old_stop + passed));
         }
-        let mut wanted = relexing.counts(old_body.len());
+        let mut wanted = relex.counts();
         assert_eq!(made.len(), kept + wanted.lexed);
-        // the same by a buffer, which is filled but at the end
-        let mut again = Relexing::begin(&edited, first);
+        // The same with a buffer, which is full except at the end.
         let mut buffer = [token(TokenKind::Eof, 0); 3];
         let mut filled = Vec::new();
-        while !again.is_over(body) {
-            let count = again.fill(&mut steps, &edited, &mut buffer);
+        while !again.is_over() {
+            let count = again.fill(&mut steps, &mut buffer);
             filled.extend_from_slice(&buffer[..count]);
-            assert!(count == buffer.len() || again.is_over(body));
+            assert!(count == buffer.len() || again.is_over());
         }
-        assert_eq!((filled, again), (made[kept..].to_vec(), relexing));
+        assert_eq!(
+            (filled, again.state()),
+            (made[kept..].to_vec(), relex.state())
+        );
         made.extend(&old_body[old_body.len() - wanted.kept_back..]);
         assert_eq!(made, held.tokens(), "{range:?} of {old:?} is {insert:?}");
         if of_body.keeps_head {

@@ -2,9 +2,9 @@
 //! The lexer for C, and for any language that can call C: a static library over `rustc_lexer`,
 //! `rustc_literal_escaper` and `marks`.
 //!
-//! A caller passes a text as a pointer and a length, and a buffer for the tokens. Nothing allocates memory. The
-//! compiler cannot check what C passes, so each call checks its text and returns a status. Only the calls with
-//! `_unchecked` require UTF-8. The header, `rustc_lexer.h`, describes all calls and types.
+//! A caller passes a text as a pointer and a length, and a buffer for the tokens. No call allocates memory. Each call
+//! checks its text and returns a status, since C cannot guarantee UTF-8; only the calls with `_unchecked` require it.
+//! The header, `rustc_lexer.h`, documents all calls and types.
 
 pub mod abi;
 pub mod batch;

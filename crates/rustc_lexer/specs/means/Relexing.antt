@@ -4,7 +4,7 @@ use Rattle.std.specs.Str.{IsUtf8}
 use Rattle.rustc_lexer.specs.declared.relex.front.TokenStart.{TokenStart}
 use Rattle.rustc_lexer.specs.declared.relex.front.Damage.{Damage}
 use Rattle.rustc_lexer.specs.declared.relex.relexing.Change.{Change}
-use Rattle.rustc_lexer.specs.declared.relex.relexing.Edited.{Edited}
+use Rattle.rustc_lexer.specs.declared.relex.relexing.EditedText.{EditedText}
 use Rattle.rustc_lexer.specs.declared.relex.relexing.Relexing.{Relexing}
 use Rattle.rustc_lexer.specs.{Token}
 use Rattle.rustc_lexer.specs.Partition.{bound, tokens_by}
@@ -38,7 +38,7 @@ pub record IsFront (old : List ℕ) (tokens : List Token) (lengths text : List �
     pub lengths_are : HasLengths tokens lengths
     pub same : take start text ≡ take start old
 
--- what a change did to the text that it made
+-- the effect of a change on the text that it made
 abbrev pub damage_of : List ℕ → Change → Damage
 damage_of text change =
     record { past = change.new_stop; old_stop = change.old_stop; end = length text }
@@ -67,12 +67,12 @@ pub record IsLexed (first : List ℕ → Token) (old : List ℕ) (change : Chang
   pub lexed : at.lexed ≡ length tokens
   pub tokens_are : tokens ≡ take at.lexed (drop at.front.index (tokens_by first text))
 
--- `P` holds for each text that has the old tokens and of which the edit made this text, if `near` is
--- a boundary of those tokens
-abbrev pub OfOld : (List ℕ → Token) → Edited Token → TokenStart → (List ℕ → List ℕ → Type 0) → Type 0
-OfOld first edited near P =
+-- `P` holds for each text that has the old tokens and from which the edit made this text, if `near`
+-- is a boundary of those tokens
+abbrev pub ForEachOldText : (List ℕ → Token) → EditedText Token → TokenStart → (List ℕ → List ℕ → Type 0) → Type 0
+ForEachOldText first edited near P =
     (before insert : List ℕ)
-    → IsMadeOf first before (map (λ (t : Token). t.len) edited.old.now) edited.change insert
+    → IsMadeOf first before (map (λ (t : Token). t.len) edited.old_tokens.now) edited.change insert
     edited.text.now
     → IsBound (tokens_by first before) near
     → P before insert

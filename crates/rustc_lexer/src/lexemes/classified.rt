@@ -1,8 +1,8 @@
 //! The ends of runs, and the bytes after a run that may change its token.
 ghost use Rattle.std.specs.Prelude.{◌≡◌, ◌≢◌, ◌≤◌, ◌<◌, ℕ, false, true, IsFalse};
 ghost use Rattle.rustc_lexer.specs.means.Ends.{bit, IsLowest, StaysWithin};
-ghost use Rattle.rustc_lexer.specs.means.Quick;
 
+use crate::kernels::turns_word;
 use crate::token::TokenKind;
 
 /// Returns the known ends of runs past an offset.
@@ -41,12 +41,4 @@ pub(crate) fn may_continue(kind: TokenKind, next: u8) -> bool
             TokenKind::Whitespace => next == 0xC2 || next == 0xE2,
             _ => false,
         }
-}
-
-/// Returns whether a word that the byte follows may be something other than an identifier.
-#[inline(always)]
-fn turns_word(next: u8) -> bool
-    ensures { result ≡ Quick.turns_word next }
-{
-    next >= 128 || matches!(next, b'#' | b'"' | b'\'')
 }

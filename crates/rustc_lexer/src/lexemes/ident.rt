@@ -6,7 +6,7 @@ ghost use Rattle.rustc_lexer.specs.means.Ident as spec;
 ghost use Rattle.rustc_lexer.specs.means.Scan.{past, run_len, scanned};
 
 use crate::classes::emoji::is_emoji;
-use crate::classes::{is_id_continue, is_id_start};
+use crate::classes::{ends_prefix, is_id_continue, is_id_start};
 use crate::kernels::ends_word;
 use crate::scan::{eat_continue, eat_while, next_is, split_first, strip};
 use crate::token::TokenKind;
@@ -73,11 +73,4 @@ pub(crate) fn is_word_continue(c: char) -> bool
     ensures { result ≡ Classes.is_word_continue c }
 {
     is_id_continue(c) || is_emoji(c)
-}
-
-/// Returns whether an identifier directly before the character is a prefix.
-fn ends_prefix(c: char) -> bool
-    ensures { result ≡ Classes.ends_prefix c }
-{
-    matches!(c, '#' | '"' | '\'')
 }

@@ -1,4 +1,4 @@
-//! What an edit of a document changes in its body.
+//! The change of a document's body by an edit of the document.
 ghost use Rattle.std.specs.Prelude.{◌≡◌, ◌<◌, ◌≤◌, ◌^◌, ◌↔◌, IsTrue, List, ℕ};
 ghost use Rattle.rustc_lexer.specs.{Token};
 ghost use Rattle.rustc_lexer.specs.Locality.{IsGrammar};
@@ -8,21 +8,21 @@ use crate::head::Head;
 use crate::relex::document_edit::HeadEdit;
 use crate::relex::relexing::Change;
 
-/// What an edit of a document changes in its body.
+/// The change of a document's body by an edit of the document.
 #[derive(Clone, Copy, Debug, PartialEq, Eq)]
 pub struct BodyChange {
-    /// Whether the edit keeps the head: whether it comes after the head, and the head stays the same.
+    /// Whether the edit starts after the head, and the head stays the same.
     pub keeps_head: bool,
-    /// What it changes in the body, in bytes from the start of the body.
+    /// The change, in bytes from the start of the body.
     pub change: Change,
 }
 
 impl Head {
-    /// Returns what an edit changes in the body. `self` is the head of the text before the edit, and `now` is the head
-    /// of the present text.
+    /// Returns the change of the body by an edit of the document. `self` is the head of the text before the edit, and
+    /// `now` is the head of the current text.
     ///
-    /// If the head stays, the change is the edit itself. Otherwise it is everything from the start of the body up to
-    /// the first position after the edit at which both bodies have begun. Then no token of the body is kept before it.
+    /// If the head stays, the change is the edit itself. Otherwise it extends from the start of the body to the first
+    /// position after the edit at which both bodies have started, so no token of the body is kept before it.
     pub fn change_to(self, now: Head, edit: Change) -> BodyChange
         requires old_order { edit.start ≤ edit.old_stop }
         requires new_order { edit.start ≤ edit.new_stop }

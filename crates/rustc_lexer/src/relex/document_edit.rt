@@ -1,23 +1,23 @@
-//! One edit of a document: what it does to the head, and what it changes in the body.
+//! One edit of a document: its effect on the head, and the change of the body.
 ghost use Rattle.std.specs.Prelude.{◌≡◌, ◌+◌, ◌-◌, ◌^◌, ◌<◌, ◌≤◌, ◌↔◌, IsTrue, length};
 ghost use Rattle.rustc_lexer.specs.means.Document as means;
 
 use crate::head::Head;
 use crate::relex::relexing::{Change, Relexed};
 
-/// What an edit does to the head of a document.
+/// The effect of an edit on the head of a document.
 #[derive(Clone, Copy)]
 pub(crate) struct HeadEdit {
     /// The head before the edit.
     pub before: Head,
     /// The head after the edit.
     pub after: Head,
-    /// Whether the head stays: whether the edit comes after the head, and the head stays the same.
+    /// Whether the edit starts after the head, and the head stays the same.
     pub keeps: bool,
 }
 
 impl HeadEdit {
-    /// Returns what an edit that begins at `start` does to the head.
+    /// Returns the effect of an edit that starts at `start`.
     #[tactic(auto, using(crate::specs::laws::Same::decided_head, std::proofs::lemmas::Grind::common_steps))]
     pub(crate) fn between(before: Head, after: Head, start: usize) -> HeadEdit
         ensures before { result.before ≡ before }
@@ -31,8 +31,8 @@ impl HeadEdit {
         }
     }
 
-    /// Returns what the edit changes in the body. If the head stays, that is the edit itself. Otherwise it is everything
-    /// up to the first position after the edit at which both bodies have begun.
+    /// Returns the change of the body. If the head stays, this is the edit itself. Otherwise the change extends from
+    /// the start of the body to the first position after the edit at which both bodies have started.
     pub(crate) fn body_change(self, edit: Change) -> Change
         requires old { edit.old_stop < 2 ^ 32 }
         requires new { edit.new_stop < 2 ^ 32 }

@@ -1,4 +1,4 @@
-//! One edit: the text that it makes, and the tokens that it lexes.
+//! One edit: the new text, and the tokens that are lexed for it.
 ghost use Rattle.std.specs.Prelude.{◌≡◌, ◌+◌, ◌-◌, ◌^◌, ◌<◌, ◌≤◌, ◌++◌, ◌↔◌, IsTrue, IfOk, IfErr, OnOk, OnErr, if◌then◌else◌, List, ℕ, drop, length, take};
 ghost use Rattle.std.specs.List.{All};
 ghost use Rattle.std.specs.String.{string_bytes, string_capacity, string_len};
@@ -10,25 +10,23 @@ ghost use Rattle.rustc_lexer.specs.Edits.{IsEdit, IsInside, IsRelexed, apply, pa
 ghost use Rattle.rustc_lexer.specs.Relexing.{known};
 ghost use Rattle.rustc_lexer.specs.Relexing.{IsChange, MayGoOn};
 ghost use Rattle.rustc_lexer.specs.means.Checkpoints.{AreBounds, IsMovable, IsReplaced, end_of};
-ghost use Rattle.rustc_lexer.specs.means.Relexing.{IsLexed, OfOld};
+ghost use Rattle.rustc_lexer.specs.means.Relexing.{IsLexed, ForEachOldText};
 ghost use Rattle.rustc_lexer.specs.means.Document as means;
 
 use crate::entry::stepper::Stepper;
 use crate::relex::checkpoints::Checkpoints;
 use crate::relex::document_edit::HeadEdit;
 use crate::relex::front::TokenStart;
-use crate::relex::relexing::{Edited, Relexing};
+use crate::relex::lex::BUFFER_LEN;
+use crate::relex::relexing::{EditedText, Relexing};
 use crate::relex::replace::replace;
 use crate::token::{Token, TokenKind};
 use std::alloc::{AllocError, Global};
 
-/// How many tokens are lexed at once, but for the first one.
-const BUFFER_LEN: usize = 128;
-
 /// One edit, which borrows its insertion.
 #[derive(Clone, Copy, Debug, PartialEq, Eq)]
 pub struct Edit<'a> {
-    /// Where the replaced bytes begin, in bytes from the start of the text.
+    /// Where the replaced bytes start, in bytes from the start of the text.
     pub start: usize,
     /// Where they end, in bytes from the start of the text.
     pub stop: usize,
@@ -36,7 +34,7 @@ pub struct Edit<'a> {
     pub insert: &'a str,
 }
 
-/// Returns whether the range is inside the text, between characters.
+/// Returns whether the range is inside the text and on character boundaries.
 pub(crate) fn contains_range(text: &str, start: usize, stop: usize) -> bool
     ensures { IsTrue result ↔ IsInside text.now start stop }
 {
@@ -46,7 +44,7 @@ pub(crate) fn contains_range(text: &str, start: usize, stop: usize) -> bool
         && text.is_char_boundary(stop)
 }
 
-/// Returns whether an edit of the text can be made: whether its range is inside the text, between characters, and
+/// Returns whether an edit can be applied to the text: its range is inside the text and on character boundaries, and
 /// the new text has at most `u32::MAX` bytes.
 pub(crate) fn accepts(text: &str, start: usize, stop: usize, insert: &str) -> bool
     ensures { IsTrue result ↔ IsEdit text.now start stop insert.now }
@@ -55,7 +53,7 @@ pub(crate) fn accepts(text: &str, start: usize, stop: usize, insert: &str) -> bo
         && text.len() - (stop - start) + insert.len() <= u32::MAX as usize
 }
 
-/// Replaces the bytes from `start` up to `stop` with `insert`. The text already has room for it.
+/// Replaces the bytes from `start` up to `stop` with `insert`. The text already has capacity for it.
 #[tactic(auto, using(crate::proofs::lemmas::edits::FrontAndBack::put_is, std::proofs::lemmas::Grind::common_steps))]
 pub(crate) fn put_in_place(text: &mut String, start: usize, stop: usize, insert: &str)
     requires inside { IsInside (string_bytes text.old) start stop }
@@ -72,20 +70,19 @@ pub(crate) fn put_in_place(text: &mut String, start: usize, stop: usize, insert:
 /// The tokens that replace old ones after an edit.
 #[derive(Drop)]
 pub(crate) struct Replacement {
-    /// The tokens.
     pub tokens: Vec<Token>,
     /// The old tokens from `at.front` up to `at.back` are replaced.
     pub at: Relexing,
-    /// Boundaries that lexing passed.
+    /// Boundaries of the new tokens, up to which lexing went.
     pub bounds: Checkpoints,
 }
 
-/// Lexes the text from the end of the kept front until it meets the old tokens. The search for the front begins at
+/// Lexes the text from the end of the kept front until it meets the old tokens. The search for the front starts at
 /// `near`.
 pub(crate) fn relex<S: Stepper>(
     alloc: Global,
     stepper: &mut S,
-    edited: &Edited<'_, Token>,
+    edited: &EditedText<'_, Token>,
     near: TokenStart,
 ) -> Result<Replacement, AllocError>
     requires is_text { IsText edited.now.text.now }
@@ -95,18 +92,18 @@ pub(crate) fn relex<S: Stepper>(
     ensures grammar { S.grammar stepper.new ≡ S.grammar stepper.old }
 
     // Which tokens replace old ones, and which old ones.
-    ensures lexed { IfOk result (λ r. OfOld (S.grammar stepper.old).first edited.now near
+    ensures lexed { IfOk result (λ r. ForEachOldText (S.grammar stepper.old).first edited.now near
         (λ before insert. IsLexed (S.grammar stepper.old).first before edited.now.change edited.now.text.now
         r.tokens.items r.at)) }
-    ensures bounds { IfOk result (λ r. OfOld (S.grammar stepper.old).first edited.now near
+    ensures bounds { IfOk result (λ r. ForEachOldText (S.grammar stepper.old).first edited.now near
         (λ before insert. AreBounds (tokens_by (S.grammar stepper.old).first edited.now.text.now) r.bounds)) }
-    ensures may_go_on { IfOk result (λ r. MayGoOn edited.now.text.now (length edited.now.old.now) r.at) }
+    ensures may_go_on { IfOk result (λ r. MayGoOn edited.now.text.now (length edited.now.old_tokens.now) r.at) }
 
     // How many steps were taken, also if it fails.
     ensures count { IfOk result
         (λ r. S.count stepper.new ≡ S.count stepper.old + length r.tokens.items) }
     ensures rose { S.count stepper.old ≤ S.count stepper.new }
-    ensures few { IfErr result (λ _. OfOld (S.grammar stepper.old).first edited.now near
+    ensures few { IfErr result (λ _. ForEachOldText (S.grammar stepper.old).first edited.now near
         (λ before insert. (r : Relexed)
         → IsRelexed (part_by (S.grammar stepper.old).first) before edited.now.change.start
         edited.now.change.old_stop insert r
@@ -131,7 +128,7 @@ pub(crate) fn relex<S: Stepper>(
     Ok(Replacement { tokens, at, bounds })
 }
 
-/// Returns where the last token ends that was lexed.
+/// Returns the end of the last token that was lexed.
 fn end_of(at: Relexing) -> TokenStart
     requires small { known at < 2 ^ 64 }
     ensures { result ≡ end_of at }
@@ -143,8 +140,8 @@ fn end_of(at: Relexing) -> TokenStart
 }
 
 impl Replacement {
-    /// Returns the checkpoints of the new text, which has `len` bytes; `old` are those of the text before the edit. They
-    /// have the kept front and, where many tokens were lexed, the boundaries among them.
+    /// Returns the checkpoints of the new text, which has `len` bytes. `old` has those of the text before the edit.
+    /// The end of the kept front becomes one, and so do the boundaries in a long run of lexed tokens.
     pub(crate) fn checkpoints(&self, old: &Checkpoints, len: usize) -> Checkpoints
         requires small { known self.now.at < 2 ^ 64 }
         requires movable { All (IsMovable self.now.at.back (end_of self.now.at)) old.now.bounds }
@@ -166,8 +163,8 @@ impl Replacement {
         all
     }
 
-    /// Puts the tokens in place of the old ones. Also replaces the tokens of the head, unless it stays. If an allocation
-    /// fails, nothing changes.
+    /// Replaces the old tokens with the new ones, and the tokens of the head unless it stays. If an allocation fails,
+    /// nothing changes.
     #[tactic(auto, using(crate::proofs::lemmas::edits::WholeEdits::put_behind, std::proofs::lemmas::Grind::common_steps))]
     pub(crate) fn put_into(
         self,

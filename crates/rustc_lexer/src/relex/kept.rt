@@ -1,11 +1,11 @@
-//! A text with its tokens, and what an edit of it needs.
+//! A text with its tokens, and the state that its edits need.
 ghost use Rattle.std.specs.Prelude.{◌≡◌, ◌+◌, ◌++◌, IfOk, List, drop, length, ℕ};
 ghost use Rattle.std.specs.Str.{IsCharBoundary};
 ghost use Rattle.std.specs.String.{string_bytes};
 ghost use Rattle.rustc_lexer.specs.Classes.{Fits};
 ghost use Rattle.rustc_lexer.specs.means.Document as means;
 ghost use Rattle.rustc_lexer.specs.Tokens.{tokens_by};
-ghost use Rattle.rustc_lexer.specs.Kept.{IsCounted, IsEdited, layout_in};
+ghost use Rattle.rustc_lexer.specs.Kept.{HasStepCount, IsEdited, layout_in};
 ghost use Rattle.rustc_lexer.specs.means.Checkpoints.{AreBounds};
 
 use crate::entry::stepper::Stepper;
@@ -14,12 +14,12 @@ use crate::relex::checkpoints::Checkpoints;
 use crate::relex::document_edit::HeadEdit;
 use crate::relex::edit::relex;
 use crate::relex::lex::lex_all;
-use crate::relex::relexing::{Change, Edited, Relexed};
+use crate::relex::relexing::{Change, EditedText, Relexed};
 use crate::token::Token;
 use std::alloc::{AllocError, Global};
 use std::marker::PhantomData;
 
-/// A text with its tokens, and what an edit needs of them.
+/// A text with its tokens, and the state that its edits need.
 #[derive(Drop)]
 pub(crate) struct Kept<S: Stepper, E: Extent> {
     pub alloc: Global,
@@ -27,14 +27,14 @@ pub(crate) struct Kept<S: Stepper, E: Extent> {
     pub text: String,
     pub tokens: Vec<Token>,
     pub stepper: S,
-    /// The head of a whole document. A part of one has none.
+    /// The head of a whole document. A fragment has none.
     pub head: Head,
-    /// Boundaries of the body's tokens, at which the search of an edit may begin.
+    /// Boundaries of the body's tokens, at which the search for the kept front can start.
     pub checkpoints: Checkpoints,
 }
 
-/// Lexes again what an edit has changed of the text, and puts it among what is kept, which is still that of the text before
-/// the edit. If an allocation fails, it stays so.
+/// Relexes the part of the text that an edit changed, and updates tokens, head and checkpoints, which are still those
+/// of the text before the edit. If an allocation fails, they stay unchanged.
 pub(crate) fn renew<S: Stepper, E: Extent>(
     kept: &mut Kept<S, E>,
     edit: Change,
@@ -55,29 +55,30 @@ pub(crate) fn renew<S: Stepper, E: Extent>(
         (record { text = before; tokens = kept.old.tokens.items; stepper = kept.old.stepper })
         edit.start edit.old_stop insert result
         (record { text = left; tokens = kept.new.tokens.items; stepper = kept.new.stepper })
-        × IsCounted (layout_in E.whole (S.grammar kept.old.stepper).first) before edit.start edit.old_stop
+        × HasStepCount (layout_in E.whole (S.grammar kept.old.stepper).first) before edit.start edit.old_stop
         insert result (S.count kept.old.stepper) (S.count kept.new.stepper) }
     ensures grammar { S.grammar kept.new.stepper ≡ S.grammar kept.old.stepper }
 {
     let made = kept.text.as_str();
     let now = E::find_head(made);
     let head = HeadEdit::between(kept.head, now, edit.start);
-    let edited = Edited {
+    let edited = EditedText {
         text: &made[now.body..],
-        old: &kept.tokens.as_slice()[kept.head.count()..],
+        old_tokens: &kept.tokens.as_slice()[kept.head.count()..],
         change: head.body_change(edit),
     };
     let near = kept.checkpoints.nearest(edited.change.start);
     let lexed = relex(kept.alloc, &mut kept.stepper, &edited, near)?;
     let checkpoints = lexed.checkpoints(&kept.checkpoints, edited.text.len());
-    let counts = lexed.at.counts(edited.old.len());
+    let counts = lexed.at.counts(edited.old_tokens.len());
     lexed.put_into(kept.alloc, &mut kept.tokens, head)?;
     kept.head = now;
     kept.checkpoints = checkpoints;
     Ok(head.document_counts(counts))
 }
 
-/// Lexes the tokens of a text: those of its head, which is known, and those of its body with the stepper.
+/// Returns the tokens of a text: the tokens of its head, which is known, and those of its body, lexed with the
+/// stepper.
 pub(crate) fn lex_body<S: Stepper>(
     alloc: Global,
     head: Head,

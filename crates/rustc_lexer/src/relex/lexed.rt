@@ -3,7 +3,7 @@ ghost use Rattle.std.specs.Prelude.{◌≡◌, ◌+◌, ◌↔◌, IfOk, IsTrue,
 ghost use Rattle.std.specs.String.{string_bytes};
 ghost use Rattle.rustc_lexer.specs.Classes.{Fits, IsText};
 ghost use Rattle.rustc_lexer.specs.Edits.{IsEdit};
-ghost use Rattle.rustc_lexer.specs.Kept.{IsCounted, IsEdited, layout_in};
+ghost use Rattle.rustc_lexer.specs.Kept.{HasStepCount, IsEdited, layout_in};
 ghost use Rattle.rustc_lexer.specs.Partition.{tokens_in};
 
 use crate::entry::stepper::Stepper;
@@ -37,9 +37,9 @@ pub type LexedText<S> = Lexed<S, Part>;
 
 /// A whole document that is kept with its tokens while it is edited: shebang line, frontmatter and all.
 ///
-/// Its tokens begin past the shebang line, and a frontmatter may be the first of them. An edit that keeps both lexes few
-/// tokens; any other lexes all in front of it, too. Each edit also looks for a frontmatter, so it sees one that appears,
-/// disappears or ends elsewhere.
+/// Its tokens begin past the shebang line, and a frontmatter may be the first of them. An edit that keeps both lexes
+/// few tokens; any other lexes all in front of it, too. Each edit also looks for a frontmatter, so it sees one that
+/// appears, disappears or ends elsewhere.
 ///
 /// ```ignore
 /// let mut held = LexedDocument::new(alloc, "#!/bin/sh\n---cargo\n---\nfn")?;
@@ -84,8 +84,8 @@ impl<S: Stepper, E: Extent> Lexed<S, E> {
     }
 
     /// Keeps the text, of which it copies nothing, and lexes it: the head of a document by itself, all else with the
-    /// stepper, one step for each token. The text may have at most `u32::MAX` bytes. Keeps the stepper. `Err` means that
-    /// an allocation failed.
+    /// stepper, one step for each token. The text may have at most `u32::MAX` bytes. Keeps the stepper. `Err` means
+    /// that an allocation failed.
     pub fn with_string(alloc: Global, text: String, stepper: S) -> Result<Lexed<S, E>, AllocError>
         requires fits { Fits (string_bytes text) }
         ensures text { IfOk result (λ l. l.text ≡ string_bytes text) }
@@ -155,8 +155,8 @@ impl<S: Stepper, E: Extent> Lexed<S, E> {
         self.kept.tokens.shrink_to_fit();
     }
 
-    /// Lexes the text again, with another stepper. The head of a document stays. `Err` means that an allocation failed,
-    /// and then nothing has changed.
+    /// Lexes the text again, with another stepper. The head of a document stays. `Err` means that an allocation
+    /// failed, and then nothing has changed.
     pub fn set_stepper(&mut self, stepper: S) -> Result<(), AllocError>
         ensures text { self.new.text ≡ self.old.text }
         ensures is_text { IsText self.new.text }
@@ -217,7 +217,7 @@ impl<S: Stepper, E: Extent> Lexed<S, E> {
         ensures edited { IsEdited (layout_in E.whole (S.grammar self.old.stepper).first) self.old start stop
             insert.now result self.new }
         ensures grammar { S.grammar self.new.stepper ≡ S.grammar self.old.stepper }
-        ensures count { IsCounted (layout_in E.whole (S.grammar self.old.stepper).first) self.old.text start
+        ensures count { HasStepCount (layout_in E.whole (S.grammar self.old.stepper).first) self.old.text start
             stop insert.now result (S.count self.old.stepper) (S.count self.new.stepper) }
     {
         let removed = String::from_str(self.kept.alloc, &self.kept.text[start..stop])?;

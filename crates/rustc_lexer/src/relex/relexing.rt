@@ -1,4 +1,4 @@
-//! Lexes again what an edit changed, on lists that the caller holds.
+//! Relexing: lexes only the part of an edited text that the edit changed.
 ghost use Rattle.std.specs.Prelude.{◌≡◌, ◌+◌, ◌-◌, ◌^◌, ◌<◌, ◌≤◌, ◌∷◌, ◌++◌, ◌↔◌, IsTrue, IfSome, None, List, MatchOption, drop, false, length, map, min, take, ℕ, true};
 ghost use Rattle.rustc_lexer.specs.declared.relex.relexing.Change.{Change};
 ghost use Rattle.rustc_lexer.specs.{Token};
@@ -18,25 +18,25 @@ use crate::relex::front::{Damage, Measured, TokenStart, follow, kept_front};
 use crate::token::Token;
 use std::marker::Model;
 
-/// The greatest offset that a token boundary may have. No text is longer, even if a `usize` has 32 bits.
+/// The maximum offset of a token boundary. No text is longer, even if a `usize` has 32 bits.
 const MOST: usize = usize::MAX / 2;
 
-/// An edit that was made, by its offsets in bytes. It replaced the bytes from `start` up to `old_stop` of the old text
-/// with those from `start` up to `new_stop` of the present text.
+/// An applied edit, by its offsets in bytes. It replaced `start..old_stop` of the old text with `start..new_stop` of
+/// the current text.
 #[derive(Clone, Copy, Debug, PartialEq, Eq)]
 pub struct Change {
-    /// Where the change begins, in both texts.
+    /// Where the change starts, in both texts.
     pub start: usize,
     /// Where the removed bytes ended, in the old text.
     pub old_stop: usize,
-    /// Where the inserted bytes end, in the present text.
+    /// Where the inserted bytes end, in the current text.
     pub new_stop: usize,
 }
 
 impl Change {
-    /// Returns whether the change may have made the text: whether its offsets are in order, the inserted bytes are
-    /// inside the text, between characters, and its old offset is below 2^32. It does not know whether the old text had
-    /// these offsets.
+    /// Returns whether the change can have resulted in this text: the inserted range is inside the text and on
+    /// character boundaries, the old offsets are in order, and `old_stop` is below 2^32. The old text itself is not
+    /// checked.
     pub fn may_make(&self, text: &str) -> bool
         ensures { IsTrue result ↔ IsChange text.now self.now }
     {
@@ -48,19 +48,16 @@ impl Change {
     }
 }
 
-/// A text after an edit, with the tokens that it had before.
-#[derive(Clone, Copy)]
-pub struct Edited<'a, T> {
-    /// The text.
+/// A text after an edit, with the tokens from before the edit.
+#[derive(Drop)]
+pub(crate) struct EditedText<'a, T> {
     pub text: &'a str,
-    /// The tokens of the text before the edit.
-    pub old: &'a [T],
-    /// The edit.
+    pub old_tokens: &'a [T],
     pub change: Change,
 }
 
-impl<'a, T> Edited<'a, T> {
-    /// Returns what the edit did to the text.
+impl<'a, T> EditedText<'a, T> {
+    /// Returns the effect of the edit on the text.
     fn damage(&self) -> Damage
         ensures { result ≡ damage_of self.now.text.now self.now.change }
     {
@@ -75,16 +72,16 @@ impl<'a, T> Edited<'a, T> {
 /// The counts of an edit, or of a list of edits.
 #[derive(Clone, Copy, Debug, PartialEq, Eq)]
 pub struct Relexed {
-    /// How many tokens at the front stay as they are.
+    /// The number of tokens at the front that stay as they are.
     pub kept_front: usize,
-    /// How many tokens are between those two: after a single edit, those that were lexed.
+    /// The number of tokens between the kept ones. After a single edit, these are the tokens that were lexed.
     pub lexed: usize,
-    /// How many tokens at the back stay as they are.
+    /// The number of tokens at the back that stay as they are.
     pub kept_back: usize,
 }
 
 impl Relexed {
-    /// Returns the counts of an empty list of edits: all of so many tokens stay, in front.
+    /// Returns the counts of an empty list of edits: all `count` tokens stay, at the front.
     pub fn all(count: usize) -> Relexed
         ensures { result ≡ all_stay count }
     {
@@ -95,7 +92,7 @@ impl Relexed {
         }
     }
 
-    /// Returns the counts of a text of so many tokens that is new: none was there before.
+    /// Returns the counts of a new text with `count` tokens: none of them was there before.
     pub fn none(count: usize) -> Relexed
         ensures { result ≡ none_stays count }
     {
@@ -106,14 +103,14 @@ impl Relexed {
         }
     }
 
-    /// Returns the counts of two edits, or lists of edits, after one another: `self` has those of the first, and `next`
-    /// those of the second. `old_count` is how many tokens there were before the first.
+    /// Returns the counts of two consecutive edits, or lists of edits: `self` has the counts of the first, and `next`
+    /// of the second. There were `old_count` tokens before the first.
     ///
-    /// At each end it keeps the lesser of the two; the rest is between. If one of the two keeps [`all`](Relexed::all),
-    /// the answer is the other.
+    /// At each end, the result keeps the minimum of the two. If one of them keeps [`all`](Relexed::all) tokens, the
+    /// result is the other one.
     ///
-    /// A painter begins with `all` of the tokens that it painted last, whose number is `old_count`. Before it first paints,
-    /// it begins with [`none`](Relexed::none) of the text's tokens, and `old_count` is 0.
+    /// To repaint, start with `all` of the tokens that were painted last; `old_count` is their number. Before the
+    /// first paint, start with [`none`](Relexed::none) of the text's tokens, and `old_count` is 0.
     ///
     /// ```
     /// use rustc_lexer::Relexed;
@@ -157,7 +154,7 @@ impl Relexed {
         }
     }
 
-    /// Returns whether all of so many tokens stay in front, and none is new.
+    /// Returns whether all `count` tokens stay at the front, and none is new.
     fn keeps_all(self, count: usize) -> bool
         ensures { IsTrue result ↔ (self ≡ all_stay count) }
     {
@@ -165,69 +162,38 @@ impl Relexed {
     }
 }
 
-/// How far an edited text, whose tokens are in lists of your own, has been lexed again: from its kept front up to a
-/// token boundary.
+/// The progress of [`Relex`]: the kept front, the number of tokens that were lexed, and the old tokens ahead.
 ///
-/// It knows the old tokens only by their lengths. If these are the lengths of the tokens of an old text, and the change
-/// made the present text from it, then all numbers are exact. Any other lengths may be passed too, but then the numbers
-/// mean nothing.
-///
-/// In plain Rust:
-///
-/// ```
-/// use rustc_lexer::incremental::{Change, Edited, Relexing};
-/// use rustc_lexer::{FrontmatterAllowed, Steps, Token, TokenStart, tokenize};
-///
-/// let (old, new) = ("let ab = cd;", "let abc = cd;");
-/// let mut tokens: Vec<Token> = tokenize(old, FrontmatterAllowed::No).collect();
-/// // A `c` was inserted at 6.
-/// let change = Change { start: 6, old_stop: 6, new_stop: 7 };
-///
-/// let mut steps = Steps::new();
-/// let edited = Edited { text: new, old: &tokens, change };
-/// let mut relexing = Relexing::begin(&edited, TokenStart::default());
-/// let mut lexed = Vec::new();
-/// while let Some(token) = relexing.next(&mut steps, &edited) {
-///     lexed.push(token);
-/// }
-/// let counts = relexing.counts(tokens.len());
-/// let back = tokens.len() - counts.kept_back;
-/// tokens.splice(counts.kept_front..back, lexed);
-/// assert!(tokenize(new, FrontmatterAllowed::No).eq(tokens));
-/// assert_eq!((counts.kept_front, counts.lexed, counts.kept_back), (2, 1, 5));
-/// ```
+/// [`Relex::state`] returns it, and [`Relex::resume`] continues from it.
 #[derive(Clone, Copy, Debug, PartialEq, Eq)]
 pub struct Relexing {
-    /// How many of the old tokens stay at the front, and where they end.
+    /// The end of the kept front: how many of the old tokens stay there, and where they end.
     pub front: TokenStart,
-    /// How many tokens were lexed.
+    /// The number of tokens that were lexed.
     pub lexed: usize,
     /// A boundary of the old tokens. Once lexing meets it, the tokens after it stay.
     pub back: TokenStart,
-    /// Where the last token that was lexed ends, in bytes from the start of the present text.
+    /// The end of the last token that was lexed, in bytes from the start of the current text.
     pub at: usize,
-    /// Whether `at` is that boundary of the old tokens.
+    /// Whether `at` is the boundary `back` of the old tokens, moved by the edit.
     pub met: bool,
 }
 
 impl Relexing {
-    /// Finds the kept front, and returns a state in which nothing has been lexed yet. The search for the front begins
-    /// at `near`, which may be any boundary of the old tokens.
-    ///
-    /// The text must have at most `u32::MAX` bytes, and [`Change::may_make`] must be true. This is not tested: otherwise
-    /// the result means nothing, or the call panics.
-    pub fn begin<T: Measured>(edited: &Edited<'_, T>, near: TokenStart) -> Relexing
+    /// Finds the kept front, and returns a state in which nothing has been lexed yet. The search for the front starts
+    /// at `near`, which can be any boundary of the old tokens.
+    pub(crate) fn begin<T: Measured>(edited: &EditedText<'_, T>, near: TokenStart) -> Relexing
         requires fits { Fits edited.now.text.now }
         requires change { IsChange edited.now.text.now edited.now.change }
-        ensures may_go_on { MayGoOn edited.now.text.now (length edited.now.old.now) result }
+        ensures may_go_on { MayGoOn edited.now.text.now (length edited.now.old_tokens.now) result }
         ensures none { result.lexed ≡ 0 }
         ensures under_way { (first : List ℕ → Token) (before insert : List ℕ) → IsGrammar first
-            → IsMadeOf first before (map T.bytes edited.now.old.now) edited.now.change insert edited.now.text.now
+            → IsMadeOf first before (map T.bytes edited.now.old_tokens.now) edited.now.change insert edited.now.text.now
             → IsBound (tokens_by first before) near
             → IsUnderWay first before edited.now.change edited.now.text.now result }
     {
-        let front = kept_front(edited.text, edited.old, edited.change.start, near);
-        let to = follow(edited.old, front, front.offset, edited.damage());
+        let front = kept_front(edited.text, edited.old_tokens, edited.change.start, near);
+        let to = follow(edited.old_tokens, front, front.offset, edited.damage());
         Relexing {
             front,
             lexed: 0,
@@ -237,9 +203,9 @@ impl Relexing {
         }
     }
 
-    /// Returns whether `next` may be called with this text and this many old tokens. It may be after `begin` and after
-    /// `next`. The test is for numbers from elsewhere.
-    pub fn may_go_on(&self, text: &str, old_count: usize) -> bool
+    /// Returns whether relexing this text with this many old tokens can continue from this state. It can from each
+    /// state that `begin` and `next` leave.
+    fn may_go_on(&self, text: &str, old_count: usize) -> bool
         ensures { IsTrue result ↔ MayGoOn text.now old_count self.now }
     {
         text.is_char_boundary(self.at)
@@ -249,9 +215,9 @@ impl Relexing {
             && self.lexed <= self.at
     }
 
-    /// Returns whether lexing has met the old tokens, or no text is left. If the lengths are those of an old text,
-    /// then text runs out only when the old tokens are met.
-    pub fn is_over(&self, text: &str) -> bool
+    /// Returns whether lexing has met the old tokens, or no text is left. With the old tokens of the old text, lexing
+    /// meets them at the end of the text at the latest.
+    pub(crate) fn is_over(&self, text: &str) -> bool
         ensures over { result ≡ is_over text.now self.now }
         ensures met { (first : List ℕ → Token) (before lengths insert : List ℕ) (change : Change)
             → IsGrammar first → IsMadeOf first before lengths change insert text.now
@@ -261,19 +227,18 @@ impl Relexing {
         self.met || self.at == text.len()
     }
 
-    /// Lexes the next token and returns it, or `None` if the old tokens are met. `edited` is the one that was passed
-    /// to `begin`.
-    pub fn next<S: Stepper, T: Measured>(
+    /// Lexes and returns the next token, or returns `None` if lexing is over.
+    pub(crate) fn next<S: Stepper, T: Measured>(
         &mut self,
         stepper: &mut S,
-        edited: &Edited<'_, T>,
+        edited: &EditedText<'_, T>,
     ) -> Option<Token>
         requires is_text { IsText edited.now.text.now }
         requires change { IsChange edited.now.text.now edited.now.change }
-        requires may_go_on { MayGoOn edited.now.text.now (length edited.now.old.now) self.old }
+        requires may_go_on { MayGoOn edited.now.text.now (length edited.now.old_tokens.now) self.old }
 
         // It may go on, by the same grammar.
-        ensures may_go_on { MayGoOn edited.now.text.now (length edited.now.old.now) self.new }
+        ensures may_go_on { MayGoOn edited.now.text.now (length edited.now.old_tokens.now) self.new }
         ensures grammar { S.grammar stepper.new ≡ S.grammar stepper.old }
 
         // Which token was lexed; none only if lexing is over.
@@ -281,13 +246,15 @@ impl Relexing {
             ((self.new ≡ self.old) × (S.count stepper.new ≡ S.count stepper.old)
             × (is_over edited.now.text.now self.old ≡ true))
             (λ token. (token ≡ (S.grammar stepper.old).first (drop self.old.at edited.now.text.now))
-            × TakesSteps (S.grammar stepper.old).first edited.now.text.now edited.now.change.new_stop self.old 1 self.new
+            × TakesSteps (S.grammar stepper.old).first edited.now.text.now edited.now.change.new_stop
+            self.old 1 self.new
             × (S.count stepper.new ≡ S.count stepper.old + 1)
             × (is_over edited.now.text.now self.old ≡ false)) }
 
         // If the old tokens are those of an old text, it is the next token of the present one.
         ensures under_way { (before insert : List ℕ)
-            → IsMadeOf (S.grammar stepper.old).first before (map T.bytes edited.now.old.now) edited.now.change insert edited.now.text.now
+            → IsMadeOf (S.grammar stepper.old).first before (map T.bytes edited.now.old_tokens.now)
+            edited.now.change insert edited.now.text.now
             → IsUnderWay (S.grammar stepper.old).first before edited.now.change edited.now.text.now self.old
             → IsUnderWay (S.grammar stepper.old).first before edited.now.change edited.now.text.now self.new
             × MatchOption result (self.new.met ≡ true) (λ token.
@@ -299,7 +266,7 @@ impl Relexing {
         }
         let token = stepper.step(&edited.text[self.at..]);
         let at = self.at + token.len as usize;
-        let to = follow(edited.old, self.back, at, edited.damage());
+        let to = follow(edited.old_tokens, self.back, at, edited.damage());
         *self = Relexing {
             front: self.front,
             lexed: self.lexed + 1,
@@ -310,23 +277,19 @@ impl Relexing {
         Some(token)
     }
 
-    /// Writes the next tokens into the buffer: as many as there is room for, or up to where the old tokens are met.
-    /// Returns how many. The number is less than the length of the buffer only if `is_over` is true. `edited` is
-    /// the one that was passed to `begin`.
-    ///
-    /// They are the tokens that as many calls of `next` return.
-    pub fn fill<S: Stepper, T: Measured, R: FromToken>(
+    /// Writes the next tokens into the buffer, until it is full or lexing is over. Returns their number.
+    fn fill<S: Stepper, T: Measured, R: FromToken>(
         &mut self,
         stepper: &mut S,
-        edited: &Edited<'_, T>,
+        edited: &EditedText<'_, T>,
         buffer: &mut [R],
     ) -> usize
         requires is_text { IsText edited.now.text.now }
         requires change { IsChange edited.now.text.now edited.now.change }
-        requires may_go_on { MayGoOn edited.now.text.now (length edited.now.old.now) self.old }
+        requires may_go_on { MayGoOn edited.now.text.now (length edited.now.old_tokens.now) self.old }
 
         // It may go on, by the same grammar.
-        ensures may_go_on { MayGoOn edited.now.text.now (length edited.now.old.now) self.new }
+        ensures may_go_on { MayGoOn edited.now.text.now (length edited.now.old_tokens.now) self.new }
         ensures grammar { S.grammar stepper.new ≡ S.grammar stepper.old }
 
         // How many tokens were lexed, and which ones the buffer has.
@@ -344,8 +307,8 @@ impl Relexing {
         ensures over { result < length buffer.old → is_over edited.now.text.now self.new ≡ true }
 
         // If the old tokens are those of an old text, these are the next tokens of the present one.
-        ensures under_way { GoesOn (S.grammar stepper.old).first (map T.bytes edited.now.old.now) edited.now.text.now edited.now.change
-            self.old self.new }
+        ensures under_way { GoesOn (S.grammar stepper.old).first
+            (map T.bytes edited.now.old_tokens.now) edited.now.text.now edited.now.change self.old self.new }
     {
         let mut count = 0;
         'places: while count < buffer.len() {
@@ -358,20 +321,20 @@ impl Relexing {
         count
     }
 
-    /// Lexes many tokens at once, and writes them into the buffer: as many as there is room for, or up to the next
-    /// place where they may meet the old ones. Returns how many.
+    /// Lexes many tokens at once and writes them into the buffer, until it is full or up to the next offset at which
+    /// they can meet the old ones. Returns their number.
     pub(crate) fn block<S: Stepper, T: Measured, R: FromToken>(
         &mut self,
         stepper: &mut S,
-        edited: &Edited<'_, T>,
+        edited: &EditedText<'_, T>,
         buffer: &mut [R],
     ) -> usize
         requires is_text { IsText edited.now.text.now }
         requires change { IsChange edited.now.text.now edited.now.change }
-        requires may_go_on { MayGoOn edited.now.text.now (length edited.now.old.now) self.old }
+        requires may_go_on { MayGoOn edited.now.text.now (length edited.now.old_tokens.now) self.old }
         requires going { is_over edited.now.text.now self.old ≡ false }
         requires room { 0 < length buffer.old }
-        ensures may_go_on { MayGoOn edited.now.text.now (length edited.now.old.now) self.new }
+        ensures may_go_on { MayGoOn edited.now.text.now (length edited.now.old_tokens.now) self.new }
         ensures grammar { S.grammar stepper.new ≡ S.grammar stepper.old }
         ensures count { S.count stepper.new ≡ S.count stepper.old + result }
         ensures steps { TakesSteps (S.grammar stepper.old).first edited.now.text.now edited.now.change.new_stop
@@ -383,13 +346,13 @@ impl Relexing {
         ensures some { 0 < result }
         ensures ahead { self.old.at < self.new.at }
         ensures buffer { result ≤ length buffer.old }
-        ensures under_way { GoesOn (S.grammar stepper.old).first (map T.bytes edited.now.old.now) edited.now.text.now edited.now.change
-            self.old self.new }
+        ensures under_way { GoesOn (S.grammar stepper.old).first
+            (map T.bytes edited.now.old_tokens.now) edited.now.text.now edited.now.change self.old self.new }
     {
         let end = self.least_meeting(edited);
         let (count, bytes) = stepper.fill(&edited.text[self.at..], end - self.at, buffer);
         let at = self.at + bytes;
-        let to = follow(edited.old, self.back, at, edited.damage());
+        let to = follow(edited.old_tokens, self.back, at, edited.damage());
         *self = Relexing {
             front: self.front,
             lexed: self.lexed + count,
@@ -400,8 +363,8 @@ impl Relexing {
         count
     }
 
-    /// Returns an offset past `at`, and none between the two is one where the old tokens may be met.
-    fn least_meeting<T>(&self, edited: &Edited<'_, T>) -> usize
+    /// Returns an offset after `at`. Lexing cannot meet the old tokens between the two.
+    fn least_meeting<T>(&self, edited: &EditedText<'_, T>) -> usize
         requires fits { Fits edited.now.text.now }
         requires change { IsChange edited.now.text.now edited.now.change }
         requires inside { self.now.at < length edited.now.text.now }
@@ -428,8 +391,8 @@ impl Relexing {
         }
     }
 
-    /// Returns the counts of the edit, once the old tokens are met. `old_count` is how many tokens `begin` was passed.
-    pub fn counts(&self, old_count: usize) -> Relexed
+    /// Returns the counts of the edit, once lexing is over. There are `old_count` old tokens.
+    pub(crate) fn counts(&self, old_count: usize) -> Relexed
         requires number { self.now.back.index ≤ old_count }
         ensures counts { result
             ≡ record {
@@ -453,107 +416,150 @@ impl Relexing {
     }
 }
 
-/// Lexes again what an edit changed.
+/// Lexes the part of an edited text that the edit changed, from old tokens in a list of your own.
+///
+/// It reads only the lengths of the old tokens. If these are the tokens of the old text, and the change resulted in
+/// the current text, then the tokens and the counts are exact. Any other tokens are safe, but then the result has no
+/// meaning.
+///
+/// In plain Rust:
+///
+/// ```
+/// use rustc_lexer::incremental::{Change, Relex};
+/// use rustc_lexer::{FrontmatterAllowed, Steps, Token, TokenStart, tokenize};
+///
+/// let (old, new) = ("let ab = cd;", "let abc = cd;");
+/// let mut tokens: Vec<Token> = tokenize(old, FrontmatterAllowed::No).collect();
+/// // A `c` was inserted at 6.
+/// let change = Change { start: 6, old_stop: 6, new_stop: 7 };
+///
+/// let mut steps = Steps::new();
+/// let mut relex = Relex::begin(new, &tokens, change, TokenStart::default()).unwrap();
+/// let mut lexed = Vec::new();
+/// while let Some(token) = relex.next(&mut steps) {
+///     lexed.push(token);
+/// }
+/// let counts = relex.counts();
+/// let back = tokens.len() - counts.kept_back;
+/// tokens.splice(counts.kept_front..back, lexed);
+/// assert!(tokenize(new, FrontmatterAllowed::No).eq(tokens));
+/// assert_eq!((counts.kept_front, counts.lexed, counts.kept_back), (2, 1, 5));
+/// ```
 #[derive(Drop)]
-pub struct Relex<'a, T: Measured + Copy> {
-    text: &'a str,
-    tokens: &'a [T],
-    change: Change,
+pub struct Relex<'a, T: Measured> {
+    edited: EditedText<'a, T>,
     at: Relexing,
 }
 
-impl<'a, T: Measured + Copy> Model for Relex<'a, T> {
+impl<'a, T: Measured> Model for Relex<'a, T> {
     ghost use Rattle.std.specs.Prelude.{length, map};
     ghost use Rattle.rustc_lexer.specs.Classes.{IsText};
-    ghost use Rattle.rustc_lexer.specs.Relexing.{EditedText, IsChange, MayGoOn};
+    ghost use Rattle.rustc_lexer.specs.Relexing.{IsChange, MayGoOn, RelexModel};
 
-    ghost Value = { EditedText };
+    ghost Value = { RelexModel };
 
-    ghost view = { λ e. record {
-      text = e.text.now;
-      lengths = map T.bytes e.tokens.now;
-      change = e.change;
-      at = e.at;
+    ghost view = { λ r. record {
+      text = r.edited.text.now;
+      lengths = map T.bytes r.edited.old_tokens.now;
+      change = r.edited.change;
+      at = r.at;
     } };
 
-    ghost invariant = { λ e. IsText e.text.now × IsChange e.text.now e.change
-        × MayGoOn e.text.now (length e.tokens.now) e.at };
+    ghost invariant = { λ r. IsText r.edited.text.now × IsChange r.edited.text.now r.edited.change
+        × MayGoOn r.edited.text.now (length r.edited.old_tokens.now) r.at };
 }
 
-impl<'a, T: Measured + Copy> Relex<'a, T> {
-    /// Finds the kept front, or returns `None` if the text is too long or the change cannot have made it. The search begins
-    /// at `near`, which may be any boundary of the old tokens.
+impl<'a, T: Measured> Relex<'a, T> {
+    /// Finds the tokens that stay at the front. Returns `None` if the text has more than `u32::MAX` bytes or
+    /// [`Change::may_make`] is false.
+    ///
+    /// The search starts at `near`, which can be any boundary of the old tokens.
     pub fn begin(
         text: &'a str,
-        old: &'a [T],
+        old_tokens: &'a [T],
         change: Change,
         near: TokenStart,
     ) -> Option<Relex<'a, T>>
-        ensures none { result ≡ None → ¬ (Fits text.now × IsChange text.now change) }
-        ensures edited { IfSome result (λ r. (r.text ≡ text.now) × (r.lengths ≡ map T.bytes old.now)
-            × (r.change ≡ change)) }
-        ensures at { IfSome result (λ r. (r.at.lexed ≡ 0)
-            × ((first : List ℕ → Token) (before insert : List ℕ) → IsGrammar first
-            → IsMadeOf first before (map T.bytes old.now) change insert text.now
+        ensures none { result ≡ None ↔ ¬ (Fits text.now × IsChange text.now change) }
+        ensures edited { IfSome result (λ r. (r.text ≡ text.now)
+            × (r.lengths ≡ map T.bytes old_tokens.now) × (r.change ≡ change)) }
+        ensures lexed { IfSome result (λ r. r.at.lexed ≡ 0) }
+        ensures under_way { IfSome result (λ r. (first : List ℕ → Token) (before insert : List ℕ)
+            → IsGrammar first → IsMadeOf first before (map T.bytes old_tokens.now) change insert text.now
             → IsBound (tokens_by first before) near
-            → IsUnderWay first before change text.now r.at)) }
+            → IsUnderWay first before change text.now r.at) }
     {
         if text.len() > u32::MAX as usize || !change.may_make(text) {
             return None;
         }
-        let at = Relexing::begin(&Edited { text, old, change }, near);
-        Some(Relex {
+        let edited = EditedText {
             text,
-            tokens: old,
+            old_tokens,
             change,
-            at,
-        })
+        };
+        let at = Relexing::begin(&edited, near);
+        Some(Relex { edited, at })
     }
 
-    /// Goes on from a state that [`state`](Relex::state) returned, or returns `None` if no call left these numbers.
-    pub fn resume(text: &'a str, old: &'a [T], change: Change, at: Relexing) -> Option<Relex<'a, T>>
-        ensures none { result ≡ None
-            → ¬ (Fits text.now × IsChange text.now change × MayGoOn text.now (length old.now) at) }
+    /// Continues from a state that [`state`](Relex::state) returned, with the same text, old tokens and change.
+    /// Returns `None` if no call can have left such a state.
+    pub fn resume(
+        text: &'a str,
+        old_tokens: &'a [T],
+        change: Change,
+        state: Relexing,
+    ) -> Option<Relex<'a, T>>
+        ensures none { result ≡ None ↔ ¬ (Fits text.now × IsChange text.now change
+            × MayGoOn text.now (length old_tokens.now) state) }
         ensures some { IfSome result (λ r. r ≡ record {
           text = text.now;
-          lengths = map T.bytes old.now;
+          lengths = map T.bytes old_tokens.now;
           change = change;
-          at = at;
+          at = state;
         }) }
     {
         if text.len() > u32::MAX as usize
             || !change.may_make(text)
-            || !at.may_go_on(text, old.len())
+            || !state.may_go_on(text, old_tokens.len())
         {
             return None;
         }
-        Some(Relex {
+        let edited = EditedText {
             text,
-            tokens: old,
+            old_tokens,
             change,
-            at,
-        })
+        };
+        Some(Relex { edited, at: state })
     }
 
     /// Returns how far the text is lexed.
     pub fn state(&self) -> Relexing
-        ensures { result ≡ self.now.at }
+        ensures state { result ≡ self.now.at }
+        ensures may_go_on { MayGoOn self.now.text (length self.now.lengths) result }
     {
         self.at
     }
 
-    /// Returns whether lexing has met the old tokens, or no text is left.
+    /// Returns whether lexing has met the old tokens, or no text is left. With the old tokens of the old text, lexing
+    /// meets them at the end of the text at the latest.
     pub fn is_over(&self) -> bool
-        ensures { result ≡ is_over self.now.text self.now.at }
+        ensures over { result ≡ is_over self.now.text self.now.at }
+        ensures met { (first : List ℕ → Token) (before insert : List ℕ) → IsGrammar first
+            → IsMadeOf first before self.now.lengths self.now.change insert self.now.text
+            → IsUnderWay first before self.now.change self.now.text self.now.at
+            → result ≡ self.now.at.met }
     {
-        self.at.is_over(self.text)
+        self.at.is_over(self.edited.text)
     }
 
-    /// Lexes the next token and returns it, or `None` if the old tokens are met.
+    /// Lexes and returns the next token, or returns `None` if lexing is over.
     pub fn next<S: Stepper>(&mut self, stepper: &mut S) -> Option<Token>
+        // The text stays, and so does the grammar.
         ensures edited { (self.new.text ≡ self.old.text) × (self.new.lengths ≡ self.old.lengths)
             × (self.new.change ≡ self.old.change) }
         ensures grammar { S.grammar stepper.new ≡ S.grammar stepper.old }
+
+        // Which token was lexed; none only if lexing is over.
         ensures step { MatchOption result
             ((self.new ≡ self.old) × (S.count stepper.new ≡ S.count stepper.old)
             × (is_over self.old.text self.old.at ≡ true))
@@ -562,6 +568,8 @@ impl<'a, T: Measured + Copy> Relex<'a, T> {
             self.old.at 1 self.new.at
             × (S.count stepper.new ≡ S.count stepper.old + 1)
             × (is_over self.old.text self.old.at ≡ false)) }
+
+        // If the old tokens are those of an old text, it is the next token of the current one.
         ensures under_way { (before insert : List ℕ)
             → IsMadeOf (S.grammar stepper.old).first before self.old.lengths self.old.change insert
             self.old.text
@@ -571,20 +579,19 @@ impl<'a, T: Measured + Copy> Relex<'a, T> {
             drop (known self.old.at) (tokens_by (S.grammar stepper.old).first self.old.text)
             ≡ token ∷ drop (known self.new.at) (tokens_by (S.grammar stepper.old).first self.old.text)) }
     {
-        let edited = Edited {
-            text: self.text,
-            old: self.tokens,
-            change: self.change,
-        };
-        self.at.next(stepper, &edited)
+        self.at.next(stepper, &self.edited)
     }
 
-    /// Writes the next tokens into the buffer: as many as there is room for, or up to where the old tokens are met.
-    /// Returns how many.
+    /// Writes the next tokens into the buffer, until it is full or lexing is over. Returns their number.
+    ///
+    /// These are the tokens that the same number of calls of [`next`](Relex::next) would return.
     pub fn fill<S: Stepper, R: FromToken>(&mut self, stepper: &mut S, buffer: &mut [R]) -> usize
+        // The text stays, and so does the grammar.
         ensures edited { (self.new.text ≡ self.old.text) × (self.new.lengths ≡ self.old.lengths)
             × (self.new.change ≡ self.old.change) }
         ensures grammar { S.grammar stepper.new ≡ S.grammar stepper.old }
+
+        // How many tokens were lexed, and which ones the buffer has.
         ensures count { S.count stepper.new ≡ S.count stepper.old + result }
         ensures steps { TakesSteps (S.grammar stepper.old).first self.old.text self.old.change.new_stop
             self.old.at result self.new.at }
@@ -593,27 +600,32 @@ impl<'a, T: Measured + Copy> Relex<'a, T> {
             (tokens_by (S.grammar stepper.old).first (drop self.old.at.at self.old.text)))
             ++ drop result buffer.old }
         ensures buffer { result ≤ length buffer.old }
+
+        // It stops before the buffer is full only if lexing is over.
         ensures begins { 0 < result → is_over self.old.text self.old.at ≡ false }
         ensures over { result < length buffer.old → is_over self.old.text self.new.at ≡ true }
+
+        // If the old tokens are those of an old text, these are the next tokens of the current one.
         ensures under_way { GoesOn (S.grammar stepper.old).first self.old.lengths self.old.text
             self.old.change self.old.at self.new.at }
     {
-        let edited = Edited {
-            text: self.text,
-            old: self.tokens,
-            change: self.change,
-        };
-        self.at.fill(stepper, &edited, buffer)
+        self.at.fill(stepper, &self.edited, buffer)
     }
 
-    /// Returns the counts of the edit, once the old tokens are met.
+    /// Returns the counts of the edit, once lexing is over.
     pub fn counts(&self) -> Relexed
-        ensures { result ≡ record {
+        ensures counts { result ≡ record {
           kept_front = self.now.at.front.index;
           lexed = self.now.at.lexed;
           kept_back = length self.now.lengths - self.now.at.back.index;
         } }
+        ensures exact { (first : List ℕ → Token) (before insert : List ℕ) → IsGrammar first
+            → IsMadeOf first before self.now.lengths self.now.change insert self.now.text
+            → IsUnderWay first before self.now.change self.now.text self.now.at
+            → self.now.at.met ≡ true
+            → IsRelexed (part_by first) before self.now.change.start self.now.change.old_stop insert
+            result × IsWhole (tokens_by first before) (tokens_by first self.now.text) self.now.at }
     {
-        self.at.counts(self.tokens.len())
+        self.at.counts(self.edited.old_tokens.len())
     }
 }

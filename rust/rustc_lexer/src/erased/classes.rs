@@ -71,3 +71,9 @@ pub fn is_id_continue(c: char) -> bool {
 pub fn fits(text: &str) -> bool {
     text.len() <= u32::MAX as usize
 }
+
+/// Returns whether a word directly before the character is a prefix.
+#[inline(always)]
+pub(crate) fn ends_prefix(c: char) -> bool {
+    matches!(c, '#' | '"' | '\'')
+}

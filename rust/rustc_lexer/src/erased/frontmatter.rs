@@ -5,7 +5,7 @@ use crate::erased::classes::{
     is_horizontal_whitespace, is_id_continue, is_id_start, is_whitespace,
 };
 use crate::erased::edition::{Edition, token_in};
-use crate::erased::kernels::skip_apart;
+use crate::erased::kernels::{find_byte, skip_apart};
 use crate::erased::scan::{eat_while, eat_whitespace, next_is, split_first};
 use crate::erased::token::{FrontmatterAllowed, Token, TokenKind};
 use memchr::memchr;
@@ -29,8 +29,8 @@ pub(crate) fn token_at(text: &str, allowed: FrontmatterAllowed, edition: Edition
     }
 }
 
-/// Returns whether a frontmatter may be at the front of the text, as the token determines that is there otherwise: white
-/// space before three dashes, or the first of them.
+/// Returns whether a frontmatter may be at the front of the text, as the token determines that is there otherwise:
+/// white space before three dashes, or the first of them.
 #[inline(always)]
 fn may_open(text: &str, token: Token) -> bool {
     let start = match token.kind {
@@ -145,8 +145,8 @@ fn line_end(rest: &[u8], offset: usize) -> usize {
     }
 }
 
-/// Returns the first place of a byte and what follows it in the pattern. It searches for that byte. So it does not have
-/// to make a searcher, which would allocate on the heap.
+/// Returns the first place of a byte and what follows it in the pattern. It searches for that byte. So it does not
+/// have to make a searcher, which would allocate on the heap.
 fn find_pattern(rest: &[u8], first: u8, more: &[u8]) -> Option<usize> {
     let mut from = 0;
     while let Some(step) = find_start(first, more, &rest[from..]) {
@@ -174,13 +174,4 @@ fn skip_front(first: u8, more: &[u8], rest: &[u8]) -> usize {
         Some(third) => skip_apart(first, more[0], *third, rest),
         None => 0,
     }
-}
-
-/// Returns the first place of a byte. Mostly it is the next byte, and no search begins.
-#[inline]
-fn find_byte(byte: u8, rest: &[u8]) -> Option<usize> {
-    if rest.first() == Some(&byte) {
-        return Some(0);
-    }
-    memchr(byte, rest)
 }

@@ -1,6 +1,7 @@
 // Made by tools/erase from crates/rustc_lexer/src/kernels.rt: edit that file.
 //! Searches over bytes that look at 16 or 64 bytes at a time: where a run ends, and where a byte is.
 
+use crate::erased::classes::ends_prefix;
 use crate::support::simd::*;
 use memchr::{memchr, memchr2};
 
@@ -187,8 +188,8 @@ fn places(byte: u8, bytes: &[u8]) -> u64 {
         .to_bitmask()
 }
 
-/// Returns a number of bytes at the front among which the three do not stand together. It looks at 16 places at a time,
-/// and stops at such bytes, or where fewer are left.
+/// Returns a number of bytes at the front among which the three do not stand together. It looks at 16 places at a
+/// time, and stops at such bytes, or where fewer are left.
 pub(crate) fn skip_apart(one: u8, two: u8, three: u8, bytes: &[u8]) -> usize {
     let mut end = 0;
     while bytes.len() - end > 17 {
@@ -208,10 +209,16 @@ pub(crate) fn skip_apart(one: u8, two: u8, three: u8, bytes: &[u8]) -> usize {
 #[inline(always)]
 pub(crate) fn ends_word(bytes: &[u8], end: usize) -> bool {
     if end < bytes.len() {
-        bytes[end] < 128 && !matches!(bytes[end], b'#' | b'"' | b'\'')
+        !turns_word(bytes[end])
     } else {
         true
     }
+}
+
+/// Returns whether a word before the byte can be something other than an identifier.
+#[inline(always)]
+pub(crate) fn turns_word(byte: u8) -> bool {
+    byte >= 128 || ends_prefix(byte as char)
 }
 
 /// Returns whether there is no white space outside ASCII at `end`, as the first byte there determines.

@@ -1,5 +1,5 @@
 // Made by tools/erase from crates/rustc_lexer/src/relex.rt: edit that file.
-//! Texts that are kept with their tokens, and edits of them.
+//! Incremental lexing: texts with their tokens, and edits of them.
 mod body_change;
 mod checkpoints;
 mod common;
@@ -23,5 +23,5 @@ pub use front::{Measured, TokenStart, token_around};
 pub use joined::{JoinError, JoinedText, is_seam};
 pub use lexed::{Lexed, LexedDocument, LexedText};
 pub use pieces::{Piece, Pieces};
-pub use relexing::{Change, Edited, Relex, Relexed, Relexing};
+pub use relexing::{Change, Relex, Relexed, Relexing};
 pub use settle::{settled, settled_in};

@@ -1,5 +1,5 @@
 // Made by tools/erase from crates/rustc_lexer_c/src/buffer.rt: edit that file.
-//! A caller's buffer, which is written from its front on.
+//! A caller's buffer, which is filled from its start.
 
 use core::fmt;
 
@@ -10,14 +10,14 @@ pub(crate) struct Buffer<'a> {
 }
 
 impl<'a> Buffer<'a> {
-    /// Creates a buffer of which nothing is written.
+    /// Creates an empty buffer.
     pub(crate) fn new(bytes: &'a mut [u8]) -> Buffer<'a> {
         Buffer { bytes, len: 0 }
     }
 }
 
 impl<'a> fmt::Write for Buffer<'a> {
-    /// Appends a text to what is written, unless there is too little room for it.
+    /// Appends a text, or returns an error if there is too little room for it.
     fn write_str(&mut self, s: &str) -> fmt::Result {
         let bytes = s.as_bytes();
         if self.len > self.bytes.len() || bytes.len() > self.bytes.len() - self.len {

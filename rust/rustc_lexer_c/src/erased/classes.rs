@@ -1,12 +1,12 @@
 // Made by tools/erase from crates/rustc_lexer_c/src/classes.rt: edit that file.
-//! Classes of characters. A caller passes the code of a character.
+//! Classes of characters. A caller passes a character's code point.
 
 use crate::erased::status::{done, refuse, text_of};
 use rustc_lexer::erased::{
     is_horizontal_whitespace, is_id_continue, is_id_start, is_ident, is_whitespace,
 };
 
-/// Returns whether the character is white space in Rust. Returns false for a number that is not a character.
+/// Returns whether the character is whitespace in Rust. Returns false for a number that is not a character.
 pub fn rustc_lexer_is_whitespace(code: u32) -> bool {
     matches!(char::from_u32(code), Some(c) if is_whitespace(c))
 }

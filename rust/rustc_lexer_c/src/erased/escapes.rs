@@ -1,5 +1,5 @@
 // Made by tools/erase from crates/rustc_lexer_c/src/escapes.rt: edit that file.
-//! The units of a literal, and what is wrong in it.
+//! The units of a literal, and its errors and warnings.
 
 use crate::erased::status::{Refusal, done, refuse, text_of, utf8_text_of};
 use core::ops::Range;
@@ -17,7 +17,7 @@ const UNIT_ERROR: u32 = 3;
 
 const UNIT_WARNING: u32 = 4;
 
-/// A unit that a literal stands for, or an error or warning, and its place in bytes.
+/// A unit of a literal's value, or an error or warning, with its span in bytes.
 #[repr(C)]
 #[derive(Clone, Copy, Debug, PartialEq, Eq)]
 pub struct CUnit {
@@ -32,8 +32,8 @@ pub struct CUnit {
 /// Writes units of the text between the quotes of a literal into the buffer, as many as there is room for, and
 /// their number into `count`. Skips the first `passed` units.
 ///
-/// `mode` is the number of the literal's kind, 3 to 10. Between single quotes there is one unit, whose place is the
-/// whole text. Each call checks the whole text, and reads it from its front.
+/// `mode` is the number of the literal's kind, 3 to 10. Between single quotes there is one unit, whose span is the
+/// whole text. Each call checks the whole text and reads it from its start.
 pub fn rustc_lexer_unescape(
     text: &[u8],
     mode: u32,
@@ -47,7 +47,8 @@ pub fn rustc_lexer_unescape(
     }
 }
 
-/// Writes units of a text that `rustc_lexer_check` found to be UTF-8. Does not check it again.
+/// Does what `rustc_lexer_unescape` does, without checking again that the text is UTF-8. `rustc_lexer_check` must have
+/// accepted it.
 pub fn rustc_lexer_unescape_unchecked(
     text: &[u8],
     mode: u32,
@@ -66,9 +67,9 @@ pub fn rustc_lexer_unescape_unchecked(
 }
 
 /// Writes the errors and warnings of a literal in the same way as `rustc_lexer_unescape` writes its units. `text`
-/// is the text between the quotes. Skips what is not wrong. CR LF is a newline.
+/// is the text between the quotes. CRLF is one newline.
 ///
-/// Between single quotes there is at most one error. Its place goes from 0 to the end of the character that shows
+/// Between single quotes there is at most one error. Its span extends from 0 to the end of the character that causes
 /// it.
 pub fn rustc_lexer_literal_errors(
     text: &[u8],
@@ -83,7 +84,8 @@ pub fn rustc_lexer_literal_errors(
     }
 }
 
-/// Writes the errors and warnings of a text that `rustc_lexer_check` found to be UTF-8. Does not check it again.
+/// Does what `rustc_lexer_literal_errors` does, without checking again that the text is UTF-8. `rustc_lexer_check`
+/// must have accepted it.
 pub fn rustc_lexer_literal_errors_unchecked(
     text: &[u8],
     mode: u32,
@@ -119,7 +121,7 @@ fn mode_of(number: u32) -> Option<Mode> {
     }
 }
 
-/// Writes units in a mode. Returns how many it wrote.
+/// Writes units in a mode. Returns their number.
 fn fill_units(text: &str, mode: Mode, passed: usize, buffer: &mut [CUnit]) -> usize {
     match mode {
         Mode::Char | Mode::Byte => fill_one(single_unit(text, mode), passed, buffer),
@@ -132,16 +134,16 @@ fn fill_units(text: &str, mode: Mode, passed: usize, buffer: &mut [CUnit]) -> us
     }
 }
 
-/// Writes units of the text between double quotes. Returns how many it wrote.
+/// Writes units of the text between double quotes. Returns their number.
 ///
-/// It is inlined into each arm of its caller, so that the mode is known there.
+/// It is inlined into each arm of its caller, where the mode is a constant.
 #[inline(always)]
 fn fill_string(text: &str, mode: Mode, passed: usize, buffer: &mut [CUnit]) -> usize {
     let elements = elements_of(text, mode);
     fill_all(Meanings { elements, mode }, passed, buffer)
 }
 
-/// Writes the one unit, if it is not skipped and there is room. Returns how many units it wrote.
+/// Writes the only unit, if it is not skipped and there is room. Returns the number of units written.
 fn fill_one(unit: CUnit, passed: usize, buffer: &mut [CUnit]) -> usize {
     if passed > 0 || buffer.is_empty() {
         return 0;
@@ -173,7 +175,7 @@ trait Units {
     fn next_unit(&mut self) -> Option<CUnit>;
 }
 
-/// The units that elements stand for in a mode.
+/// The units of elements in a mode.
 struct Meanings<'a> {
     elements: Elements<'a>,
     mode: Mode,
@@ -187,7 +189,7 @@ impl<'a> Units for Meanings<'a> {
     }
 }
 
-/// The errors and warnings, and nothing else.
+/// Only the errors and warnings.
 impl<'a> Units for FaultsInFile<'a> {
     #[inline(always)]
     fn next_unit(&mut self) -> Option<CUnit> {
@@ -196,7 +198,7 @@ impl<'a> Units for FaultsInFile<'a> {
     }
 }
 
-/// Writes units, without the first ones, which it skips. Returns how many it wrote.
+/// Skips the first `passed` units and writes those that follow. Returns the number of units written.
 #[inline(always)]
 fn fill_all<U: Units>(mut units: U, passed: usize, buffer: &mut [CUnit]) -> usize {
     let mut over = 0;
@@ -217,7 +219,7 @@ fn fill_all<U: Units>(mut units: U, passed: usize, buffer: &mut [CUnit]) -> usiz
     count
 }
 
-/// Returns what an element between double quotes stands for, as numbers.
+/// Returns the value of an element between double quotes, as numbers.
 #[inline(always)]
 fn item_unit(mode: Mode, place: Range<usize>, element: Element) -> CUnit {
     match mode {
@@ -236,7 +238,7 @@ fn item_unit(mode: Mode, place: Range<usize>, element: Element) -> CUnit {
     }
 }
 
-/// Returns a unit of a kind by its number, or the error.
+/// Returns a unit of the kind, or the error.
 fn coded_unit(place: Range<usize>, kind: u32, meaning: Result<u32, EscapeError>) -> CUnit {
     match meaning {
         Ok(code) => unit_at(place, kind, code),
@@ -252,7 +254,7 @@ fn mixed_unit(place: Range<usize>, element: Element) -> CUnit {
     }
 }
 
-/// Returns a unit of a C string with which nothing is wrong, as numbers.
+/// Returns a valid unit of a C string as numbers.
 fn sound_unit(place: Range<usize>, element: Element) -> CUnit {
     match element {
         Element::Plain(c) => unit_at(place, UNIT_CHAR, c as u32),

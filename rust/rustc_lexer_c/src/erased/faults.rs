@@ -1,5 +1,5 @@
 // Made by tools/erase from crates/rustc_lexer_c/src/faults.rt: edit that file.
-//! The class and the fault of a token.
+//! The class and the error of a token.
 
 use crate::erased::relex::edition_of;
 use crate::erased::status::{Refusal, done, refuse, text_of};
@@ -7,7 +7,7 @@ use crate::erased::token::CToken;
 use marks::{Fault, class_of, fault_of};
 use rustc_lexer::erased::{Base, DocStyle, LiteralKind, TokenKind};
 
-/// Writes the number of the class of a token in the edition of a year, by its numbers and its text.
+/// Writes the number of a token's class in the edition of a year. The token is passed as its numbers and its text.
 pub fn rustc_lexer_class(text: &[u8], token: &CToken, edition: u32, number: &mut u32) -> u32 {
     let text = match text_of(text) {
         Ok(text) => text,
@@ -22,7 +22,7 @@ pub fn rustc_lexer_class(text: &[u8], token: &CToken, edition: u32, number: &mut
     }
 }
 
-/// Writes the number of the fault of a token, by its numbers and its text, or 0 if it has none.
+/// Writes the number of a token's error, or 0 if it has none. The token is passed as its numbers and its text.
 pub fn rustc_lexer_fault(text: &[u8], token: &CToken, number: &mut u32) -> u32 {
     match text_of(text) {
         Ok(text) => done(number_of(fault_of(kind_of(token), text)), number),
@@ -30,7 +30,7 @@ pub fn rustc_lexer_fault(text: &[u8], token: &CToken, number: &mut u32) -> u32 {
     }
 }
 
-/// Returns the number of a fault, or 0 if there is none.
+/// Returns the number of an error, or 0 if there is none.
 fn number_of(fault: Option<Fault>) -> u32 {
     match fault {
         Some(fault) => u32::from(fault.number()),
@@ -38,7 +38,7 @@ fn number_of(fault: Option<Fault>) -> u32 {
     }
 }
 
-/// Returns the kind with these numbers, as far as a class or a fault depends on it.
+/// Returns the kind with these numbers, as far as a class or an error depends on it.
 fn kind_of(token: &CToken) -> TokenKind {
     let (first, second) = (token.first != 0, token.second != 0);
     let doc_style = if first { Some(DocStyle::Outer) } else { None };
@@ -71,7 +71,7 @@ fn kind_of(token: &CToken) -> TokenKind {
     }
 }
 
-/// Returns the kind of literal with these numbers, as far as a class or a fault depends on it.
+/// Returns the kind of literal with these numbers, as far as a class or an error depends on it.
 fn literal_of(token: &CToken) -> LiteralKind {
     let base = base_of(token.second);
     let (terminated, empty) = (token.second != 0, token.third != 0);

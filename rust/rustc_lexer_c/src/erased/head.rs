@@ -1,5 +1,5 @@
 // Made by tools/erase from crates/rustc_lexer_c/src/head.rt: edit that file.
-//! The head of a document, and what an edit of the document changes in its body.
+//! The head of a document, and the change of its body by an edit of the document.
 
 use crate::erased::batch::NO_TOKEN;
 use crate::erased::relex::{CEdit, change_of};
@@ -7,26 +7,26 @@ use crate::erased::status::{OK, Refusal, text_of, utf8_text_of};
 use crate::erased::token::{CToken, token_numbers};
 use rustc_lexer::erased::{Change, Head, Token, TokenKind};
 
-/// The head of a document, which is the part before its body: a shebang line and a frontmatter.
+/// The head of a document: the shebang line and the frontmatter, which come before the body.
 #[repr(C)]
 #[derive(Clone, Copy, Debug, PartialEq, Eq)]
 pub struct CHead {
     /// The length of the shebang line in bytes, or 0.
     pub shebang_len: u32,
-    /// Where the body begins, in bytes from the start of the text.
+    /// The offset at which the body starts, in bytes.
     pub body: u32,
-    /// How many tokens come before the body: 0, 1 or 2.
+    /// The number of tokens before the body: 0, 1 or 2.
     pub count: u32,
-    /// These tokens. Behind them are zeros.
+    /// These tokens, followed by zeros.
     pub tokens: [CToken; 2],
 }
 
-/// Finds what an edit of a document changes in its body, and the head of the present text.
+/// Finds the head of the current text, and the change of the body by an edit of the document.
 ///
-/// Before the call `head` is the head of the text before the edit, as the call for the edit before left it. Zeros are
-/// the head of an empty text. Writes the present head there, into `body_edit` what changes in the body, by places from
-/// where the body begins, and into `head_kept` 1 if all tokens of the head stay, else 0. If the call is refused, it
-/// writes nothing.
+/// Before the call, `head` is the head of the text before the edit, as the call for the previous edit left it. Zeros
+/// are the head of an empty text. Writes the current head there. Writes the change of the body into `body_edit`, by
+/// offsets from the start of the body, and 1 into `head_kept` if all tokens of the head stay, else 0. If the call
+/// fails, it writes nothing.
 pub fn rustc_lexer_body_edit(
     text: &[u8],
     edit: &CEdit,
@@ -40,7 +40,8 @@ pub fn rustc_lexer_body_edit(
     }
 }
 
-/// Finds the same in a text that `rustc_lexer_check` found to be UTF-8. Does not check it again.
+/// Does what `rustc_lexer_body_edit` does, without checking again that the text is UTF-8. `rustc_lexer_check` must
+/// have accepted it.
 pub fn rustc_lexer_body_edit_unchecked(
     text: &[u8],
     edit: &CEdit,
@@ -67,7 +68,7 @@ pub fn rustc_lexer_body_edit_unchecked(
     OK
 }
 
-/// Returns the head that the numbers tell.
+/// Returns the head with these numbers.
 fn head_of(numbers: &CHead) -> Head {
     let [first, second] = numbers.tokens;
     let (space, front) = match numbers.count {
@@ -83,7 +84,7 @@ fn head_of(numbers: &CHead) -> Head {
     }
 }
 
-/// Returns the frontmatter that the numbers tell.
+/// Returns the frontmatter with these numbers.
 fn frontmatter_of(numbers: CToken) -> Token {
     Token {
         kind: TokenKind::Frontmatter {

@@ -1,5 +1,5 @@
 // Made by tools/erase from crates/rustc_lexer_c/src/marked.rt: edit that file.
-//! Writes the tokens of a text between marks.
+//! Writes highlighted tokens of a text.
 
 use crate::erased::buffer::Buffer;
 use crate::erased::relex::edition_of;
@@ -8,8 +8,8 @@ use core::fmt;
 use marks::{Format, write_first_tokens};
 use rustc_lexer::erased::Edition;
 
-/// Writes the first `count` tokens of a text in an edition at the front of the buffer, each between the marks of a
-/// format, or all tokens if it has fewer. Writes the number of bytes into `written`.
+/// Writes the first `count` tokens of a text in an edition to the start of the buffer, each between the marks of a
+/// format, or all tokens if there are fewer. Writes the number of bytes into `written`.
 ///
 /// If the buffer is too small, `written` is 0, and the contents of the buffer are unspecified.
 pub fn rustc_lexer_marks(
@@ -49,7 +49,7 @@ fn format_of(number: u32) -> Option<Format> {
     }
 }
 
-/// Writes marked tokens into a buffer of which nothing is written.
+/// Writes marked tokens into an empty buffer.
 fn fill(
     format: Format,
     edition: Edition,

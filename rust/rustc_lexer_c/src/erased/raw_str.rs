@@ -6,7 +6,7 @@ use rustc_lexer::erased::{
     Cursor, FrontmatterAllowed, GuardedStr, RawStrError, starts_raw, validate_raw_str,
 };
 
-/// The reason why a raw string is refused. A field that the error does not have is 0.
+/// The error of a raw string. A field that the error does not have is 0.
 #[repr(C)]
 #[derive(Clone, Copy, Debug, PartialEq, Eq)]
 pub struct CRawStrError {
@@ -14,13 +14,13 @@ pub struct CRawStrError {
     pub error: u32,
     /// For 1: the character.
     pub bad_char: u32,
-    /// For 2: how many hashes would close the string.
+    /// For 2: the number of hashes that would close the string.
     pub expected: u32,
-    /// For 2: the most hashes after a quote in it. For 3: how many there are.
+    /// For 2: the maximum number of hashes after a quote in it. For 3: their number.
     pub found: u32,
     /// For 2: whether there is an offset, 0 or 1.
     pub has_offset: u32,
-    /// For 2: where the first quote that `found` hashes follow ends, in bytes.
+    /// For 2: the end of the first quote that is followed by `found` hashes, in bytes.
     pub possible_terminator_offset: u32,
 }
 
@@ -30,7 +30,7 @@ pub struct CRawStrError {
 pub struct CGuardedStr {
     /// Whether there is one, 0 or 1.
     pub is_some: u32,
-    /// How many hashes come before it.
+    /// The number of hashes before it.
     pub n_hashes: u32,
     /// Whether a quote closes it, 0 or 1.
     pub terminated: u32,
@@ -38,8 +38,7 @@ pub struct CGuardedStr {
     pub token_len: u32,
 }
 
-/// Checks the raw string at the front of the text, and writes why it is refused. Its prefix has `prefix_len`
-/// characters.
+/// Checks the raw string at the start of the text, and writes its error. Its prefix has `prefix_len` characters.
 pub fn rustc_lexer_validate_raw_str(text: &[u8], prefix_len: u32, error: &mut CRawStrError) -> u32 {
     match text_of(text) {
         Ok(_) => rustc_lexer_validate_raw_str_unchecked(text, prefix_len, error),
@@ -47,8 +46,8 @@ pub fn rustc_lexer_validate_raw_str(text: &[u8], prefix_len: u32, error: &mut CR
     }
 }
 
-/// Checks the raw string of a text that `rustc_lexer_check` found to be UTF-8. Does not check the text again: it
-/// reads no more than the string.
+/// Does what `rustc_lexer_validate_raw_str` does, without checking again that the text is UTF-8. It reads no more
+/// than the string. `rustc_lexer_check` must have accepted the text.
 pub fn rustc_lexer_validate_raw_str_unchecked(
     text: &[u8],
     prefix_len: u32,
@@ -67,15 +66,15 @@ pub fn rustc_lexer_validate_raw_str_unchecked(
 /// Returns whether character number `prefix_len` of the text, counted from 1, is an `r`. The text is UTF-8, of any
 /// length.
 ///
-/// For a text of at most `u32::MAX` bytes this is false exactly when `rustc_lexer_validate_raw_str` returns 4. For
-/// a longer one that call returns 2, whatever this returns.
+/// For a text of at most `u32::MAX` bytes this is false exactly if `rustc_lexer_validate_raw_str` returns 4. For a
+/// longer one that call always returns 2.
 pub fn rustc_lexer_starts_raw_unchecked(text: &[u8], prefix_len: u32) -> bool {
     // The caller promises that the bytes are UTF-8.
     starts_raw(unsafe { core::str::from_utf8_unchecked(text) }, prefix_len)
 }
 
-/// Writes the guarded string at the front of the text, or zeros if there is none. Hashes at the front are then part
-/// of the next token.
+/// Writes the guarded string at the start of the text, or zeros if there is none. Hashes at the start are then part of
+/// the next token.
 pub fn rustc_lexer_guarded_str(text: &[u8], string: &mut CGuardedStr) -> u32 {
     match text_of(text) {
         Ok(_) => rustc_lexer_guarded_str_unchecked(text, string),
@@ -83,8 +82,8 @@ pub fn rustc_lexer_guarded_str(text: &[u8], string: &mut CGuardedStr) -> u32 {
     }
 }
 
-/// Writes the guarded string of a text that `rustc_lexer_check` found to be UTF-8. Does not check the text again:
-/// it reads no more than the string.
+/// Does what `rustc_lexer_guarded_str` does, without checking again that the text is UTF-8. It reads no more than the
+/// string. `rustc_lexer_check` must have accepted the text.
 pub fn rustc_lexer_guarded_str_unchecked(text: &[u8], string: &mut CGuardedStr) -> u32 {
     match utf8_text_of(text) {
         Ok(text) => {

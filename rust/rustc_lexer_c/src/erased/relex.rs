@@ -1,12 +1,12 @@
 // Made by tools/erase from crates/rustc_lexer_c/src/relex.rt: edit that file.
-//! Lexes an edited text again, from its old tokens.
+//! Relexing: lexes only the part of an edited text that the edit changed.
 
 use crate::erased::status::{OK, Refusal, refuse, text_of, utf8_text_of};
 use crate::erased::token::CToken;
-use rustc_lexer::erased::{Change, Edited, Edition, Measured, Relexing, Steps, TokenStart};
+use rustc_lexer::erased::{Change, Edition, Measured, Relex, Relexing, Steps, TokenStart};
 
-/// An edit that was made, by its places in bytes. It took out what was from `start` up to `old_stop` in the old
-/// text, and put in what is from `start` up to `new_stop` in the present text.
+/// An applied edit, by its offsets in bytes. It replaced the bytes from `start` up to `old_stop` of the old text with
+/// those from `start` up to `new_stop` of the current text.
 #[repr(C)]
 #[derive(Clone, Copy, Debug, PartialEq, Eq)]
 pub struct CEdit {
@@ -15,29 +15,29 @@ pub struct CEdit {
     pub new_stop: u32,
 }
 
-/// The stages of lexing an edited text again: before the first call, while tokens are left to write, and after the last.
+/// The stages of relexing: before the first call, while tokens are left to write, and after the last one.
 const STAGE_BEGIN: usize = 0;
 
 const STAGE_MORE: usize = 1;
 
 const STAGE_DONE: usize = 2;
 
-/// How far an edited text has been lexed again.
+/// How far an edited text has been relexed.
 #[repr(C)]
 #[derive(Clone, Copy, Debug, PartialEq, Eq)]
 pub struct CRelexing {
-    /// How many old tokens stay at the front. At stage 0: the number of any bound of the old tokens, where the
-    /// search for the front begins.
+    /// The number of old tokens that stay at the front. At stage 0: the index of any token boundary of the old text,
+    /// at which the search for the front starts.
     pub kept_front: usize,
-    /// Where the tokens at the front end, in bytes.
+    /// The offset at which the tokens at the front end, in bytes.
     pub front_offset: usize,
-    /// How many tokens all calls have written.
+    /// The number of tokens that all calls have written.
     pub lexed: usize,
-    /// How many old tokens stay at the back, at stage 2.
+    /// The number of old tokens that stay at the back, at stage 2.
     pub kept_back: usize,
-    /// Where the tokens at the back begin in the old text.
+    /// The offset in the old text at which the tokens at the back start.
     pub back_offset: usize,
-    /// Where the tokens that were written end in the present text. At stage 2 those at the back begin there.
+    /// The offset in the current text at which the written tokens end. At stage 2 the tokens at the back start there.
     pub at: usize,
     /// 0 before the first call, 1 if there are more tokens to write, 2 if there are none.
     pub stage: usize,
@@ -49,12 +49,12 @@ impl Measured for CToken {
     }
 }
 
-/// Writes the tokens of the present text that an edit makes necessary into the buffer, as many as there is room
-/// for, and their number into `count`. They come between the old tokens that stay at the front and those that stay
-/// at the back.
+/// Lexes the part of the current text that an edit changed. Writes its tokens into the buffer, as many as there is
+/// room for, and their number into `count`. They come between the old tokens that stay at the front and those that
+/// stay at the back.
 ///
-/// `old` has the tokens of the text before the edit, of which it reads only the lengths. Any other tokens may be
-/// passed too, but then the answer means nothing.
+/// `old` has the tokens of the text before the edit, of which only the lengths are read. Any other tokens are safe,
+/// but then the result has no meaning.
 pub fn rustc_lexer_relex(
     text: &[u8],
     old: &[CToken],
@@ -65,13 +65,13 @@ pub fn rustc_lexer_relex(
     count: &mut usize,
 ) -> u32 {
     match text_of(text) {
-        Ok(text) => relex(text, old, edit, edition, relexing, buffer, count),
+        Ok(_) => rustc_lexer_relex_unchecked(text, old, edit, edition, relexing, buffer, count),
         Err(refusal) => refuse(refusal, 0, count),
     }
 }
 
-/// Relexes a text that `rustc_lexer_check` found to be UTF-8. Does not check it again. Otherwise it does what
-/// `rustc_lexer_relex` does.
+/// Does what `rustc_lexer_relex` does, without checking again that the text is UTF-8. `rustc_lexer_check` must have
+/// accepted it.
 pub fn rustc_lexer_relex_unchecked(
     text: &[u8],
     old: &[CToken],
@@ -81,35 +81,18 @@ pub fn rustc_lexer_relex_unchecked(
     buffer: &mut [CToken],
     count: &mut usize,
 ) -> u32 {
-    match utf8_text_of(text) {
-        Ok(text) => relex(text, old, edit, edition, relexing, buffer, count),
-        Err(refusal) => refuse(refusal, 0, count),
-    }
-}
-
-/// Relexes a text.
-fn relex(
-    text: &str,
-    old: &[CToken],
-    edit: &CEdit,
-    edition: u32,
-    relexing: &mut CRelexing,
-    buffer: &mut [CToken],
-    count: &mut usize,
-) -> u32 {
+    let text = match utf8_text_of(text) {
+        Ok(text) => text,
+        Err(refusal) => return refuse(refusal, 0, count),
+    };
     let Some(edition) = edition_of(edition) else {
         return refuse(Refusal::BadEdition, 0, count);
     };
-    let change = change_of(edit);
-    if !change.may_make(text) {
-        return refuse(Refusal::BadEdit, 0, count);
-    }
-    let edited = Edited { text, old, change };
-    let Some(mut at) = standing(&edited, relexing) else {
+    let Some(mut relex) = relex_at(text, old, change_of(edit), relexing) else {
         return refuse(Refusal::BadEdit, 0, count);
     };
-    *count = at.fill(&mut Steps::new_in(edition), &edited, buffer);
-    *relexing = relexing_numbers(&at, text, old.len());
+    *count = relex.fill(&mut Steps::new_in(edition), buffer);
+    *relexing = relexing_numbers(&relex);
     OK
 }
 
@@ -118,7 +101,7 @@ pub(crate) fn edition_of(year: u32) -> Option<Edition> {
     Edition::try_from(u16::try_from(year).ok()?).ok()
 }
 
-/// Returns what the edit changed.
+/// Returns the change that the edit made.
 pub(crate) fn change_of(edit: &CEdit) -> Change {
     Change {
         start: edit.start as usize,
@@ -127,41 +110,59 @@ pub(crate) fn change_of(edit: &CEdit) -> Change {
     }
 }
 
-/// Returns where to begin or to go on, or `None` if no call left these numbers.
-fn standing(edited: &Edited<'_, CToken>, relexing: &CRelexing) -> Option<Relexing> {
-    let front = TokenStart {
+/// Starts or resumes relexing, or returns `None` if the change cannot have resulted in the text, or no call can have
+/// left these numbers.
+fn relex_at<'a>(
+    text: &'a str,
+    old: &'a [CToken],
+    change: Change,
+    relexing: &CRelexing,
+) -> Option<Relex<'a, CToken>> {
+    if relexing.stage == STAGE_BEGIN {
+        return Relex::begin(text, old, change, front_of(relexing));
+    }
+    let Some(state) = state_of(relexing, old.len()) else {
+        return None;
+    };
+    Relex::resume(text, old, change, state)
+}
+
+/// Returns the token boundary in the fields for the front.
+fn front_of(relexing: &CRelexing) -> TokenStart {
+    TokenStart {
         index: relexing.kept_front,
         offset: relexing.front_offset,
-    };
-    if relexing.stage == STAGE_BEGIN {
-        return Some(Relexing::begin(edited, front));
     }
-    if relexing.kept_back > edited.old.len() {
+}
+
+/// Returns the state that the numbers stand for, or `None` if there are fewer old tokens than stay at the back.
+fn state_of(relexing: &CRelexing, old_count: usize) -> Option<Relexing> {
+    if relexing.kept_back > old_count {
         return None;
     }
-    let at = Relexing {
-        front,
+    Some(Relexing {
+        front: front_of(relexing),
         lexed: relexing.lexed,
         back: TokenStart {
-            index: edited.old.len() - relexing.kept_back,
+            index: old_count - relexing.kept_back,
             offset: relexing.back_offset,
         },
         at: relexing.at,
         met: relexing.stage == STAGE_DONE,
-    };
-    at.may_go_on(edited.text, edited.old.len()).then_some(at)
+    })
 }
 
 /// Returns how far the text is relexed, as numbers.
-fn relexing_numbers(at: &Relexing, text: &str, old_count: usize) -> CRelexing {
+fn relexing_numbers(relex: &Relex<'_, CToken>) -> CRelexing {
+    let state = relex.state();
     CRelexing {
-        kept_front: at.front.index,
-        front_offset: at.front.offset,
-        lexed: at.lexed,
-        kept_back: old_count - at.back.index,
-        back_offset: at.back.offset,
-        at: at.at,
-        stage: if at.is_over(text) {
+        kept_front: state.front.index,
+        front_offset: state.front.offset,
+        lexed: state.lexed,
+        kept_back: relex.counts().kept_back,
+        back_offset: state.back.offset,
+        at: state.at,
+        stage: if relex.is_over() {
             STAGE_DONE
         } else {
             STAGE_MORE

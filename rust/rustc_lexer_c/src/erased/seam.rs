@@ -1,12 +1,12 @@
 // Made by tools/erase from crates/rustc_lexer_c/src/seam.rt: edit that file.
-//! Whether the parts of a text may touch.
+//! Whether two pieces of a text can touch without changing their tokens.
 
 use crate::erased::relex::edition_of;
 use crate::erased::status::{Refusal, done, refuse, text_of};
 use rustc_lexer::erased::is_seam;
 
-/// Writes whether the tokens of a text in an edition are those of its part before `at`, and then those of its part after
-/// `at`.
+/// Writes whether the tokens of a text in an edition are those of the text before `at`, followed by those of the text
+/// after `at`.
 pub fn rustc_lexer_is_seam(text: &[u8], at: usize, edition: u32, is: &mut u32) -> u32 {
     let text = match text_of(text) {
         Ok(text) => text,

@@ -1,13 +1,13 @@
 // Made by tools/erase from crates/rustc_lexer_c/src/splice.rt: edit that file.
-//! Puts the tokens of an edit into a caller's list.
+//! Splices the tokens of an edit into a caller's list.
 
 use crate::erased::status::{Refusal, done};
 use crate::erased::token::CToken;
 
-/// Puts `lexed` in place of the tokens between the first `kept_front` and the last `kept_back` of a list, and writes
-/// how many it then has into `count`. The list has the first `count` places of the buffer.
+/// Replaces the tokens between the first `kept_front` and the last `kept_back` of a list with `lexed`, and writes the
+/// new number of tokens into `count`. The list is at the start of the buffer and has `count` tokens.
 ///
-/// If the two are more than its tokens, or the buffer has too few places, nothing is written.
+/// If it has fewer tokens than the two together, or the buffer is too small, nothing is written.
 pub fn rustc_lexer_splice(
     buffer: &mut [CToken],
     count: &mut usize,

@@ -1,23 +1,23 @@
 // Made by tools/erase from crates/rustc_lexer_c/src/status.rt: edit that file.
-//! The statuses of calls, and the checks that give them.
+//! The statuses of calls, and the checks that return them.
 
 /// The status of a call that succeeded.
 pub(crate) const OK: u32 = 0;
 
-/// The reason why a call is refused. A refused call changes nothing, except where its description says so.
+/// The reason why a call fails. A failed call changes nothing, unless its description says so.
 #[derive(Clone, Copy)]
 pub(crate) enum Refusal {
     /// The bytes are not UTF-8.
     NotUtf8 = 1,
     /// The text has more than `u32::MAX` bytes.
     TooLong = 2,
-    /// The place is past the end of the text, or inside a character.
+    /// The offset is after the end of the text, or inside a character.
     BadPlace = 3,
-    /// No raw string begins at the front of the text.
+    /// No raw string begins at the start of the text.
     NotRaw = 4,
     /// No edition has the year.
     BadEdition = 5,
-    /// The edit cannot have made the text, or relexing cannot go on from the numbers.
+    /// The edit cannot have resulted in the text, or relexing cannot continue from the numbers.
     BadEdit = 6,
     /// No literal has the mode.
     BadMode = 7,
@@ -34,19 +34,19 @@ impl Refusal {
     }
 }
 
-/// Writes an answer, and returns the status of success.
+/// Writes a result, and returns the status of success.
 pub(crate) fn done<T: Copy>(answer: T, written: &mut T) -> u32 {
     *written = answer;
     OK
 }
 
-/// Writes the value for no answer, and returns the status of the refusal.
+/// Writes the value for no result, and returns the status of the failure.
 pub(crate) fn refuse<T: Copy>(refusal: Refusal, none: T, written: &mut T) -> u32 {
     *written = none;
     refusal.number()
 }
 
-/// Returns the bytes as a text that can be lexed, or why it cannot be.
+/// Returns the bytes as a text that can be lexed, or the reason why they cannot be lexed.
 pub(crate) fn text_of(bytes: &[u8]) -> Result<&str, Refusal> {
     if bytes.len() > u32::MAX as usize {
         return Err(Refusal::TooLong);
@@ -54,8 +54,8 @@ pub(crate) fn text_of(bytes: &[u8]) -> Result<&str, Refusal> {
     core::str::from_utf8(bytes).map_err(|_| Refusal::NotUtf8)
 }
 
-/// Returns bytes that are UTF-8 as a text that can be lexed, or why it cannot be. Does not check that they are
-/// UTF-8.
+/// Returns bytes that are UTF-8 as a text that can be lexed, or the reason why they cannot be lexed. Does not check
+/// that they are UTF-8.
 pub(crate) fn utf8_text_of(bytes: &[u8]) -> Result<&str, Refusal> {
     if bytes.len() > u32::MAX as usize {
         return Err(Refusal::TooLong);

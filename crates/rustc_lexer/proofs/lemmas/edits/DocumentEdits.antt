@@ -8,7 +8,7 @@ use Rattle.rustc_lexer.specs.declared.relex.{checkpoints.Checkpoints.{Checkpoint
 use Rattle.rustc_lexer.specs.declared.head.Head.{Head}
 use Rattle.rustc_lexer.specs.{declared.relex.relexing.{Change.Change, Relexed.Relexed, Relexing.Relexing}, Token}
 use Rattle.rustc_lexer.specs.means.Document.{body_change, body_insert, counted, IsHeadIn, IsPut, tokens_of_head, AreKeptOf, TakesFew, edit_change, text_left}
-use Rattle.rustc_lexer.specs.{Partition.{Layout, tokens_in}, Kept.{AreKept, Held, IsCounted, IsEdited, layout_in}}
+use Rattle.rustc_lexer.specs.{Partition.{Layout, tokens_in}, Kept.{AreKept, Held, HasStepCount, IsEdited, layout_in}}
 use Rattle.rustc_lexer.specs.{Offsets.{IsBound}, Relexing.{IsMadeOf, known, IsEditOf}, Locality.{IsGrammar}}
 use Rattle.rustc_lexer.specs.{Tokens.{tokens_by}, means.Checkpoints.{AreBounds, IsMovable, IsReplaced, end_of}}
 use Rattle.rustc_lexer.specs.means.Relexing.{IsLexed, kept_front}
@@ -198,7 +198,7 @@ refused {layout = layout} (Err e) err scratch left_is now_is = record {
 
 pub counted_refused : {E : Type 0} {layout : List ℕ → Layout} {text insert : List ℕ} {start stop before after : ℕ} (r : Result Relexed E)
     → IsErr r → before ≤ after → TakesFew layout text start stop insert before after
-    → IsCounted layout text start stop insert r before after
+    → HasStepCount layout text start stop insert r before after
 counted_refused (Ok x) err rose few = absurd (true≢false (sym err))
 counted_refused (Err e) err rose few = record { count = search rules; rose = rose; few = few }
 
@@ -216,6 +216,6 @@ made_as is = record {
 }
 
 pub counted_as : {A B : Type 0} {layout : List ℕ → Layout} {text insert : List ℕ} {start stop before after : ℕ} {r : Relexed}
-    → IsCounted {E = A} layout text start stop insert (Ok r) before after
-    → IsCounted {E = B} layout text start stop insert (Ok r) before after
+    → HasStepCount {E = A} layout text start stop insert (Ok r) before after
+    → HasStepCount {E = B} layout text start stop insert (Ok r) before after
 counted_as is = record { count = is.count; rose = is.rose; few = search rules }

@@ -7,7 +7,7 @@ use Rattle.rustc_lexer.specs.{Token, laws.Reach.{cut}, declared.relex.edit.Edit.
 use Rattle.rustc_lexer.specs.declared.relex.edit_list.EditStop.{EditStop, TheVariants.{Memory}}
 use Rattle.rustc_lexer.specs.declared.relex.relexing.Relexed.{Relexed}
 use Rattle.rustc_lexer.specs.Edits.{IsEdit, IsRelexed, applied, apply, apply_list, count_after, AreEdits, AreRelexed, AreStepped, IsGreatest, IsRefusedOn, IsStop, IsStopStepped, stop_at}
-use Rattle.rustc_lexer.specs.{Kept.{AreCounted, AreKept, AreKeptThrough, AreMade, Held, IsCounted, IsEdited}, Partition.{Layout, tokens_in}}
+use Rattle.rustc_lexer.specs.{Kept.{HaveStepCounts, AreKept, AreKeptThrough, AreMade, Held, HasStepCount, IsEdited}, Partition.{Layout, tokens_in}}
 use Rattle.rustc_lexer.specs.means.EditList.{AreLeast, StayAtEnds, AreKeptTo, AreMadeTo}
 use Rattle.rustc_lexer.specs.declared.relex.lexed.edits.Made.{Made}
 
@@ -178,7 +178,7 @@ module _ {S : Type 0} {layout : List ℕ → Layout} {old mid : Held S} {edits :
     -- the steps of one more edit
     pub counted_more : {X : Type 0} {r : Relexed} (before between after : ℕ) (next : Made) → next.count ≡ at + 1
         → IsRelexed layout mid.text edit.start edit.stop edit.insert.now r
-        → IsCounted {E = X} layout mid.text edit.start edit.stop edit.insert.now (Ok r) between after
+        → HasStepCount {E = X} layout mid.text edit.start edit.stop edit.insert.now (Ok r) between after
         → AreStepped layout old.text (take at edits) before between
         → AreStepped layout old.text (take next.count edits) before after
     counted_more {X} {r} before between after next count_is relexed i are =
@@ -207,9 +207,9 @@ module _ {S : Type 0} {layout : List ℕ → Layout} {old mid : Held S} {edits :
         i.from_scratch
 
     pub counted_refused : {X T : Type 0} {x : X} (before between after : ℕ)
-        → IsCounted {E = X} layout mid.text edit.start edit.stop edit.insert.now (Err x) between after
+        → HasStepCount {E = X} layout mid.text edit.start edit.stop edit.insert.now (Err x) between after
         → AreStepped layout old.text (take at edits) before between
-        → AreCounted {T = T} layout old.text edits (Err (Memory at)) before after
+        → HaveStepCounts {T = T} layout old.text edits (Err (Memory at)) before after
     counted_refused {X} {T} {x} before between after i are = record {
       count = tt;
       stop_count = stop-stepped layout old.text mid.text edits at before between after few m.text are i.rose i.few;

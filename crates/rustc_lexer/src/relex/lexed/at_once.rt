@@ -7,7 +7,7 @@ ghost use Rattle.rustc_lexer.specs.Edits.{AreAtOnce, AreInOrder, IsStopAtOnce, a
 ghost use Rattle.rustc_lexer.specs.Edits.{with_all};
 ghost use Rattle.rustc_lexer.specs.Classes.{Fits};
 ghost use Rattle.rustc_lexer.specs.means.Document.{edit_change};
-ghost use Rattle.rustc_lexer.specs.Kept.{IsCounted, IsEdited, layout_in};
+ghost use Rattle.rustc_lexer.specs.Kept.{HasStepCount, IsEdited, layout_in};
 
 use crate::entry::stepper::Stepper;
 use crate::head::Extent;
@@ -21,10 +21,10 @@ use std::alloc::{AllocError, Global};
 impl<S: Stepper, E: Extent> Lexed<S, E> {
     /// Makes the edits at once. All have offsets of the present text, are in order, and do not overlap, but may touch.
     ///
-    /// The text is then what they make one by one, from the last to the first. It is one [edit](Lexed::edit), from where the
-    /// first begins to where the last ends, and returns its counts. An empty list keeps all at the front. `Err` names the
-    /// first that is out of bounds, cuts a character or begins before the one in front of it ends; or the last, if the text
-    /// would be too long or memory is refused. Text and tokens then stay.
+    /// The text is then what they make one by one, from the last to the first. It is one [edit](Lexed::edit), from
+    /// where the first begins to where the last ends, and returns its counts. An empty list keeps all at the front.
+    /// `Err` names the first that is out of bounds, cuts a character or begins before the one in front of it ends; or
+    /// the last, if the text would be too long or memory is refused. Text and tokens then stay.
     pub fn edit_at_once(&mut self, edits: &[Edit<'_>]) -> Result<Relexed, EditStop>
         ensures accepted { OnOk result (AreAtOnce self.old.text edits.now) }
         ensures none { edits.now ≡ []
@@ -35,7 +35,7 @@ impl<S: Stepper, E: Extent> Lexed<S, E> {
             (with_all self.old.text (start_of_first edits.now) edits.now) result self.new }
         ensures grammar { S.grammar self.new.stepper ≡ S.grammar self.old.stepper }
         ensures count { (edits.now ≡ [] → ⊥) → AreAtOnce self.old.text edits.now
-            → IsCounted {E = EditStop} (layout_in E.whole (S.grammar self.old.stepper).first) self.old.text
+            → HasStepCount {E = EditStop} (layout_in E.whole (S.grammar self.old.stepper).first) self.old.text
             (start_of_first edits.now) (stop_of_last 0 edits.now)
             (with_all self.old.text (start_of_first edits.now) edits.now) result
             (S.count self.old.stepper) (S.count self.new.stepper) }

@@ -1,7 +1,7 @@
 //! Several edits of a kept text, one after another.
 ghost use Rattle.std.specs.Prelude.{◌≡◌, ◌+◌, ◌-◌, ◌^◌, ◌<◌, ◌≤◌, IfErr, IfOk, OnOk, length, min, take};
 ghost use Rattle.rustc_lexer.specs.Edits.{stop_at};
-ghost use Rattle.rustc_lexer.specs.Kept.{AreCounted, AreKeptThrough, AreMade, layout_in, reason};
+ghost use Rattle.rustc_lexer.specs.Kept.{HaveStepCounts, AreKeptThrough, AreMade, layout_in, reason};
 ghost use Rattle.rustc_lexer.specs.Partition.{tokens_in};
 ghost use Rattle.rustc_lexer.specs.means.EditList.{AreKeptTo};
 
@@ -59,7 +59,7 @@ impl<S: Stepper, E: Extent> Lexed<S, E> {
         ensures made { AreMade (layout_in E.whole (S.grammar self.old.stepper).first) self.old edits.now
             result self.new }
         ensures grammar { S.grammar self.new.stepper ≡ S.grammar self.old.stepper }
-        ensures count { AreCounted (layout_in E.whole (S.grammar self.old.stepper).first) self.old.text
+        ensures count { HaveStepCounts (layout_in E.whole (S.grammar self.old.stepper).first) self.old.text
             edits.now result (S.count self.old.stepper) (S.count self.new.stepper) }
     {
         match self.edit_each(edits) {
@@ -68,14 +68,14 @@ impl<S: Stepper, E: Extent> Lexed<S, E> {
         }
     }
 
-    /// Makes the edits as [`edit_all`](Lexed::edit_all) does. Returns how many tokens all of them kept at the front and at
-    /// the back, and how many are now between these. An empty list keeps all at the front. `Err` also says what the edits
-    /// before the refused one kept.
+    /// Makes the edits as [`edit_all`](Lexed::edit_all) does. Returns how many tokens all of them kept at the front
+    /// and at the back, and how many are now between these. An empty list keeps all at the front. `Err` also says
+    /// what the edits before the refused one kept.
     pub fn edit_each(&mut self, edits: &[Edit<'_>]) -> Result<Relexed, Stopped>
         ensures made { AreMade (layout_in E.whole (S.grammar self.old.stepper).first) self.old edits.now
             (reason result) self.new }
         ensures grammar { S.grammar self.new.stepper ≡ S.grammar self.old.stepper }
-        ensures count { AreCounted (layout_in E.whole (S.grammar self.old.stepper).first) self.old.text
+        ensures count { HaveStepCounts (layout_in E.whole (S.grammar self.old.stepper).first) self.old.text
             edits.now (reason result) (S.count self.old.stepper) (S.count self.new.stepper) }
         ensures kept { IfOk result (AreKeptThrough (layout_in E.whole (S.grammar self.old.stepper).first)
             self.old edits.now self.new) }
@@ -109,7 +109,7 @@ impl<S: Stepper, E: Extent> Lexed<S, E> {
         ensures made { AreMade (layout_in E.whole (S.grammar self.old.stepper).first) self.old edits.now
             result self.new }
         ensures grammar { S.grammar self.new.stepper ≡ S.grammar self.old.stepper }
-        ensures count { AreCounted (layout_in E.whole (S.grammar self.old.stepper).first) self.old.text
+        ensures count { HaveStepCounts (layout_in E.whole (S.grammar self.old.stepper).first) self.old.text
             edits.now result (S.count self.old.stepper) (S.count self.new.stepper) }
         ensures kept { AreKeptTo (layout_in E.whole (S.grammar self.old.stepper).first) self.old edits.now
             made.new self.new }

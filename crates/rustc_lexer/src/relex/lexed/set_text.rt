@@ -2,7 +2,7 @@
 ghost use Rattle.std.specs.Prelude.{◌≡◌, List, Ok, OnOk, ℕ, length};
 ghost use Rattle.rustc_lexer.specs.Classes.{Fits};
 ghost use Rattle.rustc_lexer.specs.Edits.{IsNarrowest, all_stay};
-ghost use Rattle.rustc_lexer.specs.Kept.{IsCounted, IsEdited, layout_in};
+ghost use Rattle.rustc_lexer.specs.Kept.{HasStepCount, IsEdited, layout_in};
 
 use crate::entry::stepper::Stepper;
 use crate::head::Extent;
@@ -15,8 +15,8 @@ impl<S: Stepper, E: Extent> Lexed<S, E> {
     /// Makes the text another one, by one [edit](Lexed::edit) of what differs: between the longest front that both
     /// texts have, and the longest back that they have behind that. It may have at most `u32::MAX` bytes.
     ///
-    /// Returns the counts of that edit. If the text is the same already, all tokens are kept in front. `Err` means that
-    /// an allocation failed, and then text and tokens are as before.
+    /// Returns the counts of that edit. If the text is the same already, all tokens are kept in front. `Err` means
+    /// that an allocation failed, and then text and tokens are as before.
     pub fn set_text(&mut self, text: &str) -> Result<Relexed, AllocError>
         requires fits { Fits text.now }
         ensures text { OnOk result (self.new.text ≡ text.now) }
@@ -26,7 +26,7 @@ impl<S: Stepper, E: Extent> Lexed<S, E> {
             × IsNarrowest self.old.text text.now start stop insert
             × IsEdited (layout_in E.whole (S.grammar self.old.stepper).first) self.old start stop insert
             result self.new
-            × IsCounted (layout_in E.whole (S.grammar self.old.stepper).first) self.old.text start stop
+            × HasStepCount (layout_in E.whole (S.grammar self.old.stepper).first) self.old.text start stop
             insert result (S.count self.old.stepper) (S.count self.new.stepper) }
         ensures grammar { S.grammar self.new.stepper ≡ S.grammar self.old.stepper }
     {

@@ -1,6 +1,7 @@
 // Made by tools/erase from crates/rustc_lexer/src/lexemes/classified.rt: edit that file.
 //! The ends of runs, and the bytes after a run that may change its token.
 
+use crate::erased::kernels::turns_word;
 use crate::erased::token::TokenKind;
 
 /// Returns the known ends of runs past an offset.
@@ -28,10 +29,4 @@ pub(crate) fn may_continue(kind: TokenKind, next: u8) -> bool {
             TokenKind::Whitespace => next == 0xC2 || next == 0xE2,
             _ => false,
         }
-}
-
-/// Returns whether a word that the byte follows may be something other than an identifier.
-#[inline(always)]
-fn turns_word(next: u8) -> bool {
-    next >= 128 || matches!(next, b'#' | b'"' | b'\'')
 }

@@ -2,7 +2,7 @@
 //! Identifiers, and the hashes and prefixes that may stand beside them.
 
 use crate::erased::classes::emoji::is_emoji;
-use crate::erased::classes::{is_id_continue, is_id_start};
+use crate::erased::classes::{ends_prefix, is_id_continue, is_id_start};
 use crate::erased::kernels::ends_word;
 use crate::erased::scan::{eat_continue, eat_while, next_is, split_first, strip};
 use crate::erased::token::TokenKind;
@@ -56,9 +56,4 @@ pub fn is_ident(string: &str) -> bool {
 /// Returns whether the character continues an identifier or the name of a lifetime, valid or not.
 pub(crate) fn is_word_continue(c: char) -> bool {
     is_id_continue(c) || is_emoji(c)
-}
-
-/// Returns whether an identifier directly before the character is a prefix.
-fn ends_prefix(c: char) -> bool {
-    matches!(c, '#' | '"' | '\'')
 }

@@ -1,23 +1,21 @@
 // Made by tools/erase from crates/rustc_lexer/src/relex/edit.rt: edit that file.
-//! One edit: the text that it makes, and the tokens that it lexes.
+//! One edit: the new text, and the tokens that are lexed for it.
 use crate::support::{String, Vec};
 
 use crate::erased::entry::stepper::Stepper;
 use crate::erased::relex::checkpoints::Checkpoints;
 use crate::erased::relex::document_edit::HeadEdit;
 use crate::erased::relex::front::TokenStart;
-use crate::erased::relex::relexing::{Edited, Relexing};
+use crate::erased::relex::lex::BUFFER_LEN;
+use crate::erased::relex::relexing::{EditedText, Relexing};
 use crate::erased::relex::replace::replace;
 use crate::erased::token::{Token, TokenKind};
 use crate::support::{AllocError, Global};
 
-/// How many tokens are lexed at once, but for the first one.
-const BUFFER_LEN: usize = 128;
-
 /// One edit, which borrows its insertion.
 #[derive(Clone, Copy, Debug, PartialEq, Eq, Hash)]
 pub struct Edit<'a> {
-    /// Where the replaced bytes begin, in bytes from the start of the text.
+    /// Where the replaced bytes start, in bytes from the start of the text.
     pub start: usize,
     /// Where they end, in bytes from the start of the text.
     pub stop: usize,
@@ -25,7 +23,7 @@ pub struct Edit<'a> {
     pub insert: &'a str,
 }
 
-/// Returns whether the range is inside the text, between characters.
+/// Returns whether the range is inside the text and on character boundaries.
 pub(crate) fn contains_range(text: &str, start: usize, stop: usize) -> bool {
     start <= stop
         && stop <= text.len()
@@ -33,14 +31,14 @@ pub(crate) fn contains_range(text: &str, start: usize, stop: usize) -> bool {
         && text.is_char_boundary(stop)
 }
 
-/// Returns whether an edit of the text can be made: whether its range is inside the text, between characters, and
+/// Returns whether an edit can be applied to the text: its range is inside the text and on character boundaries, and
 /// the new text has at most `u32::MAX` bytes.
 pub(crate) fn accepts(text: &str, start: usize, stop: usize, insert: &str) -> bool {
     contains_range(text, start, stop)
         && text.len() - (stop - start) + insert.len() <= u32::MAX as usize
 }
 
-/// Replaces the bytes from `start` up to `stop` with `insert`. The text already has room for it.
+/// Replaces the bytes from `start` up to `stop` with `insert`. The text already has capacity for it.
 pub(crate) fn put_in_place(text: &mut String, start: usize, stop: usize, insert: &str) {
     let put = text.replace_range(start..stop, insert);
     // There is room, so it does not allocate.
@@ -49,20 +47,19 @@ pub(crate) fn put_in_place(text: &mut String, start: usize, stop: usize, insert:
 
 /// The tokens that replace old ones after an edit.
 pub(crate) struct Replacement {
-    /// The tokens.
     pub tokens: Vec<Token>,
     /// The old tokens from `at.front` up to `at.back` are replaced.
     pub at: Relexing,
-    /// Boundaries that lexing passed.
+    /// Boundaries of the new tokens, up to which lexing went.
     pub bounds: Checkpoints,
 }
 
-/// Lexes the text from the end of the kept front until it meets the old tokens. The search for the front begins at
+/// Lexes the text from the end of the kept front until it meets the old tokens. The search for the front starts at
 /// `near`.
 pub(crate) fn relex<S: Stepper>(
     alloc: Global,
     stepper: &mut S,
-    edited: &Edited<'_, Token>,
+    edited: &EditedText<'_, Token>,
     near: TokenStart,
 ) -> Result<Replacement, AllocError> {
     let mut tokens = Vec::new(alloc);
@@ -84,7 +81,7 @@ pub(crate) fn relex<S: Stepper>(
     Ok(Replacement { tokens, at, bounds })
 }
 
-/// Returns where the last token ends that was lexed.
+/// Returns the end of the last token that was lexed.
 fn end_of(at: Relexing) -> TokenStart {
     TokenStart {
         index: at.front.index + at.lexed,
@@ -93,8 +90,8 @@ fn end_of(at: Relexing) -> TokenStart {
 }
 
 impl Replacement {
-    /// Returns the checkpoints of the new text, which has `len` bytes; `old` are those of the text before the edit. They
-    /// have the kept front and, where many tokens were lexed, the boundaries among them.
+    /// Returns the checkpoints of the new text, which has `len` bytes. `old` has those of the text before the edit.
+    /// The end of the kept front becomes one, and so do the boundaries in a long run of lexed tokens.
     pub(crate) fn checkpoints(&self, old: &Checkpoints, len: usize) -> Checkpoints {
         let at = self.at;
         let mut moved = old.after(at.front, at.back, end_of(at));
@@ -110,8 +107,8 @@ impl Replacement {
         all
     }
 
-    /// Puts the tokens in place of the old ones. Also replaces the tokens of the head, unless it stays. If an allocation
-    /// fails, nothing changes.
+    /// Replaces the old tokens with the new ones, and the tokens of the head unless it stays. If an allocation fails,
+    /// nothing changes.
     pub(crate) fn put_into(
         self,
         alloc: Global,

@@ -1,8 +1,8 @@
 // Made by tools/erase from crates/rustc_lexer/src/relex/front.rt: edit that file.
 //! Finds the old tokens that an edit keeps.
 //!
-//! The functions here read only the lengths of the old tokens. They may be called with any lengths. What they
-//! promise holds for lengths that are those of a text's tokens.
+//! The functions here read only the lengths of the old tokens. Any lengths are safe, but the results have a meaning
+//! only for the lengths of a text's tokens.
 
 use crate::erased::token::Token;
 
@@ -18,16 +18,16 @@ impl Measured for Token {
     }
 }
 
-/// Where a token begins, or the last one ends: its index and its offset.
+/// The start of a token, or the end of the last one: its index and its offset.
 #[derive(Clone, Copy, Debug, PartialEq, Eq, Default, PartialOrd, Ord, Hash)]
 pub struct TokenStart {
-    /// How many tokens come before it: the index of the one that begins there.
+    /// The number of tokens before it, which is the index of the token that starts there.
     pub index: usize,
-    /// Its offset, in bytes from the start of the text.
+    /// The offset in bytes from the start of the text.
     pub offset: usize,
 }
 
-/// The first boundary, which each list has.
+/// The first boundary of any list of tokens.
 pub(crate) const FIRST: TokenStart = TokenStart {
     index: 0,
     offset: 0,
@@ -49,7 +49,7 @@ pub(crate) fn two_stand(text: &str, from: usize, to: usize) -> bool {
     }
 }
 
-/// Returns whether `from` is between characters, and at least two characters come from there up to `to`.
+/// Returns whether `from` is a character boundary with at least two characters between it and `to`.
 #[inline(always)]
 fn stand_before(text: &str, from: usize, to: usize) -> bool {
     text.is_char_boundary(from) && two_stand(text, from, to)
@@ -102,8 +102,8 @@ pub fn token_around<T: Measured>(
     None
 }
 
-/// Returns how many of the tokens end at least two characters before `start`. The search begins at `near`, which may be
-/// any boundary.
+/// Returns the end of the last token that ends at least two characters before `start`. The search starts at `near`,
+/// which can be any boundary.
 pub(crate) fn kept_front<T: Measured>(
     text: &str,
     tokens: &[T],
@@ -149,8 +149,8 @@ pub(crate) struct Meeting {
     pub met: bool,
 }
 
-/// The effect of an edit on the text. The edit ends at `past` in the new text, and at `old_stop` in the old one. The
-/// new text ends at `end`.
+/// The effect of an edit on the text: the edit ends at `past` in the new text and at `old_stop` in the old one, and
+/// the new text ends at `end`.
 #[derive(Clone, Copy)]
 pub(crate) struct Damage {
     pub past: usize,
@@ -158,9 +158,9 @@ pub(crate) struct Damage {
     pub end: usize,
 }
 
-/// Returns how far the old tokens are followed, and whether the new ones meet them there: whether the new boundary at
-/// `offset` is after the edit and, moved back by it, is a boundary of the old tokens. The end of the new text
-/// always is one, the last one, so no length is read there.
+/// Follows the old tokens up to the new boundary at `offset`, and returns whether the two meet there: whether
+/// `offset` is after the edit and, moved back by it, is a boundary of the old tokens. The end of the new text is
+/// always the last such boundary, so no length is read there.
 pub(crate) fn follow<T: Measured>(
     tokens: &[T],
     from: TokenStart,

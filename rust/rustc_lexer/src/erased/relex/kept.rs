@@ -1,5 +1,5 @@
 // Made by tools/erase from crates/rustc_lexer/src/relex/kept.rt: edit that file.
-//! A text with its tokens, and what an edit of it needs.
+//! A text with its tokens, and the state that its edits need.
 use crate::support::{String, Vec};
 
 use crate::erased::entry::stepper::Stepper;
@@ -8,12 +8,12 @@ use crate::erased::relex::checkpoints::Checkpoints;
 use crate::erased::relex::document_edit::HeadEdit;
 use crate::erased::relex::edit::relex;
 use crate::erased::relex::lex::lex_all;
-use crate::erased::relex::relexing::{Change, Edited, Relexed};
+use crate::erased::relex::relexing::{Change, EditedText, Relexed};
 use crate::erased::token::Token;
 use crate::support::{AllocError, Global};
 use core::marker::PhantomData;
 
-/// A text with its tokens, and what an edit needs of them.
+/// A text with its tokens, and the state that its edits need.
 #[derive(Clone)]
 pub(crate) struct Kept<S: Stepper, E: Extent> {
     pub alloc: Global,
@@ -21,14 +21,14 @@ pub(crate) struct Kept<S: Stepper, E: Extent> {
     pub text: String,
     pub tokens: Vec<Token>,
     pub stepper: S,
-    /// The head of a whole document. A part of one has none.
+    /// The head of a whole document. A fragment has none.
     pub head: Head,
-    /// Boundaries of the body's tokens, at which the search of an edit may begin.
+    /// Boundaries of the body's tokens, at which the search for the kept front can start.
     pub checkpoints: Checkpoints,
 }
 
-/// Lexes again what an edit has changed of the text, and puts it among what is kept, which is still that of the text before
-/// the edit. If an allocation fails, it stays so.
+/// Relexes the part of the text that an edit changed, and updates tokens, head and checkpoints, which are still those
+/// of the text before the edit. If an allocation fails, they stay unchanged.
 pub(crate) fn renew<S: Stepper, E: Extent>(
     kept: &mut Kept<S, E>,
     edit: Change,
@@ -36,22 +36,23 @@ pub(crate) fn renew<S: Stepper, E: Extent>(
     let made = kept.text.as_str();
     let now = E::find_head(made);
     let head = HeadEdit::between(kept.head, now, edit.start);
-    let edited = Edited {
+    let edited = EditedText {
         text: &made[now.body..],
-        old: &kept.tokens.as_slice()[kept.head.count()..],
+        old_tokens: &kept.tokens.as_slice()[kept.head.count()..],
         change: head.body_change(edit),
     };
     let near = kept.checkpoints.nearest(edited.change.start);
     let lexed = relex(kept.alloc, &mut kept.stepper, &edited, near)?;
     let checkpoints = lexed.checkpoints(&kept.checkpoints, edited.text.len());
-    let counts = lexed.at.counts(edited.old.len());
+    let counts = lexed.at.counts(edited.old_tokens.len());
     lexed.put_into(kept.alloc, &mut kept.tokens, head)?;
     kept.head = now;
     kept.checkpoints = checkpoints;
     Ok(head.document_counts(counts))
 }
 
-/// Lexes the tokens of a text: those of its head, which is known, and those of its body with the stepper.
+/// Returns the tokens of a text: the tokens of its head, which is known, and those of its body, lexed with the
+/// stepper.
 pub(crate) fn lex_body<S: Stepper>(
     alloc: Global,
     head: Head,

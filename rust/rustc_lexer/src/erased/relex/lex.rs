@@ -1,5 +1,5 @@
 // Made by tools/erase from crates/rustc_lexer/src/relex/lex.rt: edit that file.
-//! Lexes all tokens of a text, with a stepper.
+//! Lexes a whole text with a stepper.
 use crate::support::Vec;
 
 use crate::erased::entry::stepper::Stepper;
@@ -8,10 +8,10 @@ use crate::erased::relex::front::TokenStart;
 use crate::erased::token::{Token, TokenKind};
 use crate::support::AllocError;
 
-/// How many tokens are lexed at once, and how many there are between two checkpoints.
-const BUFFER_LEN: usize = 128;
+/// The number of tokens that are lexed at once, and between two checkpoints.
+pub(crate) const BUFFER_LEN: usize = 128;
 
-/// Lexes all tokens of a text, and appends them to a list. Returns checkpoints among them.
+/// Lexes all tokens of a text and appends them to a list. Returns checkpoints among them.
 pub(crate) fn lex_all<S: Stepper>(
     stepper: &mut S,
     text: &str,
@@ -35,8 +35,9 @@ pub(crate) fn lex_all<S: Stepper>(
     Ok(checkpoints)
 }
 
-/// Makes room for so many more tokens. A list that has to move gets room for those that are to be expected, if what is
-/// left of a text has as many as what is lexed, but at least an eighth of what it has and at most as many again.
+/// Makes room for `count` more tokens. A list that has to grow gets room for the tokens to expect in the bytes that
+/// are left: at the rate of the bytes lexed so far, but at least an eighth of its length and at most its length
+/// again.
 pub(crate) fn make_room(
     list: &mut Vec<Token>,
     count: usize,

@@ -33,9 +33,9 @@ pub type LexedText<S> = Lexed<S, Part>;
 
 /// A whole document that is kept with its tokens while it is edited: shebang line, frontmatter and all.
 ///
-/// Its tokens begin past the shebang line, and a frontmatter may be the first of them. An edit that keeps both lexes few
-/// tokens; any other lexes all in front of it, too. Each edit also looks for a frontmatter, so it sees one that appears,
-/// disappears or ends elsewhere.
+/// Its tokens begin past the shebang line, and a frontmatter may be the first of them. An edit that keeps both lexes
+/// few tokens; any other lexes all in front of it, too. Each edit also looks for a frontmatter, so it sees one that
+/// appears, disappears or ends elsewhere.
 pub type LexedDocument<S> = Lexed<S, Whole>;
 
 impl<S: Stepper, E: Extent> Lexed<S, E> {
@@ -45,8 +45,8 @@ impl<S: Stepper, E: Extent> Lexed<S, E> {
     }
 
     /// Keeps the text, of which it copies nothing, and lexes it: the head of a document by itself, all else with the
-    /// stepper, one step for each token. The text may have at most `u32::MAX` bytes. Keeps the stepper. `Err` means that
-    /// an allocation failed.
+    /// stepper, one step for each token. The text may have at most `u32::MAX` bytes. Keeps the stepper. `Err` means
+    /// that an allocation failed.
     pub fn with_string(alloc: Global, text: String, stepper: S) -> Result<Lexed<S, E>, AllocError> {
         let mut stepper = stepper;
         let head = E::find_head(text.as_str());
@@ -93,8 +93,8 @@ impl<S: Stepper, E: Extent> Lexed<S, E> {
         self.kept.tokens.shrink_to_fit();
     }
 
-    /// Lexes the text again, with another stepper. The head of a document stays. `Err` means that an allocation failed,
-    /// and then nothing has changed.
+    /// Lexes the text again, with another stepper. The head of a document stays. `Err` means that an allocation
+    /// failed, and then nothing has changed.
     pub fn set_stepper(&mut self, stepper: S) -> Result<(), AllocError> {
         let mut stepper = stepper;
         let text = self.kept.text.as_str();

@@ -1,30 +1,30 @@
 // Made by tools/erase from crates/rustc_lexer/src/relex/relexing.rt: edit that file.
-//! Lexes again what an edit changed, on lists that the caller holds.
+//! Relexing: lexes only the part of an edited text that the edit changed.
 
 use crate::erased::entry::fill::FromToken;
 use crate::erased::entry::stepper::Stepper;
 use crate::erased::relex::front::{Damage, Measured, TokenStart, follow, kept_front};
 use crate::erased::token::Token;
 
-/// The greatest offset that a token boundary may have. No text is longer, even if a `usize` has 32 bits.
+/// The maximum offset of a token boundary. No text is longer, even if a `usize` has 32 bits.
 const MOST: usize = usize::MAX / 2;
 
-/// An edit that was made, by its offsets in bytes. It replaced the bytes from `start` up to `old_stop` of the old text
-/// with those from `start` up to `new_stop` of the present text.
+/// An applied edit, by its offsets in bytes. It replaced `start..old_stop` of the old text with `start..new_stop` of
+/// the current text.
 #[derive(Clone, Copy, Debug, PartialEq, Eq, Hash)]
 pub struct Change {
-    /// Where the change begins, in both texts.
+    /// Where the change starts, in both texts.
     pub start: usize,
     /// Where the removed bytes ended, in the old text.
     pub old_stop: usize,
-    /// Where the inserted bytes end, in the present text.
+    /// Where the inserted bytes end, in the current text.
     pub new_stop: usize,
 }
 
 impl Change {
-    /// Returns whether the change may have made the text: whether its offsets are in order, the inserted bytes are
-    /// inside the text, between characters, and its old offset is below 2^32. It does not know whether the old text had
-    /// these offsets.
+    /// Returns whether the change can have resulted in this text: the inserted range is inside the text and on
+    /// character boundaries, the old offsets are in order, and `old_stop` is below 2^32. The old text itself is not
+    /// checked.
     #[must_use]
     pub fn may_make(&self, text: &str) -> bool {
         self.start <= self.old_stop
@@ -35,19 +35,16 @@ impl Change {
     }
 }
 
-/// A text after an edit, with the tokens that it had before.
-#[derive(Clone, Copy)]
-pub struct Edited<'a, T> {
-    /// The text.
+/// A text after an edit, with the tokens from before the edit.
+#[derive(Clone)]
+pub(crate) struct EditedText<'a, T> {
     pub text: &'a str,
-    /// The tokens of the text before the edit.
-    pub old: &'a [T],
-    /// The edit.
+    pub old_tokens: &'a [T],
     pub change: Change,
 }
 
-impl<'a, T> Edited<'a, T> {
-    /// Returns what the edit did to the text.
+impl<'a, T> EditedText<'a, T> {
+    /// Returns the effect of the edit on the text.
     fn damage(&self) -> Damage {
         Damage {
             past: self.change.new_stop,
@@ -60,16 +57,16 @@ impl<'a, T> Edited<'a, T> {
 /// The counts of an edit, or of a list of edits.
 #[derive(Clone, Copy, Debug, PartialEq, Eq, Hash)]
 pub struct Relexed {
-    /// How many tokens at the front stay as they are.
+    /// The number of tokens at the front that stay as they are.
     pub kept_front: usize,
-    /// How many tokens are between those two: after a single edit, those that were lexed.
+    /// The number of tokens between the kept ones. After a single edit, these are the tokens that were lexed.
     pub lexed: usize,
-    /// How many tokens at the back stay as they are.
+    /// The number of tokens at the back that stay as they are.
     pub kept_back: usize,
 }
 
 impl Relexed {
-    /// Returns the counts of an empty list of edits: all of so many tokens stay, in front.
+    /// Returns the counts of an empty list of edits: all `count` tokens stay, at the front.
     #[must_use]
     pub fn all(count: usize) -> Relexed {
         Relexed {
@@ -79,7 +76,7 @@ impl Relexed {
         }
     }
 
-    /// Returns the counts of a text of so many tokens that is new: none was there before.
+    /// Returns the counts of a new text with `count` tokens: none of them was there before.
     #[must_use]
     pub fn none(count: usize) -> Relexed {
         Relexed {
@@ -89,14 +86,14 @@ impl Relexed {
         }
     }
 
-    /// Returns the counts of two edits, or lists of edits, after one another: `self` has those of the first, and `next`
-    /// those of the second. `old_count` is how many tokens there were before the first.
+    /// Returns the counts of two consecutive edits, or lists of edits: `self` has the counts of the first, and `next`
+    /// of the second. There were `old_count` tokens before the first.
     ///
-    /// At each end it keeps the lesser of the two; the rest is between. If one of the two keeps [`all`](Relexed::all),
-    /// the answer is the other.
+    /// At each end, the result keeps the minimum of the two. If one of them keeps [`all`](Relexed::all) tokens, the
+    /// result is the other one.
     ///
-    /// A painter begins with `all` of the tokens that it painted last, whose number is `old_count`. Before it first paints,
-    /// it begins with [`none`](Relexed::none) of the text's tokens, and `old_count` is 0.
+    /// To repaint, start with `all` of the tokens that were painted last; `old_count` is their number. Before the
+    /// first paint, start with [`none`](Relexed::none) of the text's tokens, and `old_count` is 0.
     ///
     /// ```
     /// use rustc_lexer::Relexed;
@@ -130,66 +127,35 @@ impl Relexed {
         }
     }
 
-    /// Returns whether all of so many tokens stay in front, and none is new.
+    /// Returns whether all `count` tokens stay at the front, and none is new.
     fn keeps_all(self, count: usize) -> bool {
         self.kept_front == count && self.lexed == 0 && self.kept_back == 0
     }
 }
 
-/// How far an edited text, whose tokens are in lists of your own, has been lexed again: from its kept front up to a
-/// token boundary.
+/// The progress of [`Relex`]: the kept front, the number of tokens that were lexed, and the old tokens ahead.
 ///
-/// It knows the old tokens only by their lengths. If these are the lengths of the tokens of an old text, and the change
-/// made the present text from it, then all numbers are exact. Any other lengths may be passed too, but then the numbers
-/// mean nothing.
-///
-/// In plain Rust:
-///
-/// ```
-/// use rustc_lexer::incremental::{Change, Edited, Relexing};
-/// use rustc_lexer::{FrontmatterAllowed, Steps, Token, TokenStart, tokenize};
-///
-/// let (old, new) = ("let ab = cd;", "let abc = cd;");
-/// let mut tokens: Vec<Token> = tokenize(old, FrontmatterAllowed::No).collect();
-/// // A `c` was inserted at 6.
-/// let change = Change { start: 6, old_stop: 6, new_stop: 7 };
-///
-/// let mut steps = Steps::new();
-/// let edited = Edited { text: new, old: &tokens, change };
-/// let mut relexing = Relexing::begin(&edited, TokenStart::default());
-/// let mut lexed = Vec::new();
-/// while let Some(token) = relexing.next(&mut steps, &edited) {
-///     lexed.push(token);
-/// }
-/// let counts = relexing.counts(tokens.len());
-/// let back = tokens.len() - counts.kept_back;
-/// tokens.splice(counts.kept_front..back, lexed);
-/// assert!(tokenize(new, FrontmatterAllowed::No).eq(tokens));
-/// assert_eq!((counts.kept_front, counts.lexed, counts.kept_back), (2, 1, 5));
-/// ```
+/// [`Relex::state`] returns it, and [`Relex::resume`] continues from it.
 #[derive(Clone, Copy, Debug, PartialEq, Eq, Hash)]
 pub struct Relexing {
-    /// How many of the old tokens stay at the front, and where they end.
+    /// The end of the kept front: how many of the old tokens stay there, and where they end.
     pub front: TokenStart,
-    /// How many tokens were lexed.
+    /// The number of tokens that were lexed.
     pub lexed: usize,
     /// A boundary of the old tokens. Once lexing meets it, the tokens after it stay.
     pub back: TokenStart,
-    /// Where the last token that was lexed ends, in bytes from the start of the present text.
+    /// The end of the last token that was lexed, in bytes from the start of the current text.
     pub at: usize,
-    /// Whether `at` is that boundary of the old tokens.
+    /// Whether `at` is the boundary `back` of the old tokens, moved by the edit.
     pub met: bool,
 }
 
 impl Relexing {
-    /// Finds the kept front, and returns a state in which nothing has been lexed yet. The search for the front begins
-    /// at `near`, which may be any boundary of the old tokens.
-    ///
-    /// The text must have at most `u32::MAX` bytes, and [`Change::may_make`] must be true. This is not tested: otherwise
-    /// the result means nothing, or the call panics.
-    pub fn begin<T: Measured>(edited: &Edited<'_, T>, near: TokenStart) -> Relexing {
-        let front = kept_front(edited.text, edited.old, edited.change.start, near);
-        let to = follow(edited.old, front, front.offset, edited.damage());
+    /// Finds the kept front, and returns a state in which nothing has been lexed yet. The search for the front starts
+    /// at `near`, which can be any boundary of the old tokens.
+    pub(crate) fn begin<T: Measured>(edited: &EditedText<'_, T>, near: TokenStart) -> Relexing {
+        let front = kept_front(edited.text, edited.old_tokens, edited.change.start, near);
+        let to = follow(edited.old_tokens, front, front.offset, edited.damage());
         Relexing {
             front,
             lexed: 0,
@@ -199,10 +165,9 @@ impl Relexing {
         }
     }
 
-    /// Returns whether `next` may be called with this text and this many old tokens. It may be after `begin` and after
-    /// `next`. The test is for numbers from elsewhere.
-    #[must_use]
-    pub fn may_go_on(&self, text: &str, old_count: usize) -> bool {
+    /// Returns whether relexing this text with this many old tokens can continue from this state. It can from each
+    /// state that `begin` and `next` leave.
+    fn may_go_on(&self, text: &str, old_count: usize) -> bool {
         text.is_char_boundary(self.at)
             && self.back.index <= old_count
             && self.front.index <= self.back.index
@@ -210,26 +175,24 @@ impl Relexing {
             && self.lexed <= self.at
     }
 
-    /// Returns whether lexing has met the old tokens, or no text is left. If the lengths are those of an old text,
-    /// then text runs out only when the old tokens are met.
-    #[must_use]
-    pub fn is_over(&self, text: &str) -> bool {
+    /// Returns whether lexing has met the old tokens, or no text is left. With the old tokens of the old text, lexing
+    /// meets them at the end of the text at the latest.
+    pub(crate) fn is_over(&self, text: &str) -> bool {
         self.met || self.at == text.len()
     }
 
-    /// Lexes the next token and returns it, or `None` if the old tokens are met. `edited` is the one that was passed
-    /// to `begin`.
-    pub fn next<S: Stepper, T: Measured>(
+    /// Lexes and returns the next token, or returns `None` if lexing is over.
+    pub(crate) fn next<S: Stepper, T: Measured>(
         &mut self,
         stepper: &mut S,
-        edited: &Edited<'_, T>,
+        edited: &EditedText<'_, T>,
     ) -> Option<Token> {
         if self.is_over(edited.text) {
             return None;
         }
         let token = stepper.step(&edited.text[self.at..]);
         let at = self.at + token.len as usize;
-        let to = follow(edited.old, self.back, at, edited.damage());
+        let to = follow(edited.old_tokens, self.back, at, edited.damage());
         *self = Relexing {
             front: self.front,
             lexed: self.lexed + 1,
@@ -240,15 +203,11 @@ impl Relexing {
         Some(token)
     }
 
-    /// Writes the next tokens into the buffer: as many as there is room for, or up to where the old tokens are met.
-    /// Returns how many. The number is less than the length of the buffer only if `is_over` is true. `edited` is
-    /// the one that was passed to `begin`.
-    ///
-    /// They are the tokens that as many calls of `next` return.
-    pub fn fill<S: Stepper, T: Measured, R: FromToken>(
+    /// Writes the next tokens into the buffer, until it is full or lexing is over. Returns their number.
+    fn fill<S: Stepper, T: Measured, R: FromToken>(
         &mut self,
         stepper: &mut S,
-        edited: &Edited<'_, T>,
+        edited: &EditedText<'_, T>,
         buffer: &mut [R],
     ) -> usize {
         let mut count = 0;
@@ -262,18 +221,18 @@ impl Relexing {
         count
     }
 
-    /// Lexes many tokens at once, and writes them into the buffer: as many as there is room for, or up to the next
-    /// place where they may meet the old ones. Returns how many.
+    /// Lexes many tokens at once and writes them into the buffer, until it is full or up to the next offset at which
+    /// they can meet the old ones. Returns their number.
     pub(crate) fn block<S: Stepper, T: Measured, R: FromToken>(
         &mut self,
         stepper: &mut S,
-        edited: &Edited<'_, T>,
+        edited: &EditedText<'_, T>,
         buffer: &mut [R],
     ) -> usize {
         let end = self.least_meeting(edited);
         let (count, bytes) = stepper.fill(&edited.text[self.at..], end - self.at, buffer);
         let at = self.at + bytes;
-        let to = follow(edited.old, self.back, at, edited.damage());
+        let to = follow(edited.old_tokens, self.back, at, edited.damage());
         *self = Relexing {
             front: self.front,
             lexed: self.lexed + count,
@@ -284,8 +243,8 @@ impl Relexing {
         count
     }
 
-    /// Returns an offset past `at`, and none between the two is one where the old tokens may be met.
-    fn least_meeting<T>(&self, edited: &Edited<'_, T>) -> usize {
+    /// Returns an offset after `at`. Lexing cannot meet the old tokens between the two.
+    fn least_meeting<T>(&self, edited: &EditedText<'_, T>) -> usize {
         if self.at < edited.change.new_stop {
             return edited.change.new_stop;
         }
@@ -301,9 +260,8 @@ impl Relexing {
         }
     }
 
-    /// Returns the counts of the edit, once the old tokens are met. `old_count` is how many tokens `begin` was passed.
-    #[must_use]
-    pub fn counts(&self, old_count: usize) -> Relexed {
+    /// Returns the counts of the edit, once lexing is over. There are `old_count` old tokens.
+    pub(crate) fn counts(&self, old_count: usize) -> Relexed {
         Relexed {
             kept_front: self.front.index,
             lexed: self.lexed,
@@ -312,89 +270,118 @@ impl Relexing {
     }
 }
 
-/// Lexes again what an edit changed.
-pub struct Relex<'a, T: Measured + Copy> {
-    text: &'a str,
-    tokens: &'a [T],
-    change: Change,
+/// Lexes the part of an edited text that the edit changed, from old tokens in a list of your own.
+///
+/// It reads only the lengths of the old tokens. If these are the tokens of the old text, and the change resulted in
+/// the current text, then the tokens and the counts are exact. Any other tokens are safe, but then the result has no
+/// meaning.
+///
+/// In plain Rust:
+///
+/// ```
+/// use rustc_lexer::incremental::{Change, Relex};
+/// use rustc_lexer::{FrontmatterAllowed, Steps, Token, TokenStart, tokenize};
+///
+/// let (old, new) = ("let ab = cd;", "let abc = cd;");
+/// let mut tokens: Vec<Token> = tokenize(old, FrontmatterAllowed::No).collect();
+/// // A `c` was inserted at 6.
+/// let change = Change { start: 6, old_stop: 6, new_stop: 7 };
+///
+/// let mut steps = Steps::new();
+/// let mut relex = Relex::begin(new, &tokens, change, TokenStart::default()).unwrap();
+/// let mut lexed = Vec::new();
+/// while let Some(token) = relex.next(&mut steps) {
+///     lexed.push(token);
+/// }
+/// let counts = relex.counts();
+/// let back = tokens.len() - counts.kept_back;
+/// tokens.splice(counts.kept_front..back, lexed);
+/// assert!(tokenize(new, FrontmatterAllowed::No).eq(tokens));
+/// assert_eq!((counts.kept_front, counts.lexed, counts.kept_back), (2, 1, 5));
+/// ```
+#[derive(Clone)]
+pub struct Relex<'a, T: Measured> {
+    edited: EditedText<'a, T>,
     at: Relexing,
 }
 
-impl<'a, T: Measured + Copy> Relex<'a, T> {
-    /// Finds the kept front, or returns `None` if the text is too long or the change cannot have made it. The search begins
-    /// at `near`, which may be any boundary of the old tokens.
+impl<'a, T: Measured> Relex<'a, T> {
+    /// Finds the tokens that stay at the front. Returns `None` if the text has more than `u32::MAX` bytes or
+    /// [`Change::may_make`] is false.
+    ///
+    /// The search starts at `near`, which can be any boundary of the old tokens.
     pub fn begin(
         text: &'a str,
-        old: &'a [T],
+        old_tokens: &'a [T],
         change: Change,
         near: TokenStart,
     ) -> Option<Relex<'a, T>> {
         if text.len() > u32::MAX as usize || !change.may_make(text) {
             return None;
         }
-        let at = Relexing::begin(&Edited { text, old, change }, near);
-        Some(Relex {
+        let edited = EditedText {
             text,
-            tokens: old,
+            old_tokens,
             change,
-            at,
-        })
+        };
+        let at = Relexing::begin(&edited, near);
+        Some(Relex { edited, at })
     }
 
-    /// Goes on from a state that [`state`](Relex::state) returned, or returns `None` if no call left these numbers.
+    /// Continues from a state that [`state`](Relex::state) returned, with the same text, old tokens and change.
+    /// Returns `None` if no call can have left such a state.
     pub fn resume(
         text: &'a str,
-        old: &'a [T],
+        old_tokens: &'a [T],
         change: Change,
-        at: Relexing,
+        state: Relexing,
     ) -> Option<Relex<'a, T>> {
         if text.len() > u32::MAX as usize
             || !change.may_make(text)
-            || !at.may_go_on(text, old.len())
+            || !state.may_go_on(text, old_tokens.len())
         {
             return None;
         }
-        Some(Relex {
+        let edited = EditedText {
             text,
-            tokens: old,
+            old_tokens,
             change,
-            at,
-        })
+        };
+        Some(Relex { edited, at: state })
     }
 
     /// Returns how far the text is lexed.
+    #[must_use]
     pub fn state(&self) -> Relexing {
         self.at
     }
 
-    /// Returns whether lexing has met the old tokens, or no text is left.
+    /// Returns whether lexing has met the old tokens, or no text is left. With the old tokens of the old text, lexing
+    /// meets them at the end of the text at the latest.
+    #[must_use]
     pub fn is_over(&self) -> bool {
-        self.at.is_over(self.text)
+        self.at.is_over(self.edited.text)
     }
 
-    /// Lexes the next token and returns it, or `None` if the old tokens are met.
-    pub fn next<S: Stepper>(&mut self, stepper: &mut S) -> Option<Token> {
-        let edited = Edited {
-            text: self.text,
-            old: self.tokens,
-            change: self.change,
-        };
-        self.at.next(stepper, &edited)
+    /// Lexes and returns the next token, or returns `None` if lexing is over.
+    pub fn next<S: Stepper>(&mut self, stepper: &mut S) -> Option<Token>
+// The text stays, and so does the grammar.
+    {
+        self.at.next(stepper, &self.edited)
     }
 
-    /// Writes the next tokens into the buffer: as many as there is room for, or up to where the old tokens are met.
-    /// Returns how many.
-    pub fn fill<S: Stepper, R: FromToken>(&mut self, stepper: &mut S, buffer: &mut [R]) -> usize {
-        let edited = Edited {
-            text: self.text,
-            old: self.tokens,
-            change: self.change,
-        };
-        self.at.fill(stepper, &edited, buffer)
+    /// Writes the next tokens into the buffer, until it is full or lexing is over. Returns their number.
+    ///
+    /// These are the tokens that the same number of calls of [`next`](Relex::next) would return.
+    pub fn fill<S: Stepper, R: FromToken>(&mut self, stepper: &mut S, buffer: &mut [R]) -> usize
+// The text stays, and so does the grammar.
+    {
+        self.at.fill(stepper, &self.edited, buffer)
     }
 
-    /// Returns the counts of the edit, once the old tokens are met.
+    /// Returns the counts of the edit, once lexing is over.
+    #[must_use]
     pub fn counts(&self) -> Relexed {
-        self.at.counts(self.tokens.len())
+        self.at.counts(self.edited.old_tokens.len())
     }
 }

@@ -74,7 +74,7 @@ left-preserved g c =
       lexed = omega (arith, steps.lexed, inv.lexed, size, long, length-append c.left.tokens.items block);
       under_way = λ before insert is near.
           let so = inv.under_way before insert is near in
-          let goes = subst (λ (f : List ℕ → Token). GoesOn f (map (λ (t : Token). t.len) c.args.edited.now.old.now) text c.args.edited.now.change at past) (same_first inv.grammar) c.block-count.ensures.under_way before insert is so.0 in
+          let goes = subst (λ (f : List ℕ → Token). GoesOn f (map (λ (t : Token). t.len) c.args.edited.now.old_tokens.now) text c.args.edited.now.change at past) (same_first inv.grammar) c.block-count.ensures.under_way before insert is so.0 in
           let here = ap (λ (f : List ℕ → Token). tokens_by f (drop at.at text)) (same_first inv.grammar) ∙ goes.1 in (
             goes.0,
             items ∙ more_lexed (tokens_by first text) left c.left.tokens.items block at past count steps.front steps.lexed so.1 here written.front,
@@ -91,7 +91,7 @@ returns-in_err-extend_from_slice-clause-few g c =
     let past = c.block-count.new.self in
     IfErr-always c.from_residual-in_err-extend_from_slice.result (λ before insert is near r counts.
     let so = inv.under_way before insert is near in
-    let goes = subst (λ (f : List ℕ → Token). GoesOn f (map (λ (t : Token). t.len) c.args.edited.now.old.now) text c.args.edited.now.change at past) (same_first inv.grammar) c.block-count.ensures.under_way before insert is so.0 in
+    let goes = subst (λ (f : List ℕ → Token). GoesOn f (map (λ (t : Token). t.len) c.args.edited.now.old_tokens.now) text c.args.edited.now.change at past) (same_first inv.grammar) c.block-count.ensures.under_way before insert is so.0 in
     omega (arith, c.block-count.ensures.count, c.block-count.ensures.steps.lexed, inv.count, inv.lexed, few_lexed law is goes.0 r counts))
 
 pub returns-clause-lexed : goal.returns-clause-lexed

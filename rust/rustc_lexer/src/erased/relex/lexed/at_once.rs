@@ -14,10 +14,10 @@ use crate::support::{AllocError, Global};
 impl<S: Stepper, E: Extent> Lexed<S, E> {
     /// Makes the edits at once. All have offsets of the present text, are in order, and do not overlap, but may touch.
     ///
-    /// The text is then what they make one by one, from the last to the first. It is one [edit](Lexed::edit), from where the
-    /// first begins to where the last ends, and returns its counts. An empty list keeps all at the front. `Err` names the
-    /// first that is out of bounds, cuts a character or begins before the one in front of it ends; or the last, if the text
-    /// would be too long or memory is refused. Text and tokens then stay.
+    /// The text is then what they make one by one, from the last to the first. It is one [edit](Lexed::edit), from
+    /// where the first begins to where the last ends, and returns its counts. An empty list keeps all at the front.
+    /// `Err` names the first that is out of bounds, cuts a character or begins before the one in front of it ends; or
+    /// the last, if the text would be too long or memory is refused. Text and tokens then stay.
     pub fn edit_at_once(&mut self, edits: &[Edit<'_>]) -> Result<Relexed, EditStop> {
         let text = self.text();
         if edits.is_empty() {

@@ -47,9 +47,9 @@ impl<S: Stepper, E: Extent> Lexed<S, E> {
         }
     }
 
-    /// Makes the edits as [`edit_all`](Lexed::edit_all) does. Returns how many tokens all of them kept at the front and at
-    /// the back, and how many are now between these. An empty list keeps all at the front. `Err` also says what the edits
-    /// before the refused one kept.
+    /// Makes the edits as [`edit_all`](Lexed::edit_all) does. Returns how many tokens all of them kept at the front
+    /// and at the back, and how many are now between these. An empty list keeps all at the front. `Err` also says
+    /// what the edits before the refused one kept.
     pub fn edit_each(&mut self, edits: &[Edit<'_>]) -> Result<Relexed, Stopped> {
         let old_len = self.tokens().len();
         let mut made = Made {

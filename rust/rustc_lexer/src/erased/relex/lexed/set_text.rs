@@ -12,8 +12,8 @@ impl<S: Stepper, E: Extent> Lexed<S, E> {
     /// Makes the text another one, by one [edit](Lexed::edit) of what differs: between the longest front that both
     /// texts have, and the longest back that they have behind that. It may have at most `u32::MAX` bytes.
     ///
-    /// Returns the counts of that edit. If the text is the same already, all tokens are kept in front. `Err` means that
-    /// an allocation failed, and then text and tokens are as before.
+    /// Returns the counts of that edit. If the text is the same already, all tokens are kept in front. `Err` means
+    /// that an allocation failed, and then text and tokens are as before.
     pub fn set_text(&mut self, text: &str) -> Result<Relexed, AllocError> {
         let old = self.text();
         if old == text {

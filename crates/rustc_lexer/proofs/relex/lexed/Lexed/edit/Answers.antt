@@ -1,7 +1,7 @@
 use Rattle.std.proofs.Common.{◌≡◌, List, ℕ, slice_range, string_bytes, refl, sym, ◌∙◌, subst, arith, Err, rules}
 use Rattle.std.proofs.lemmas.Grind.{common_steps}
 use Rattle.rustc_lexer.specs.{declared.relex.relexing.Change.{Change}, Relexing.{IsEditOf}, Edits.{IsEdit, apply}}
-use Rattle.rustc_lexer.specs.Kept.{IsCounted, IsEdited, layout_in}
+use Rattle.rustc_lexer.specs.Kept.{HasStepCount, IsEdited, layout_in}
 use Rattle.rustc_lexer.proofs.lemmas.edits.{FrontAndBack.{edited, put_back}, DocumentEdits.{counted_refused, few_none, put_by, refused}}
 use Rattle.rustc_lexer.proofs.lemmas.edits.ByLengths.{made_change}
 use Rattle.rustc_lexer.proofs.relex.lexed.Lexed.edit.Goals as goal
@@ -52,7 +52,7 @@ returns-clause-edited g c =
 pub returns-clause-count : goal.returns-clause-count
 returns-clause-count g c =
     let p = put_by c.self.invariant c.utf8.insert (subst (λ h. IsEdit h.text c.args.start c.args.stop c.args.insert.now) (sym c.self.view_is) c.requires.accepted) c.put_in_place.ensures.text c.reserve.ensures.bytes in
-    subst (λ h. IsCounted (layout_in g.E.Extent.whole (g.S.Stepper.grammar h.stepper).first) h.text c.args.start c.args.stop c.args.insert.now (Err c.in-Err.refused) (g.S.Stepper.count h.stepper) (g.S.Stepper.count c.renew.new.kept.stepper)) c.self.view_is (c.in-Err.ensures.renewed _ _ p).2
+    subst (λ h. HasStepCount (layout_in g.E.Extent.whole (g.S.Stepper.grammar h.stepper).first) h.text c.args.start c.args.stop c.args.insert.now (Err c.in-Err.refused) (g.S.Stepper.count h.stepper) (g.S.Stepper.count c.renew.new.kept.stepper)) c.self.view_is (c.in-Err.ensures.renewed _ _ p).2
 
 pub returns-in_err-removed-clause-edited : goal.returns-in_err-removed-clause-edited
 returns-in_err-removed-clause-edited g c = search (rules, refused)
@@ -66,4 +66,4 @@ returns-in_err-reserve-clause-edited g c =
 
 pub returns-in_err-reserve-clause-count : goal.returns-in_err-reserve-clause-count
 returns-in_err-reserve-clause-count g c =
-    subst (λ h. IsCounted (layout_in g.E.Extent.whole (g.S.Stepper.grammar h.stepper).first) h.text c.args.start c.args.stop c.args.insert.now c.from_residual-in_err-reserve.result (g.S.Stepper.count h.stepper) (g.S.Stepper.count c.self.inside.kept.stepper)) c.self.view_is (counted_refused c.from_residual-in_err-reserve.result c.from_residual-in_err-reserve.ensures.0 (omega arith) (few_none (g.S.Stepper.law c.self.inside.kept.stepper) g.E.Extent.whole _ _ _ _ _ c.self.invariant.0 c.utf8.insert (subst (λ h. IsEdit h.text c.args.start c.args.stop c.args.insert.now) (sym c.self.view_is) c.requires.accepted)))
+    subst (λ h. HasStepCount (layout_in g.E.Extent.whole (g.S.Stepper.grammar h.stepper).first) h.text c.args.start c.args.stop c.args.insert.now c.from_residual-in_err-reserve.result (g.S.Stepper.count h.stepper) (g.S.Stepper.count c.self.inside.kept.stepper)) c.self.view_is (counted_refused c.from_residual-in_err-reserve.result c.from_residual-in_err-reserve.ensures.0 (omega arith) (few_none (g.S.Stepper.law c.self.inside.kept.stepper) g.E.Extent.whole _ _ _ _ _ c.self.invariant.0 c.utf8.insert (subst (λ h. IsEdit h.text c.args.start c.args.stop c.args.insert.now) (sym c.self.view_is) c.requires.accepted)))

@@ -35,7 +35,7 @@ places-preserved g c =
         | inr none ↦ (let e : c.places.count ≡ 0 = omega arith in ap (is_over text) (sym (inv.steps.none e)) ∙ c.in-Some.ensures.step.3)
       ];
       under_way = λ before insert made begun.
-          let Next : (List ℕ → Token) → Type 0 = λ f. IsMadeOf f before (map g.T.Measured.bytes c.args.edited.now.old.now) c.args.edited.now.change insert text → IsUnderWay f before c.args.edited.now.change text at → IsUnderWay f before c.args.edited.now.change text past in
+          let Next : (List ℕ → Token) → Type 0 = λ f. IsMadeOf f before (map g.T.Measured.bytes c.args.edited.now.old_tokens.now) c.args.edited.now.change insert text → IsUnderWay f before c.args.edited.now.change text at → IsUnderWay f before c.args.edited.now.change text past in
           subst Next (same_first inv.grammar) (λ m s. (c.in-Some.ensures.under_way before insert m s).0) made (inv.under_way before insert made begun);
     }
 

@@ -1,0 +1,36 @@
+use Rattle.std.proofs.Common.{◌≡◌, ◌<◌, List, ℕ, ◌++◌, length, map, take, drop, subst, true, ◌∙◌, Some}
+use Rattle.std.proofs.lemmas.List.{length-map}
+use Rattle.rustc_lexer.specs.{declared.{relex.relexing.Change.{Change}, token.Token.{Token}}, Classes.{IsText}, Relexing.{known}}
+use Rattle.rustc_lexer.specs.{Relexing.{IsMadeOf, IsUnderWay, TakesSteps, is_over}, LanguageCalls.{edition_of_year}, Locality.{Grammar}, Tokens.{tokens_by}}
+use Rattle.rustc_lexer_c.specs.{declared.token.CToken.{CToken}, Numbers.{token_numbers}, Relex.{change_of}}
+use Rattle.rustc_lexer_c.proofs.RelexLemmas.{none_some, relexed}
+use Rattle.rustc_lexer_c.proofs.relex.rustc_lexer_relex_unchecked.Goals as goal
+
+pub returns : goal.returns
+returns c =
+    let text : List ℕ = c.in-Ok.text.now in
+    let is : IsText text = rw c.in-Ok.ensures.0 c.in-Ok.ensures.1 in
+    let change : Change = change_of c.args.edit.now in
+    let lens : List ℕ = map (λ (t : CToken). t.len) c.args.old.now in
+    let f = c.fill.ensures in
+    let begin = c.in-Some-relex_at.relex in
+    let now = c.fill.new.self in
+    let some = c.in-Some-relex_at.ensures.some in
+    let change_is : begin.change ≡ change = some.2 ∙ c.change_of.ensures in
+    let text_is : now.text ≡ text = f.edited.0 ∙ some.0 in
+    let lens_are : now.lengths ≡ lens = f.edited.1 ∙ some.1 in
+    let many : length lens ≡ length c.args.old.now = length-map c.args.old.now _ in
+    let Fills : Grammar → List ℕ → List ℕ → Change → Type 0 = λ grammar text lens change. TakesSteps grammar.first text change.new_stop begin.at c.fill.result now.at
+    × (c.fill.new.buffer ≡ map token_numbers (take c.fill.result (tokens_by grammar.first (drop begin.at.at text))) ++ drop c.fill.result c.args.buffer.now)
+    × ((before insert : List ℕ) → IsMadeOf grammar.first before lens change insert text → IsUnderWay grammar.first before change text begin.at → IsUnderWay grammar.first before change text now.at × (tokens_by grammar.first (drop begin.at.at text) ≡ drop (known begin.at) (tokens_by grammar.first text)))
+    × (c.fill.result < length c.args.buffer.now → is_over text now.at ≡ true) in
+    let fills = subst (λ grammar. Fills grammar text lens change) c.new_in.ensures.grammar
+    (subst (λ t. Fills _ t lens change) some.0 (subst (λ ls. Fills _ begin.text ls change) some.1 (subst (λ ch. Fills _ begin.text begin.lengths ch) change_is (f.steps, f.tokens, f.under_way, f.over)))) in
+    let numbers = rw (text_is, lens_are, many) at c.relexing_numbers.ensures.numbers in
+    let may = rw (text_is, lens_are, many) at c.relexing_numbers.ensures.may_go_on in
+    let passes = rw c.change_of.ensures at some.5 in
+    let year_is : edition_of_year c.args.edition ≡ Some c.in-Some.edition = cc in
+    let asked = rw c.change_of.ensures at c.in-Some-relex_at.ensures.none.1 in
+    rw (← c.in-Ok.ensures.0, numbers)
+    (relexed c.in-Some.edition text c.args.old.now c.args.edit.now c.args.relexing.now c.args.buffer.now c.fill.new.buffer c.fill.result begin.at now.at
+    is c.args.edition year_is (λ not. none_some (asked not)) f.buffer fills.0 fills.1 may fills.3 some.3 some.4 passes fills.2)
