@@ -6,7 +6,7 @@ mod random;
 use made::{counts, edit, token};
 use random::Random;
 use rattle_support::Global;
-use rustc_lexer::incremental::{Edited, Change, Head, Relexing};
+use rustc_lexer::incremental::{Change, Edited, Head, Relexing};
 use rustc_lexer::{
     EditStop, Edition, FrontmatterAllowed, LexedDocument, LexedText, Relexed, Stepper, Steps,
     Token, TokenKind, TokenStart, erased, strip_shebang, tokenize_as, tokenize_document,

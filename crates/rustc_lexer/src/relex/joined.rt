@@ -189,7 +189,7 @@ fn sure_before(text: &str, sure: usize, at: usize, edition: Edition) -> Option<u
     ensures sure { IfSome result (λ it. IsSure (first_in edition) (take at text.now) it) }
 {
     let sure = if two_stand(text, sure, at) { sure } else { 0 };
-    if stays(text, sure, at, edition) {
+    if is_prefix_stable(text, sure, at, edition) {
         Some(sure)
     } else {
         None
@@ -233,16 +233,16 @@ fn append(text: &mut String, sure: usize, edition: Edition, separator: &str, pie
     ensures capacity { string_capacity text.old ≤ string_capacity text.new }
 {
     let at = text.as_str().len();
-    put(text, separator, piece);
-    let stay = parts(text.as_str(), sure, at, separator.len(), edition);
-    if !stay {
+    append_both(text, separator, piece);
+    let separated = separates(text.as_str(), sure, at, separator.len(), edition);
+    if !separated {
         text.truncate(at);
     }
-    stay
+    separated
 }
 
 /// Appends both texts. There is room for them.
-fn put(text: &mut String, separator: &str, piece: &str)
+fn append_both(text: &mut String, separator: &str, piece: &str)
     requires fits { length (string_bytes text.old) + (length separator.now + length piece.now)
         < 2 ^ 32 }
     requires room { string_len text.old + (length separator.now + length piece.now)
@@ -258,7 +258,7 @@ fn put(text: &mut String, separator: &str, piece: &str)
 }
 
 /// Returns whether the `len` bytes from `at` on keep the texts before and after them apart.
-fn parts(text: &str, sure: usize, at: usize, len: usize, edition: Edition) -> bool
+fn separates(text: &str, sure: usize, at: usize, len: usize, edition: Edition) -> bool
     requires fits { Fits text.now }
     requires boundary { IsCharBoundary text.now at }
     requires end { IsCharBoundary (drop at text.now) len }
@@ -266,11 +266,11 @@ fn parts(text: &str, sure: usize, at: usize, len: usize, edition: Edition) -> bo
     ensures { IsTrue result ↔ IsSeparated edition (take at text.now) (take len (drop at text.now))
         (drop len (drop at text.now)) }
 {
-    is_seam(&text[at..], len, edition) && stays(text, sure, at, edition)
+    is_seam(&text[at..], len, edition) && is_prefix_stable(text, sure, at, edition)
 }
 
 /// Returns whether the tokens before `at` are the first ones of the whole text, too. Those before `sure` are.
-fn stays(text: &str, sure: usize, at: usize, edition: Edition) -> bool
+fn is_prefix_stable(text: &str, sure: usize, at: usize, edition: Edition) -> bool
     requires fits { Fits text.now }
     requires boundary { IsCharBoundary text.now at }
     requires sure { IsSure (first_in edition) (take at text.now) sure }

@@ -120,7 +120,7 @@ impl JoinedText {
 /// Returns a boundary that is sure in the text up to `at`, by one of the whole text, if the text may end there.
 fn sure_before(text: &str, sure: usize, at: usize, edition: Edition) -> Option<usize> {
     let sure = if two_stand(text, sure, at) { sure } else { 0 };
-    if stays(text, sure, at, edition) {
+    if is_prefix_stable(text, sure, at, edition) {
         Some(sure)
     } else {
         None
@@ -142,16 +142,16 @@ fn append_separated(text: &mut String, sure: usize, edition: Edition, piece: &st
 /// Appends the separator and the piece if the tokens stay so. Returns whether it did. There is room for them.
 fn append(text: &mut String, sure: usize, edition: Edition, separator: &str, piece: &str) -> bool {
     let at = text.as_str().len();
-    put(text, separator, piece);
-    let stay = parts(text.as_str(), sure, at, separator.len(), edition);
-    if !stay {
+    append_both(text, separator, piece);
+    let separated = separates(text.as_str(), sure, at, separator.len(), edition);
+    if !separated {
         text.truncate(at);
     }
-    stay
+    separated
 }
 
 /// Appends both texts. There is room for them.
-fn put(text: &mut String, separator: &str, piece: &str) {
+fn append_both(text: &mut String, separator: &str, piece: &str) {
     let put_separator = text.push_str(separator);
     // There is room, so neither of them allocates.
     debug_assert!(put_separator.is_ok());
@@ -160,12 +160,12 @@ fn put(text: &mut String, separator: &str, piece: &str) {
 }
 
 /// Returns whether the `len` bytes from `at` on keep the texts before and after them apart.
-fn parts(text: &str, sure: usize, at: usize, len: usize, edition: Edition) -> bool {
-    is_seam(&text[at..], len, edition) && stays(text, sure, at, edition)
+fn separates(text: &str, sure: usize, at: usize, len: usize, edition: Edition) -> bool {
+    is_seam(&text[at..], len, edition) && is_prefix_stable(text, sure, at, edition)
 }
 
 /// Returns whether the tokens before `at` are the first ones of the whole text, too. Those before `sure` are.
-fn stays(text: &str, sure: usize, at: usize, edition: Edition) -> bool {
+fn is_prefix_stable(text: &str, sure: usize, at: usize, edition: Edition) -> bool {
     is_seam(&text[sure..], at - sure, edition)
 }
 

@@ -1,6 +1,6 @@
 use Rattle.std.proofs.Common.{true≢false, sym, ◌∙◌}
 use Rattle.rustc_lexer.proofs.lemmas.joined.Joined.{separated_past}
-use Rattle.rustc_lexer.proofs.relex.joined.parts.Goals as goal
+use Rattle.rustc_lexer.proofs.relex.joined.separates.Goals as goal
 
 pub returns-else-is_seam : goal.returns-else-is_seam
 returns-else-is_seam c = (
