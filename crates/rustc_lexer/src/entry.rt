@@ -198,6 +198,14 @@ impl<'a> Tokens<'a> {
         self.ahead.take(self.text)
     }
 
+    /// Returns the next token, as `next` does, but in a dev build as a call: `fill` is compiled with the caller's crate,
+    /// and this with the lexer.
+    pub(crate) fn next_outlined(&mut self) -> Option<Token>
+        ensures { YieldsToken self.old result self.new }
+    {
+        self.next()
+    }
+
     /// Moves on by this many bytes, whatever tokens they belong to.
     #[inline(always)]
     pub(crate) fn skip_bytes(&mut self, len: usize)

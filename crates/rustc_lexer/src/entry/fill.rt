@@ -74,7 +74,7 @@ impl<'a> Tokens<'a> {
         tokens.classify_next();
         let mut count = 0;
         'places: while count < buffer.len() {
-            let Some(token) = tokens.next() else {
+            let Some(token) = tokens.next_outlined() else {
                 break;
             };
             buffer[count] = R::from_token(token);

@@ -130,6 +130,13 @@ impl<'a> Tokens<'a> {
         self.ahead.take(self.text)
     }
 
+    /// Returns the next token, as `next` does, but in a dev build as a call: `fill` is compiled with the caller's crate,
+    /// and this with the lexer.
+    #[cfg_attr(not(debug_assertions), inline(always))]
+    pub(crate) fn next_outlined(&mut self) -> Option<Token> {
+        self.next()
+    }
+
     /// Moves on by this many bytes, whatever tokens they belong to.
     #[inline(always)]
     pub(crate) fn skip_bytes(&mut self, len: usize) {

@@ -49,7 +49,7 @@ impl<'a> Tokens<'a> {
         tokens.classify_next();
         let mut count = 0;
         while count < buffer.len() {
-            let Some(token) = tokens.next() else {
+            let Some(token) = tokens.next_outlined() else {
                 break;
             };
             buffer[count] = R::from_token(token);
