@@ -164,7 +164,7 @@ impl<'a> Tokens<'a> {
 
     /// Returns an iterator that is at the same offset. It knows nothing of the next token, so no kind is kept in memory.
     #[inline(always)]
-    pub(crate) fn copy(&self) -> Tokens<'a>
+    pub(crate) fn copy_unclassified(&self) -> Tokens<'a>
         ensures { result ≡ self.now }
     {
         Tokens {
@@ -180,27 +180,35 @@ impl<'a> Tokens<'a> {
 
     /// Begins to take tokens by the ends of runs, where they are determined in advance.
     #[inline(always)]
-    fn begin(&mut self)
+    fn classify_next(&mut self)
         ensures { self.new ≡ self.old }
     {
         if let FrontmatterAllowed::No = self.frontmatter_allowed {
-            self.ahead.begin(self.text);
+            self.ahead.classify_next(self.text);
         }
     }
 
     /// Returns the next token if the ends of runs determine it. A loop with a branch for these tokens is faster.
     #[inline(always)]
-    #[tactic(auto, using(crate::proofs::lemmas::tokens::Classified::told_lemmas, std::proofs::lemmas::Grind::common_steps))]
-    pub(crate) fn told(&mut self) -> Option<Token>
+    #[tactic(auto, using(crate::proofs::lemmas::tokens::Classified::classified_lemmas, std::proofs::lemmas::Grind::common_steps))]
+    pub(crate) fn next_classified(&mut self) -> Option<Token>
         ensures { MatchOption result (self.new ≡ self.old)
             (λ token. TakesToken self.old token self.new) }
     {
         self.ahead.take(self.text)
     }
 
+    /// Returns the next token, as `next` does, but in a dev build as a call: `fill` is compiled with the caller's crate,
+    /// and this with the lexer.
+    pub(crate) fn next_outlined(&mut self) -> Option<Token>
+        ensures { YieldsToken self.old result self.new }
+    {
+        self.next()
+    }
+
     /// Moves on by this many bytes, whatever tokens they belong to.
     #[inline(always)]
-    pub(crate) fn pass(&mut self, len: usize)
+    pub(crate) fn skip_bytes(&mut self, len: usize)
         requires { IsCharBoundary self.old.rest len }
         ensures { self.new ≡ record self.old { rest = drop len self.old.rest } }
     {
@@ -233,7 +241,7 @@ impl<'a> Iterator for Tokens<'a> {
             if let Some(quick) = quick_token(bytes, reserves_guards(self.edition)) {
                 self.ahead.at += quick.len as usize;
                 if !matches!(quick.kind, TokenKind::Whitespace) {
-                    self.ahead.begin(self.text);
+                    self.ahead.classify_next(self.text);
                 }
                 return Some(quick);
             }

@@ -227,14 +227,14 @@ fn find_start(first: u8, more: &[u8], rest: &[u8]) -> Option<usize>
     }
 }
 
-/// Returns a number of bytes at the front in which the pattern begins nowhere, as its first three bytes tell.
+/// Returns a number of bytes at the front in which the pattern begins nowhere.
 fn skip_front(first: u8, more: &[u8], rest: &[u8]) -> usize
     ensures left { spec.first (first ∷ more.now) rest.now
         ≡ least.more result (spec.first (first ∷ more.now) (drop result rest.now)) }
     ensures inside { result ≤ length rest.now }
 {
-    match more.get(1) {
-        Some(third) => skip_apart(first, more[0], *third, rest),
-        None => 0,
+    if more.len() < 2 {
+        return 0;
     }
+    skip_apart(first, more, rest)
 }

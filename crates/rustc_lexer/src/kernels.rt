@@ -1,6 +1,6 @@
 //! Searches over bytes that look at 16 or 64 bytes at a time: where a run ends, and where a byte is.
 ghost use Rattle.memchr.specs.Find.{IsFirstByte, is_byte, is_byte2};
-ghost use Rattle.std.specs.Prelude.{◌≡◌, ◌^◌, ◌≤◌, ◌<◌, ◌&&◌, ◌||◌, ◌==◌, ℕ, suc, Bool, true, false, drop, length, map, not, slice_index, take};
+ghost use Rattle.std.specs.Prelude.{◌≡◌, ◌+◌, ◌-◌, ◌^◌, ◌≤◌, ◌<◌, ◌∷◌, ◌&&◌, ◌||◌, ◌==◌, ℕ, suc, Bool, true, false, drop, length, map, not, slice_index, take};
 ghost use Rattle.std.specs.List.{prefix_len};
 ghost use Rattle.std.specs.Simd.Lanes.{mask_l};
 ghost use Rattle.std.proofs.Common.{arith};
@@ -8,6 +8,7 @@ ghost use Rattle.rustc_lexer.specs.means.ByteRuns.{is_continue_byte, is_space_by
 ghost use Rattle.rustc_lexer.specs.means.Ends.{bit, IsEnds};
 ghost use Rattle.rustc_lexer.specs.means.Quick;
 ghost use Rattle.rustc_lexer.specs.means.Scan;
+ghost use Rattle.rustc_lexer.specs.means.Scan.{begins};
 
 use crate::classes::ends_prefix;
 use memchr::{memchr, memchr2};
@@ -255,27 +256,81 @@ fn places(byte: u8, bytes: &[u8]) -> u64
         .to_bitmask()
 }
 
-/// Returns a number of bytes at the front among which the three do not stand together. It looks at 16 places at a
-/// time, and stops at such bytes, or where fewer are left.
-pub(crate) fn skip_apart(one: u8, two: u8, three: u8, bytes: &[u8]) -> usize
+/// The bytes of a pattern that are looked for together: its first three, and its last.
+#[derive(Clone, Copy)]
+struct Probe {
+    first: u8,
+    second: u8,
+    third: u8,
+    last: u8,
+    /// How many bytes the last comes after the first.
+    span: usize,
+}
+
+/// Returns the bytes of a pattern that are looked for.
+#[inline(always)]
+fn probe_of(first: u8, more: &[u8]) -> Probe
+    requires { 2 ≤ length more.now }
+    ensures first { result.first ≡ first }
+    ensures second { result.second ≡ slice_index more.now 0 }
+    ensures third { result.third ≡ slice_index more.now 1 }
+    ensures last { result.last ≡ slice_index more.now (length more.now - 1) }
+    ensures span { result.span ≡ length more.now }
+{
+    Probe {
+        first,
+        second: more[0],
+        third: more[1],
+        last: more[more.len() - 1],
+        span: more.len(),
+    }
+}
+
+/// Returns a mask of the first 16 offsets. Bit k is set if the bytes are in their places from there on. Mostly the first
+/// is nowhere, or the last, and then the others are not looked for.
+#[inline(always)]
+fn candidates(probe: Probe, bytes: &[u8]) -> u64
+    requires wide { 2 ≤ probe.span }
+    requires inside { 16 + probe.span ≤ length bytes.now }
+    ensures few { result < 2 ^ 16 }
+    ensures at { (k : ℕ) → k < 16 → bit result k
+        ≡ (((is_byte probe.first (slice_index bytes.now k)
+        && is_byte probe.last (slice_index bytes.now (probe.span + k)))
+        && is_byte probe.second (slice_index bytes.now (1 + k)))
+        && is_byte probe.third (slice_index bytes.now (2 + k))) }
+{
+    let firsts = places(probe.first, bytes);
+    if firsts == 0 {
+        return 0;
+    }
+    let lasts = places(probe.last, &bytes[probe.span..]);
+    let both = firsts & lasts;
+    if both == 0 {
+        return 0;
+    }
+    let seconds = places(probe.second, &bytes[1..]);
+    let thirds = places(probe.third, &bytes[2..]);
+    both & seconds & thirds
+}
+
+/// Returns a number of bytes at the front among which the pattern does not begin. It looks at 16 offsets at a time, and
+/// stops at bytes that may begin it, or where too few are left.
+pub(crate) fn skip_apart(first: u8, more: &[u8], bytes: &[u8]) -> usize
+    requires { 2 ≤ length more.now }
     ensures apart { (k : ℕ) → k < result
-        → ((is_byte one (slice_index bytes.now k) && is_byte two (slice_index bytes.now (suc k)))
-        && is_byte three (slice_index bytes.now (suc (suc k))))
-        ≡ false }
+        → begins (first ∷ more.now) (drop k bytes.now) ≡ false }
     ensures inside { result ≤ length bytes.now }
 {
-    let mut end = 0;
-    'looks: while bytes.len() - end > 17 {
-        let ones = places(one, &bytes[end..]);
-        let twos = places(two, &bytes[end + 1..]);
-        let threes = places(three, &bytes[end + 2..]);
-        let found = ones & twos & threes;
+    let probe = probe_of(first, more);
+    let mut left = bytes;
+    'looks: while left.len() >= 16 + more.len() {
+        let found = candidates(probe, left);
         if found != 0 {
-            return end + found.trailing_zeros() as usize;
+            return bytes.len() - left.len() + found.trailing_zeros() as usize;
         }
-        end += 16;
+        left = &left[16..];
     }
-    end
+    bytes.len() - left.len()
 }
 
 /// Returns whether a word that ends at `end` is an identifier, as the byte after it determines.

@@ -148,6 +148,7 @@ impl String {
     }
 
     /// Makes room for that many more bytes.
+    #[inline]
     pub fn reserve(&mut self, more: usize) -> Result<(), AllocError> {
         Ok(self.0.try_reserve(more)?)
     }

@@ -87,11 +87,11 @@ impl From<FromStringError> for EditError {
     }
 }
 
-/// Returns what a call made, or panics at the line of the caller. A closure would panic at its own.
+/// Returns the value, or panics with the error at the line of the caller. A closure would panic at its own.
 #[track_caller]
-pub(crate) fn made<T>(result: Result<T, impl fmt::Display>) -> T {
+pub(crate) fn unwrap_or_panic<T>(result: Result<T, impl fmt::Display>) -> T {
     match result {
-        Ok(made) => made,
+        Ok(value) => value,
         Err(error) => panic!("{error}"),
     }
 }

@@ -1,7 +1,7 @@
 //! A text that is made of pieces whose tokens stay.
 
 use crate::Edition;
-use crate::edit_error::made;
+use crate::edit_error::unwrap_or_panic;
 use crate::erased::{self, JoinError};
 use crate::support::Global;
 use alloc::string::String;
@@ -77,7 +77,7 @@ impl JoinedText {
     /// Panics where [`try_push`](JoinedText::try_push) returns an error.
     #[track_caller]
     pub fn push(&mut self, piece: impl AsRef<str>) {
-        made(self.try_push(piece));
+        unwrap_or_panic(self.try_push(piece));
     }
 
     /// Does what [`push`](JoinedText::push) does, or returns why the piece was refused. Then nothing has changed.

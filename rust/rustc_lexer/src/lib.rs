@@ -72,16 +72,17 @@ mod edit_error;
     clippy::missing_panics_doc,
     clippy::must_use_candidate
 )]
-#[allow(clippy::collapsible_if, clippy::manual_map)]
-#[allow(clippy::len_without_is_empty, clippy::new_without_default)]
-#[allow(clippy::too_many_arguments)]
+#[allow(clippy::manual_map)]
+#[allow(clippy::len_without_is_empty)]
 #[doc(hidden)]
 pub mod erased;
+#[cfg(feature = "alloc")]
+mod extent;
 pub mod incremental;
 #[cfg(feature = "alloc")]
 mod joined_text;
 #[cfg(feature = "alloc")]
-mod kept;
+mod lexed;
 mod pieces;
 mod tokens;
 mod traits;
@@ -116,12 +117,12 @@ pub use erased::{
 #[doc(inline)]
 pub use erased::{Edit, EditStop, Pieces, Stopped};
 #[cfg(feature = "alloc")]
+pub use extent::{Extent, Part, Whole};
+#[cfg(feature = "alloc")]
 pub use joined_text::JoinedText;
 #[cfg(feature = "alloc")]
-pub use kept::{Document, Extent, Text};
-#[cfg(feature = "alloc")]
 #[doc(alias("edit", "incremental", "relex", "reparse"))]
-pub use kept::{Lexed, LexedDocument, LexedText};
+pub use lexed::{Lexed, LexedDocument, LexedText};
 // What links in the texts name: some are elsewhere, and some are hidden where there is no memory.
 #[cfg(all(doc, not(feature = "alloc")))]
 use erased::{JoinedText, LexedDocument, LexedText, Pieces};

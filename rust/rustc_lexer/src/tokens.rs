@@ -126,16 +126,6 @@ impl<'a> Tokens<'a> {
     /// ```
     #[cfg_attr(not(debug_assertions), inline)]
     pub fn fill<R: FromToken>(&mut self, buffer: &mut [R]) -> usize {
-        if cfg!(debug_assertions) {
-            // What is generic is compiled with the program, and `next` with this crate.
-            for (count, record) in buffer.iter_mut().enumerate() {
-                let Some(token) = self.next() else {
-                    return count;
-                };
-                *record = R::from_token(token);
-            }
-            return buffer.len();
-        }
         self.left.fill(buffer)
     }
 
@@ -150,10 +140,10 @@ impl<'a> Tokens<'a> {
     #[must_use]
     pub fn into_vec(self) -> Vec<Token> {
         // The loop takes from a copy, which stays in registers, and has a branch for the commonest tokens.
-        let mut tokens = self.left.copy();
+        let mut tokens = self.left.copy_unclassified();
         let mut list = Vec::new();
         loop {
-            if let Some(token) = tokens.told() {
+            if let Some(token) = tokens.next_classified() {
                 list.push(token);
                 continue;
             }

@@ -55,7 +55,7 @@ impl Ahead {
     /// Begins to take tokens by the ends of runs if the first byte that is left allows it and many bytes are left. The
     /// ends that are known already are kept.
     #[inline(always)]
-    pub(crate) fn begin(&mut self, text: &str)
+    pub(crate) fn classify_next(&mut self, text: &str)
         requires { TellsAhead text.now self.old }
         ensures at { self.new.at ≡ self.old.at }
         ensures tells { TellsAhead text.now self.new }

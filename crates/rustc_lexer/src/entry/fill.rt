@@ -70,11 +70,11 @@ impl<'a> Tokens<'a> {
         ensures state { self.new ≡ state_past result self.old }
     {
         // The loop takes from a copy, which stays in registers.
-        let mut tokens = self.copy();
-        tokens.begin();
+        let mut tokens = self.copy_unclassified();
+        tokens.classify_next();
         let mut count = 0;
         'places: while count < buffer.len() {
-            let Some(token) = tokens.next() else {
+            let Some(token) = tokens.next_outlined() else {
                 break;
             };
             buffer[count] = R::from_token(token);

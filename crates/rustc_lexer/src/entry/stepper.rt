@@ -128,7 +128,7 @@ impl Stepper for Steps {
     ghost law = { λ s. edition_grammar s.edition };
 
     fn step(&mut self, rest: &str) -> Token {
-        self.tally.tick_by(1);
+        self.tally.add(1);
         token_in(rest, self.edition)
     }
 
@@ -137,8 +137,8 @@ impl Stepper for Steps {
         let past_end = text.len() - end;
         let mut count = 0;
         'places: while count < buffer.len() && tokens.left() > past_end {
-            // Most tokens are told: a branch of their own is faster.
-            if let Some(token) = tokens.told() {
+            // Most tokens are classified already: a branch of their own is faster.
+            if let Some(token) = tokens.next_classified() {
                 buffer[count] = R::from_token(token);
                 count += 1;
                 continue;
@@ -149,7 +149,7 @@ impl Stepper for Steps {
             buffer[count] = R::from_token(token);
             count += 1;
         }
-        self.tally.tick_by(count);
+        self.tally.add(count);
         (count, text.len() - tokens.left())
     }
 }

@@ -63,7 +63,7 @@ pub fn is_ident(string: &str) -> bool
     ensures { result ≡ Classes.is_ident (chars string.now) }
 {
     match split_first(string) {
-        Some((first, tail)) => is_id_start(first) && tail.chars().all(is_id_continue),
+        Some((first, tail)) => is_id_start(first) && eat_continue(tail).is_empty(),
         None => false,
     }
 }

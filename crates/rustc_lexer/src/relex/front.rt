@@ -68,7 +68,7 @@ pub(crate) fn two_stand(text: &str, from: usize, to: usize) -> bool
 
 /// Returns whether `from` is a character boundary with at least two characters between it and `to`.
 #[inline(always)]
-fn stand_before(text: &str, from: usize, to: usize) -> bool
+pub(crate) fn stand_before(text: &str, from: usize, to: usize) -> bool
     requires to_boundary { IsCharBoundary text.now to }
     ensures late { to ≤ from → result ≡ false }
     ensures boundary { result ≡ true → IsCharBoundary text.now from }

@@ -1,20 +1,25 @@
 //! A text that is made of pieces whose tokens stay.
-ghost use Rattle.std.specs.Prelude.{◌≡◌, ◌+◌, ◌<◌, ◌≤◌, ◌^◌, ◌++◌, ◌↔◌, false, if◌then◌else◌, IfErr, IfSome, IsTrue, OnErr, OnOk, drop, is_some, length, take, Some, []};
+ghost use Rattle.std.specs.Prelude.{◌≡◌, ◌+◌, ◌<◌, ◌≤◌, ◌^◌, ◌++◌, ◌↔◌, false, true, ℕ, List, if◌then◌else◌, IfErr, IfSome, IsTrue, OnErr, OnOk, drop, is_some, length, take, Some, []};
 ghost use Rattle.std.specs.Str.{IsCharBoundary, chars};
 ghost use Rattle.std.specs.String.{string_bytes, string_capacity, string_len};
 ghost use Rattle.rustc_lexer.specs.Answers.{first_in, tokens_of};
 ghost use Rattle.rustc_lexer.specs.Classes.{Fits, Utf8};
 ghost use Rattle.rustc_lexer.specs.Joined.{AreClosed, AreInseparable, IsJoined, IsRefused, IsSeparated, MayEnd, MayTouch, RunsOn, TailDecides, WhiteSpaceSeparates, cut_to, error_text};
 ghost use Rattle.rustc_lexer.specs.LanguageText.{part};
+ghost use Rattle.rustc_lexer.specs.Locality.{has_two};
+ghost use Rattle.rustc_lexer.specs.{Token};
 ghost use Rattle.rustc_lexer.specs.means.Joined.{IsSure};
 
 use crate::edition::{Edition, token_in};
-use crate::relex::front::two_stand;
+use crate::relex::front::{stand_before, two_stand};
 use crate::relex::settle::settled_in;
 use std::alloc::Global;
 use std::error::Error;
 use std::fmt;
 use std::marker::Model;
+
+/// So many bytes are lexed again with the next piece, which takes less than to find out how many of them need not be.
+const SHORT: usize = 10;
 
 /// Returns whether the texts before and after `at` may touch: whether the tokens of the text are those of its part before
 /// `at`, and then those of its part after it. It reads tokens only until the first one that differs.
@@ -154,7 +159,9 @@ impl JoinedText {
         if !append_separated(&mut self.text, self.sure, self.edition, piece) {
             return Err(JoinError::Inseparable);
         }
-        self.sure = sure_later(self.text.as_str(), self.sure, self.edition);
+        let text = self.text.as_str();
+        let sure = sure_joined(text, self.sure, at);
+        self.sure = sure_later(text, sure, self.edition);
         Ok(())
     }
 
@@ -189,7 +196,7 @@ fn sure_before(text: &str, sure: usize, at: usize, edition: Edition) -> Option<u
     ensures sure { IfSome result (λ it. IsSure (first_in edition) (take at text.now) it) }
 {
     let sure = if two_stand(text, sure, at) { sure } else { 0 };
-    if stays(text, sure, at, edition) {
+    if is_prefix_stable(text, sure, at, edition) {
         Some(sure)
     } else {
         None
@@ -233,16 +240,16 @@ fn append(text: &mut String, sure: usize, edition: Edition, separator: &str, pie
     ensures capacity { string_capacity text.old ≤ string_capacity text.new }
 {
     let at = text.as_str().len();
-    put(text, separator, piece);
-    let stay = parts(text.as_str(), sure, at, separator.len(), edition);
-    if !stay {
+    append_both(text, separator, piece);
+    let separated = separates(text.as_str(), sure, at, separator.len(), edition);
+    if !separated {
         text.truncate(at);
     }
-    stay
+    separated
 }
 
 /// Appends both texts. There is room for them.
-fn put(text: &mut String, separator: &str, piece: &str)
+fn append_both(text: &mut String, separator: &str, piece: &str)
     requires fits { length (string_bytes text.old) + (length separator.now + length piece.now)
         < 2 ^ 32 }
     requires room { string_len text.old + (length separator.now + length piece.now)
@@ -257,8 +264,23 @@ fn put(text: &mut String, separator: &str, piece: &str)
     prove!(put_piece.is_ok());
 }
 
+/// Returns whether the `len` bytes from `at` on keep their tokens before what follows them. No bytes do.
+#[inline(always)]
+fn keeps_separator(text: &str, at: usize, len: usize, edition: Edition) -> bool
+    requires fits { Fits text.now }
+    requires boundary { IsCharBoundary text.now at }
+    requires end { IsCharBoundary (drop at text.now) len }
+    ensures { IsTrue result
+        ↔ MayTouch edition (take len (drop at text.now)) (drop len (drop at text.now)) }
+{
+    if len == 0 {
+        return true;
+    }
+    is_seam(&text[at..], len, edition)
+}
+
 /// Returns whether the `len` bytes from `at` on keep the texts before and after them apart.
-fn parts(text: &str, sure: usize, at: usize, len: usize, edition: Edition) -> bool
+fn separates(text: &str, sure: usize, at: usize, len: usize, edition: Edition) -> bool
     requires fits { Fits text.now }
     requires boundary { IsCharBoundary text.now at }
     requires end { IsCharBoundary (drop at text.now) len }
@@ -266,11 +288,11 @@ fn parts(text: &str, sure: usize, at: usize, len: usize, edition: Edition) -> bo
     ensures { IsTrue result ↔ IsSeparated edition (take at text.now) (take len (drop at text.now))
         (drop len (drop at text.now)) }
 {
-    is_seam(&text[at..], len, edition) && stays(text, sure, at, edition)
+    keeps_separator(text, at, len, edition) && is_prefix_stable(text, sure, at, edition)
 }
 
 /// Returns whether the tokens before `at` are the first ones of the whole text, too. Those before `sure` are.
-fn stays(text: &str, sure: usize, at: usize, edition: Edition) -> bool
+fn is_prefix_stable(text: &str, sure: usize, at: usize, edition: Edition) -> bool
     requires fits { Fits text.now }
     requires boundary { IsCharBoundary text.now at }
     requires sure { IsSure (first_in edition) (take at text.now) sure }
@@ -279,11 +301,28 @@ fn stays(text: &str, sure: usize, at: usize, edition: Edition) -> bool
     is_seam(&text[sure..], at - sure, edition)
 }
 
-/// Returns the last boundary that is sure, from one that is.
+/// Returns a boundary that is sure in a joined text: the end of the text before the piece, if two characters follow it,
+/// or else the given one.
+fn sure_joined(text: &str, sure: usize, at: usize) -> usize
+    ensures { (first : List ℕ → Token) → IsSure first text.now sure
+        → (has_two text.now at (length text.now) ≡ true → IsSure first text.now at)
+        → IsSure first text.now result }
+{
+    if stand_before(text, at, text.len()) {
+        at
+    } else {
+        sure
+    }
+}
+
+/// Returns a later boundary that is sure, from one that is: the last one, unless few bytes follow.
 fn sure_later(text: &str, sure: usize, edition: Edition) -> usize
     requires fits { Fits text.now }
     requires sure { IsSure (first_in edition) text.now sure }
     ensures { IsSure (first_in edition) text.now result }
 {
+    if text.len().saturating_sub(sure) <= SHORT {
+        return sure;
+    }
     sure + settled_in(&text[sure..], edition)
 }

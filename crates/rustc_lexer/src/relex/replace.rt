@@ -25,7 +25,7 @@ pub(crate) fn replace(
         return Ok(());
     }
     if with.len() == to - from {
-        put(list.as_mut_slice(), from, with.as_slice());
+        overwrite(list.as_mut_slice(), from, with.as_slice());
         return Ok(());
     }
     let new_len = old_len - (to - from) + with.len();
@@ -39,12 +39,12 @@ pub(crate) fn replace(
     }
     list.copy_within(to..old_len, from + with.len());
     list.truncate(new_len);
-    put(list.as_mut_slice(), from, with.as_slice());
+    overwrite(list.as_mut_slice(), from, with.as_slice());
     Ok(())
 }
 
 /// Overwrites the tokens from `from` on with the given ones.
-fn put(all: &mut [Token], from: usize, with: &[Token])
+fn overwrite(all: &mut [Token], from: usize, with: &[Token])
     requires { from + length with.now ≤ length all.old }
     ensures { all.new ≡ take from all.old ++ (with.now ++ drop (from + length with.now) all.old) }
 {

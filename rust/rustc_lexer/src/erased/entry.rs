@@ -104,7 +104,7 @@ impl<'a> Tokens<'a> {
 
     /// Returns an iterator that is at the same offset. It knows nothing of the next token, so no kind is kept in memory.
     #[inline(always)]
-    pub(crate) fn copy(&self) -> Tokens<'a> {
+    pub(crate) fn copy_unclassified(&self) -> Tokens<'a> {
         Tokens {
             text: self.text,
             ahead: Ahead {
@@ -118,21 +118,28 @@ impl<'a> Tokens<'a> {
 
     /// Begins to take tokens by the ends of runs, where they are determined in advance.
     #[inline(always)]
-    fn begin(&mut self) {
+    fn classify_next(&mut self) {
         if let FrontmatterAllowed::No = self.frontmatter_allowed {
-            self.ahead.begin(self.text);
+            self.ahead.classify_next(self.text);
         }
     }
 
     /// Returns the next token if the ends of runs determine it. A loop with a branch for these tokens is faster.
     #[inline(always)]
-    pub(crate) fn told(&mut self) -> Option<Token> {
+    pub(crate) fn next_classified(&mut self) -> Option<Token> {
         self.ahead.take(self.text)
+    }
+
+    /// Returns the next token, as `next` does, but in a dev build as a call: `fill` is compiled with the caller's crate,
+    /// and this with the lexer.
+    #[cfg_attr(not(debug_assertions), inline(always))]
+    pub(crate) fn next_outlined(&mut self) -> Option<Token> {
+        self.next()
     }
 
     /// Moves on by this many bytes, whatever tokens they belong to.
     #[inline(always)]
-    pub(crate) fn pass(&mut self, len: usize) {
+    pub(crate) fn skip_bytes(&mut self, len: usize) {
         self.ahead.classified = None;
         self.ahead.at += len;
     }
@@ -158,7 +165,7 @@ impl<'a> Iterator for Tokens<'a> {
             if let Some(quick) = quick_token(bytes, reserves_guards(self.edition)) {
                 self.ahead.at += quick.len as usize;
                 if !matches!(quick.kind, TokenKind::Whitespace) {
-                    self.ahead.begin(self.text);
+                    self.ahead.classify_next(self.text);
                 }
                 return Some(quick);
             }

@@ -168,10 +168,10 @@ fn find_start(first: u8, more: &[u8], rest: &[u8]) -> Option<usize> {
     }
 }
 
-/// Returns a number of bytes at the front in which the pattern begins nowhere, as its first three bytes tell.
+/// Returns a number of bytes at the front in which the pattern begins nowhere.
 fn skip_front(first: u8, more: &[u8], rest: &[u8]) -> usize {
-    match more.get(1) {
-        Some(third) => skip_apart(first, more[0], *third, rest),
-        None => 0,
+    if more.len() < 2 {
+        return 0;
     }
+    skip_apart(first, more, rest)
 }

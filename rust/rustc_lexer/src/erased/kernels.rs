@@ -188,21 +188,60 @@ fn places(byte: u8, bytes: &[u8]) -> u64 {
         .to_bitmask()
 }
 
-/// Returns a number of bytes at the front among which the three do not stand together. It looks at 16 places at a
-/// time, and stops at such bytes, or where fewer are left.
-pub(crate) fn skip_apart(one: u8, two: u8, three: u8, bytes: &[u8]) -> usize {
-    let mut end = 0;
-    while bytes.len() - end > 17 {
-        let ones = places(one, &bytes[end..]);
-        let twos = places(two, &bytes[end + 1..]);
-        let threes = places(three, &bytes[end + 2..]);
-        let found = ones & twos & threes;
-        if found != 0 {
-            return end + found.trailing_zeros() as usize;
-        }
-        end += 16;
+/// The bytes of a pattern that are looked for together: its first three, and its last.
+#[derive(Clone, Copy)]
+struct Probe {
+    first: u8,
+    second: u8,
+    third: u8,
+    last: u8,
+    /// How many bytes the last comes after the first.
+    span: usize,
+}
+
+/// Returns the bytes of a pattern that are looked for.
+#[inline(always)]
+fn probe_of(first: u8, more: &[u8]) -> Probe {
+    Probe {
+        first,
+        second: more[0],
+        third: more[1],
+        last: more[more.len() - 1],
+        span: more.len(),
     }
-    end
+}
+
+/// Returns a mask of the first 16 offsets. Bit k is set if the bytes are in their places from there on. Mostly the first
+/// is nowhere, or the last, and then the others are not looked for.
+#[inline(always)]
+fn candidates(probe: Probe, bytes: &[u8]) -> u64 {
+    let firsts = places(probe.first, bytes);
+    if firsts == 0 {
+        return 0;
+    }
+    let lasts = places(probe.last, &bytes[probe.span..]);
+    let both = firsts & lasts;
+    if both == 0 {
+        return 0;
+    }
+    let seconds = places(probe.second, &bytes[1..]);
+    let thirds = places(probe.third, &bytes[2..]);
+    both & seconds & thirds
+}
+
+/// Returns a number of bytes at the front among which the pattern does not begin. It looks at 16 offsets at a time, and
+/// stops at bytes that may begin it, or where too few are left.
+pub(crate) fn skip_apart(first: u8, more: &[u8], bytes: &[u8]) -> usize {
+    let probe = probe_of(first, more);
+    let mut left = bytes;
+    while left.len() >= 16 + more.len() {
+        let found = candidates(probe, left);
+        if found != 0 {
+            return bytes.len() - left.len() + found.trailing_zeros() as usize;
+        }
+        left = &left[16..];
+    }
+    bytes.len() - left.len()
 }
 
 /// Returns whether a word that ends at `end` is an identifier, as the byte after it determines.

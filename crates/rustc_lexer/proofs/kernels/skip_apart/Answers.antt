@@ -1,19 +1,27 @@
-use Rattle.std.proofs.{Common.{arith, ◌+◌, bit_and}, lemmas.{Grind.{common_steps}, List.{take_rest}, Nat.{and_le_l}}}
-use Rattle.rustc_lexer.proofs.lemmas.tokens.Pairs.{apart_on, apart_to, near}
+use Rattle.std.proofs.{Common.{◌∷◌, arith}, lemmas.{Grind.{common_steps}, List.{take_rest}}}
+use Rattle.rustc_lexer.proofs.lemmas.tokens.Pairs.{candidate, look_end, look_on, look_start, near}
 use Rattle.rustc_lexer.proofs.kernels.skip_apart.Goals as goal
+
+pub looks-init : goal.looks-init
+looks-init c = look_start (c.args.first ∷ c.args.more.now) c.args.bytes.now
+
+pub looks-preserved : goal.looks-preserved
+looks-preserved c =
+    let of = c.probe_of-probe.ensures in
+    let stands = candidate _ _ _ _ _ c.args.first c.args.more.now c.looks.left of.first of.second of.third of.last of.span c.requires _ c.candidates-found.ensures.at in
+    look_on (c.args.first ∷ c.args.more.now) c.args.bytes.now c.looks.left c.looks.invariant c.candidates-found.result stands (omega arith) _ (omega arith) (take_rest c.looks.left 16)
 
 pub returns-then-found-ne0-clause-apart : goal.returns-then-found-ne0-clause-apart
 returns-then-found-ne0-clause-apart c =
-    apart_to c.args.one c.args.two c.args.three c.args.bytes.now c.looks.end _ _ _ c.looks.invariant.apart _ _ _ (take_rest c.args.bytes.now c.looks.end) (take_rest c.args.bytes.now (c.looks.end + 1)) (take_rest c.args.bytes.now (c.looks.end + 2))
-    c.places-ones.ensures.at c.places-twos.ensures.at c.places-threes.ensures.at (omega arith)
-    (omega (arith, c.places-ones.ensures.few, and_le_l c.places-ones.result c.places-twos.result, and_le_l (bit_and c.places-ones.result c.places-twos.result) c.places-threes.result))
-
-pub looks-preserved : goal.looks-preserved
-looks-preserved c = record {
-  apart = apart_on c.args.one c.args.two c.args.three c.args.bytes.now c.looks.end _ _ _ c.looks.invariant.apart _ _ _ (take_rest c.args.bytes.now c.looks.end) (take_rest c.args.bytes.now (c.looks.end + 1)) (take_rest c.args.bytes.now (c.looks.end + 2))
-      c.places-ones.ensures.at c.places-twos.ensures.at c.places-threes.ensures.at (omega arith);
-  inside = omega arith;
-}
+    let of = c.probe_of-probe.ensures in
+    let stands = candidate _ _ _ _ _ c.args.first c.args.more.now c.looks.left of.first of.second of.third of.last of.span c.requires _ c.candidates-found.ensures.at in
+    look_end (c.args.first ∷ c.args.more.now) c.args.bytes.now c.looks.left c.looks.invariant c.candidates-found.result stands (omega arith) c.candidates-found.ensures.few
 
 pub returns-then-found-ne0-clause-inside : goal.returns-then-found-ne0-clause-inside
-returns-then-found-ne0-clause-inside c = grind (arith, common_steps, near, and_le_l)
+returns-then-found-ne0-clause-inside c =
+    let within = near c.candidates-found.result (omega arith) c.candidates-found.ensures.few in
+    let inside = c.looks.invariant.inside in
+    omega (arith, within, inside)
+
+pub returns-clause-apart : goal.returns-clause-apart
+returns-clause-apart c = c.looks.invariant.apart

@@ -86,6 +86,10 @@ separated_past edition text at len is cut e =
     rw (take-append-drop len (drop at text)) (sym (ap (λ (k : ℕ). tokens_by (first_in edition) (drop k text)) here)
     ∙ (sym (at_bound (edition_grammar edition) (length left) text is).rest ∙ (ap (drop (length left)) whole ∙ drop-append_seam left _)))
 
+-- no text touches each
+pub touch_none : (edition : Edition) (text : List ℕ) → MayTouch edition (take 0 text) (drop 0 text)
+touch_none edition text = sym (ap (λ (ts : List Token). ts ++ tokens_by (first_in edition) text) (tokens-nil (edition_grammar edition)))
+
 -- ---- how to find it out
 
 pub seam_start : (edition : Edition) (text : List ℕ) (at : ℕ) → IsUtf8 text → IsSeamFrom edition text at 0

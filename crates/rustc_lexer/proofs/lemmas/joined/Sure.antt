@@ -9,7 +9,8 @@ use Rattle.rustc_lexer.specs.{Locality.{AgreePast, IsGrammar, IsSettled, has_two
 use Rattle.rustc_lexer.specs.laws.{Cuts.{IsCutAt, at_bound, tokens_local}, Edition.{edition_grammar}}
 use Rattle.rustc_lexer.specs.means.Joined.{IsSure}
 use Rattle.rustc_lexer.proofs.lemmas.edits.FrontAndBack.{bound-same, drop_of-take, has_two-agree, has_two-before, has_two-count, has_two-intro, has_two-same}
-use Rattle.rustc_lexer.proofs.lemmas.{edits.KeptFront.{bound-shift}, joined.Joined.{IsSeamFrom, sure_touch, sure_stays}}
+use Rattle.rustc_lexer.proofs.lemmas.{edits.Bounds.{bound-last}, edits.KeptFront.{bound-shift}, heads.ByTokens.{bound-append}}
+use Rattle.rustc_lexer.proofs.lemmas.joined.Joined.{IsSeamFrom, sure_touch, sure_stays}
 
 pub sure_start : (edition : Edition) (text : List ℕ) → IsSure (first_in edition) text 0
 sure_start edition text = record { number = 0; few = omega arith; offset_is = refl; two = λ some. absurd (omega (arith, some)) }
@@ -130,3 +131,22 @@ module _ (edition : Edition) where
   grown {text} {piece} from (the.touching touch) is at room utf8 = grown_by text piece from is at (omega arith) utf8
   grown {text} {piece} from (the.spaced apart parted) is at room utf8 = grown_by text (codes " " ++ piece) from is at (omega arith) utf8
   grown {text} {piece} from (the.on_a_line apart spaced parted) is at room utf8 = grown_by text (codes "\n" ++ piece) from is at (omega arith) utf8
+
+  -- the end of the text is sure in the new one if two characters follow it
+  sure_end : (text more : List ℕ) (others : List Token) → IsText text → tokens_by first (text ++ more) ≡ tokens_by first text ++ others
+      → has_two (text ++ more) (length text) (length (text ++ more)) ≡ true → IsSure first (text ++ more) (length text)
+  sure_end text more others is e two = record {
+    number = length (tokens_by first text);
+    few = omega (arith, ap length e, length-append (tokens_by first text) others);
+    offset_is = ap (λ (ts : List Token). bound ts (length (tokens_by first text))) e ∙ (bound-append (tokens_by first text) others ∙ bound-last law text is);
+    two = λ some. two;
+  }
+
+  joined_end : {text piece new : List ℕ} → IsJoined edition text piece new → IsText text → has_two new (length text) (length new) ≡ true → IsSure first new (length text)
+  joined_end {text} {piece} (the.touching touch) is two = sure_end text piece _ is touch two
+  joined_end {text} {piece} (the.spaced apart parted) is two = sure_end text (codes " " ++ piece) _ is parted two
+  joined_end {text} {piece} (the.on_a_line apart spaced parted) is two = sure_end text (codes "\n" ++ piece) _ is parted two
+
+  pub sure_joined : {text piece new seen : List ℕ} {at : ℕ} → IsJoined edition text piece new → IsText text → seen ≡ new → at ≡ length text
+      → has_two seen at (length seen) ≡ true → IsSure first seen at
+  sure_joined joined is e f two = rw (e, f) (joined_end joined is (rw (e, f) at two))

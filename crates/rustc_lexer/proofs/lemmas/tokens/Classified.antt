@@ -20,9 +20,9 @@ left_is text bytes at e = take_rest bytes at ∙ ap (drop at) e
 -- taking the token that is determined
 module _ (allowed : FrontmatterAllowed) (edition : Edition) (text : List ℕ) (s : State) (old new : Ahead)
     (view : state 0 (drop old.at text) (mode_in allowed edition) ≡ s) where
-  pub takes_told : KnowsAhead allowed text old → (token : Token) → TakesClassified text old new token
+  pub takes_classified : KnowsAhead allowed text old → (token : Token) → TakesClassified text old new token
       → TakesToken s token (state 0 (drop new.at text) (mode_in allowed edition))
-  takes_told known token says =
+  takes_classified known token says =
       takes_part allowed edition text old.at s (known.part token.kind says.classified) view new.at token
       record { utf8 = says.utf8; fits = known.tells.fits } known.tells.bound says.some (says.first edition) says.offset
 
@@ -38,4 +38,4 @@ module _ (allowed : FrontmatterAllowed) (edition : Edition) (text : List ℕ) (s
         takes_part allowed edition text new.at s never still past token record { utf8 = subst IsUtf8 same is; fits = says.tells.fits }
         says.tells.bound some (first ∙ ap (first_token_in edition) e) o
 
-pub ruleset told_lemmas = (takes_told, still)
+pub ruleset classified_lemmas = (takes_classified, still)

@@ -1,11 +1,12 @@
 -- The two runs of an identifier: what it may go on with, and past an emoji all else.
-use Rattle.std.proofs.Common.{◌≡◌, ℕ, ◌+◌, ◌&&◌, not, Bool, true, false, if◌then◌else◌, List, [], ◌∷◌, take, drop, refl, sym, ap, ◌∙◌, arith, zero-add, codes, ltb, lt-ltb}
-use Rattle.std.specs.{List.{list_all}, Str.{chars, IsUtf8}}
-use Rattle.std.proofs.lemmas.Grind.{common_steps}
+use Rattle.std.proofs.Common.{◌≡◌, ℕ, ◌+◌, ◌==◌, ◌&&◌, not, Bool, true, false, if◌then◌else◌, List, [], ◌∷◌, length, take, drop, refl, sym, ap, ◌∙◌, arith, zero-add, codes, ltb, lt-ltb}
+use Rattle.std.specs.{List.{list_all}, Str.{chars, encode_utf8_all, IsUtf8}}
+use Rattle.std.proofs.lemmas.{Bool.Decides.{nat_tests}, Grind.{common_steps}, Str.{length-le-encodes}}
 use Rattle.rustc_lexer.specs.{Ident, UnknownPrefix}
 use Rattle.rustc_lexer.specs.{Classes.{is_id_start, is_id_continue, ends_prefix, is_word_continue}, Tables.{is_emoji}}
 use Rattle.rustc_lexer.specs.means.Ident.{ident_or_unknown_prefix, invalid_ident, begins_hash_ident}
 use Rattle.rustc_lexer.specs.means.Scan.{begins, next_is, past, run_len, scanned}
+use Rattle.rustc_lexer.specs.laws.Choice.{by_either}
 use Rattle.rustc_lexer.specs.laws.Past.{chars-past, past-past, past-two}
 
 abbrev pub len : List ℕ → ℕ
@@ -54,3 +55,16 @@ module _ (tail word : List ℕ) (is : IsUtf8 tail) (e : word ≡ past 1 tail) (h
 
   pub past-hash_ident : (ident left : List ℕ) → ident ≡ past 1 word → left ≡ past (run_len is_id_continue (chars ident)) ident → left ≡ past (2 + run_len is_id_continue (drop 2 (chars tail))) tail
   past-hash_ident ident left f g = grind (arith, common_steps, past-two, chars-past, past-past)
+
+-- ---- a text of one run
+
+-- nothing is left past the run exactly where all characters are in the class
+pub all_run : (p : ℕ → Bool) (s : List ℕ) → (length (encode_utf8_all (drop (run_len p s) s)) == 0) ≡ list_all p s
+all_run p [] = refl
+all_run p (c ∷ s) = by_either (p c)
+    (λ e. rw e (all_run p s))
+    (λ e. rw e (let long = length-le-encodes (c ∷ s) in grind (arith, nat_tests)))
+
+pub all_past : (p : ℕ → Bool) (text rest : List ℕ) → rest ≡ past (run_len p (chars text)) text → (length rest == 0) ≡ list_all p (chars text)
+unfolding past
+all_past p text rest e = rw e (all_run p (chars text))

@@ -53,7 +53,7 @@ impl<S: Stepper, E: Extent> Lexed<S, E> {
         }
         let edit = change_of(text, edits)?;
         let at = edits.len() - 1;
-        let Ok(made) = made(self.kept.alloc, text, edits, edit) else {
+        let Ok(made) = edited_text(self.kept.alloc, text, edits, edit) else {
             return Err(EditStop::Memory { at });
         };
         let before = std::mem::replace(&mut self.kept.text, made);
@@ -87,7 +87,11 @@ fn change_of(text: &str, edits: &[Edit<'_>]) -> Result<Change, EditStop>
         if edit.start < change.old_stop || !contains_range(text, edit.start, edit.stop) {
             return Err(EditStop::Range { at });
         }
-        change.new_stop = grown(change.new_stop, edit.start - change.old_stop, edit.insert);
+        change.new_stop = saturating_len(
+            change.new_stop,
+            edit.start - change.old_stop,
+            edit.insert,
+        );
         change.old_stop = edit.stop;
     }
     let behind = text.len() - change.old_stop;
@@ -99,7 +103,7 @@ fn change_of(text: &str, edits: &[Edit<'_>]) -> Result<Change, EditStop>
 }
 
 /// Returns the length with that many more bytes, and those of a text, or the greatest number.
-fn grown(len: usize, more: usize, text: &str) -> usize
+fn saturating_len(len: usize, more: usize, text: &str) -> usize
     ensures sum { result ≡ min (2 ^ 64 - 1) (len + more + length text.now) }
     ensures utf8 { IsUtf8 text.now }
 {
@@ -107,7 +111,12 @@ fn grown(len: usize, more: usize, text: &str) -> usize
 }
 
 /// Returns the text that they make.
-fn made(alloc: Global, text: &str, edits: &[Edit<'_>], edit: Change) -> Result<String, AllocError>
+fn edited_text(
+    alloc: Global,
+    text: &str,
+    edits: &[Edit<'_>],
+    edit: Change,
+) -> Result<String, AllocError>
     requires in_order { AreInOrder text.now 0 edits.now }
     requires stop { edit.old_stop ≤ length text.now }
     requires short { edit.new_stop < 2 ^ 33 }

@@ -22,12 +22,12 @@ impl<'a> Cursor<'a> {
         let rest = self.as_str();
         let n_hashes = count_hashes(rest);
         let Some((terminated, len)) = string_past(rest, n_hashes) else {
-            self.tokens.pass(n_hashes);
+            self.tokens.skip_bytes(n_hashes);
             self.pending += n_hashes as u32;
             return None;
         };
         let token_len = self.pending + len as u32;
-        self.tokens.pass(len);
+        self.tokens.skip_bytes(len);
         self.pending = 0;
         Some(GuardedStr {
             n_hashes: n_hashes as u32,

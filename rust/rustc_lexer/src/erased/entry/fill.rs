@@ -45,11 +45,11 @@ impl<'a> Tokens<'a> {
     /// They are the tokens that as many calls of `next` return.
     pub fn fill<R: FromToken>(&mut self, buffer: &mut [R]) -> usize {
         // The loop takes from a copy, which stays in registers.
-        let mut tokens = self.copy();
-        tokens.begin();
+        let mut tokens = self.copy_unclassified();
+        tokens.classify_next();
         let mut count = 0;
         while count < buffer.len() {
-            let Some(token) = tokens.next() else {
+            let Some(token) = tokens.next_outlined() else {
                 break;
             };
             buffer[count] = R::from_token(token);

@@ -18,5 +18,5 @@ impl Tally {
     }
 
     /// Adds this many to the count.
-    pub(crate) fn tick_by(&mut self, _more: usize) {}
+    pub(crate) fn add(&mut self, _more: usize) {}
 }

@@ -51,7 +51,7 @@ pub(crate) fn two_stand(text: &str, from: usize, to: usize) -> bool {
 
 /// Returns whether `from` is a character boundary with at least two characters between it and `to`.
 #[inline(always)]
-fn stand_before(text: &str, from: usize, to: usize) -> bool {
+pub(crate) fn stand_before(text: &str, from: usize, to: usize) -> bool {
     text.is_char_boundary(from) && two_stand(text, from, to)
 }
 

@@ -3,11 +3,14 @@
 use crate::support::String;
 
 use crate::erased::edition::{Edition, token_in};
-use crate::erased::relex::front::two_stand;
+use crate::erased::relex::front::{stand_before, two_stand};
 use crate::erased::relex::settle::settled_in;
 use crate::support::Global;
 use core::error::Error;
 use core::fmt;
+
+/// So many bytes are lexed again with the next piece, which takes less than to find out how many of them need not be.
+const SHORT: usize = 10;
 
 /// Returns whether the texts before and after `at` may touch: whether the tokens of the text are those of its part before
 /// `at`, and then those of its part after it. It reads tokens only until the first one that differs.
@@ -97,7 +100,9 @@ impl JoinedText {
         if !append_separated(&mut self.text, self.sure, self.edition, piece) {
             return Err(JoinError::Inseparable);
         }
-        self.sure = sure_later(self.text.as_str(), self.sure, self.edition);
+        let text = self.text.as_str();
+        let sure = sure_joined(text, self.sure, at);
+        self.sure = sure_later(text, sure, self.edition);
         Ok(())
     }
 
@@ -120,7 +125,7 @@ impl JoinedText {
 /// Returns a boundary that is sure in the text up to `at`, by one of the whole text, if the text may end there.
 fn sure_before(text: &str, sure: usize, at: usize, edition: Edition) -> Option<usize> {
     let sure = if two_stand(text, sure, at) { sure } else { 0 };
-    if stays(text, sure, at, edition) {
+    if is_prefix_stable(text, sure, at, edition) {
         Some(sure)
     } else {
         None
@@ -142,16 +147,16 @@ fn append_separated(text: &mut String, sure: usize, edition: Edition, piece: &st
 /// Appends the separator and the piece if the tokens stay so. Returns whether it did. There is room for them.
 fn append(text: &mut String, sure: usize, edition: Edition, separator: &str, piece: &str) -> bool {
     let at = text.as_str().len();
-    put(text, separator, piece);
-    let stay = parts(text.as_str(), sure, at, separator.len(), edition);
-    if !stay {
+    append_both(text, separator, piece);
+    let separated = separates(text.as_str(), sure, at, separator.len(), edition);
+    if !separated {
         text.truncate(at);
     }
-    stay
+    separated
 }
 
 /// Appends both texts. There is room for them.
-fn put(text: &mut String, separator: &str, piece: &str) {
+fn append_both(text: &mut String, separator: &str, piece: &str) {
     let put_separator = text.push_str(separator);
     // There is room, so neither of them allocates.
     debug_assert!(put_separator.is_ok());
@@ -159,17 +164,39 @@ fn put(text: &mut String, separator: &str, piece: &str) {
     debug_assert!(put_piece.is_ok());
 }
 
+/// Returns whether the `len` bytes from `at` on keep their tokens before what follows them. No bytes do.
+#[inline(always)]
+fn keeps_separator(text: &str, at: usize, len: usize, edition: Edition) -> bool {
+    if len == 0 {
+        return true;
+    }
+    is_seam(&text[at..], len, edition)
+}
+
 /// Returns whether the `len` bytes from `at` on keep the texts before and after them apart.
-fn parts(text: &str, sure: usize, at: usize, len: usize, edition: Edition) -> bool {
-    is_seam(&text[at..], len, edition) && stays(text, sure, at, edition)
+fn separates(text: &str, sure: usize, at: usize, len: usize, edition: Edition) -> bool {
+    keeps_separator(text, at, len, edition) && is_prefix_stable(text, sure, at, edition)
 }
 
 /// Returns whether the tokens before `at` are the first ones of the whole text, too. Those before `sure` are.
-fn stays(text: &str, sure: usize, at: usize, edition: Edition) -> bool {
+fn is_prefix_stable(text: &str, sure: usize, at: usize, edition: Edition) -> bool {
     is_seam(&text[sure..], at - sure, edition)
 }
 
-/// Returns the last boundary that is sure, from one that is.
+/// Returns a boundary that is sure in a joined text: the end of the text before the piece, if two characters follow it,
+/// or else the given one.
+fn sure_joined(text: &str, sure: usize, at: usize) -> usize {
+    if stand_before(text, at, text.len()) {
+        at
+    } else {
+        sure
+    }
+}
+
+/// Returns a later boundary that is sure, from one that is: the last one, unless few bytes follow.
 fn sure_later(text: &str, sure: usize, edition: Edition) -> usize {
+    if text.len().saturating_sub(sure) <= SHORT {
+        return sure;
+    }
     sure + settled_in(&text[sure..], edition)
 }

@@ -8,9 +8,9 @@ places-preserved g c =
     let inv = c.places.invariant in
     let s = c.args.self.now in
     let at = c.places.tokens in
-    let past = c.next.new.self in
+    let past = c.next_outlined.new.self in
     let token = c.in-Some.token in
-    let takes = c.in-Some.ensures.steps in
+    let takes = c.in-Some.ensures in
     let fits : c.places.count < length c.places.buffer = omega arith in
     record {
       past = past_more s at past c.places.count token inv.past inv.left takes;

@@ -3,12 +3,12 @@ use Rattle.std.specs.Str.{IsUtf8}
 use Rattle.std.proofs.lemmas.Str.{IsUtf8-drop}
 use Rattle.rustc_lexer.specs.{LanguageText.{mode_in}, means.{Taking.{token_at}, Quick.{BeginsWithNoHash}}}
 use Rattle.rustc_lexer.proofs.lemmas.tokens.Tokens.{goes, none_left, takes_next}
-use Rattle.rustc_lexer.proofs.lemmas.tokens.Classified.{left_is, still, takes_left, takes_told}
+use Rattle.rustc_lexer.proofs.lemmas.tokens.Classified.{left_is, still, takes_left, takes_classified}
 use Rattle.rustc_lexer.proofs.entry.TokensIterator.next.Goals as goal
 
 pub returns-in-Some : goal.returns-in-Some
 returns-in-Some c =
-    let taken = takes_told _ _ c.self.inside.text.now c.args.self.now _ _ c.self.view_is c.self.invariant c.in-Some.token c.in-Some.ensures in
+    let taken = takes_classified _ _ c.self.inside.text.now c.args.self.now _ _ c.self.view_is c.self.invariant c.in-Some.token c.in-Some.ensures in
     record { steps = taken; goes = goes _ _ _ taken }
 
 pub returns-then-self-clause-steps : goal.returns-then-self-clause-steps
@@ -27,9 +27,9 @@ choose_in-chosen-requires-clause-no_hash c =
 
 pub returns-then-not-matches : goal.returns-then-not-matches
 returns-then-not-matches c =
-    let taken = takes_left _ _ c.self.inside.text.now c.args.self.now _ _ c.self.view_is c.in_default.ensures _ _ c.begin.new.self.at
+    let taken = takes_left _ _ c.self.inside.text.now c.args.self.now _ _ c.self.view_is c.in_default.ensures _ _ c.classify_next.new.self.at
     c.in-Some-quick_token.quick c.as_bytes.ensures.utf8 c.as_bytes.ensures.value (left_is _ _ _ c.as_bytes.ensures.value) (omega arith) c.in-No.is
-    (c.in-Some-quick_token.ensures.token c.self.inside.edition (sym c.reserves_guards.ensures)) c.begin.ensures.at in
+    (c.in-Some-quick_token.ensures.token c.self.inside.edition (sym c.reserves_guards.ensures)) c.classify_next.ensures.at in
     record { steps = taken; goes = goes _ _ _ taken }
 
 pub returns-else-not-matches : goal.returns-else-not-matches

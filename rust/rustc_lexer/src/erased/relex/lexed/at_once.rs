@@ -29,7 +29,7 @@ impl<S: Stepper, E: Extent> Lexed<S, E> {
         }
         let edit = change_of(text, edits)?;
         let at = edits.len() - 1;
-        let Ok(made) = made(self.kept.alloc, text, edits, edit) else {
+        let Ok(made) = edited_text(self.kept.alloc, text, edits, edit) else {
             return Err(EditStop::Memory { at });
         };
         let before = core::mem::replace(&mut self.kept.text, made);
@@ -54,7 +54,8 @@ fn change_of(text: &str, edits: &[Edit<'_>]) -> Result<Change, EditStop> {
         if edit.start < change.old_stop || !contains_range(text, edit.start, edit.stop) {
             return Err(EditStop::Range { at });
         }
-        change.new_stop = grown(change.new_stop, edit.start - change.old_stop, edit.insert);
+        change.new_stop =
+            saturating_len(change.new_stop, edit.start - change.old_stop, edit.insert);
         change.old_stop = edit.stop;
     }
     let behind = text.len() - change.old_stop;
@@ -66,12 +67,17 @@ fn change_of(text: &str, edits: &[Edit<'_>]) -> Result<Change, EditStop> {
 }
 
 /// Returns the length with that many more bytes, and those of a text, or the greatest number.
-fn grown(len: usize, more: usize, text: &str) -> usize {
+fn saturating_len(len: usize, more: usize, text: &str) -> usize {
     len.saturating_add(more).saturating_add(text.len())
 }
 
 /// Returns the text that they make.
-fn made(alloc: Global, text: &str, edits: &[Edit<'_>], edit: Change) -> Result<String, AllocError> {
+fn edited_text(
+    alloc: Global,
+    text: &str,
+    edits: &[Edit<'_>],
+    edit: Change,
+) -> Result<String, AllocError> {
     let mut made = String::new(alloc);
     made.reserve(edit.new_stop + (text.len() - edit.old_stop))?;
     let mut from = 0;

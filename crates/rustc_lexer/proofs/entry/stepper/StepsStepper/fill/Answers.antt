@@ -12,7 +12,7 @@ places-preserved-in-Some g c =
 
 pub places-preserved : goal.places-preserved
 places-preserved g c =
-    let same : State = c.told.new.self in
+    let same : State = c.next_classified.new.self in
     let here = subst (λ (s : State). IsFilling g.R.FromToken.written c.args.self.now.edition c.args.text.now c.args.end c.args.buffer.now c.places.buffer c.places.count s) (sym c.in_default.ensures) c.places.invariant in
     filled_more g.R.FromToken.written _ c.args.text.now c.args.end c.args.buffer.now c.places.buffer c.places.count same _ c.in-Some-next.token _ record { utf8 = c.utf8.text; fits = c.requires.fits } c.requires.inside here (omega (arith, ap (λ (s : State). length s.rest) c.in_default.ensures)) (omega arith) c.in-Some-next.ensures.steps c.from_token-in-places.ensures
 
@@ -31,7 +31,7 @@ returns-clause-filled g c =
       | then-places-test+else-left-past_end w ↦ λ more. omega (arith, left, offset.inside, w.left.ensures, w.if-left-past_end.false)
       | else-places-test w ↦ λ more. absurd (omega arith)
       | then-places-test+then-left-past_end+in_default+in_default-next w ↦
-          let some = some_left edition (drop at text) offset.past w.told.new.self (ap (λ (s : State). s.mode) w.in_default.ensures ∙ inv.mode) (ap (λ (s : State). s.rest) w.in_default.ensures ∙ inv.rest) (omega (arith, left, length-drop at text, w.left.ensures, w.if-left-past_end.true)) in
+          let some = some_left edition (drop at text) offset.past w.next_classified.new.self (ap (λ (s : State). s.mode) w.in_default.ensures ∙ inv.mode) (ap (λ (s : State). s.rest) w.in_default.ensures ∙ inv.rest) (omega (arith, left, length-drop at text, w.left.ensures, w.if-left-past_end.true)) in
           let none = ap (λ (ts : List Token). length ts) w.in_default-next.ensures.steps.0 in
           λ more. absurd (omega (arith, some, none))
     ] in

@@ -2,7 +2,7 @@ use Rattle.std.proofs.{Common.{arith, subst, string_bytes, chars, List, ℕ}, le
 use Rattle.std.proofs.lemmas.Str.{IsUtf8-string_bytes}
 use Rattle.rustc_lexer.specs.{Answers.{first_in, tokens_of}, Joined.{AreClosed, AreInseparable, Joined, RunsOn}}
 use Rattle.rustc_lexer.specs.{LanguageText.{part}, means.Joined.{IsSure}}
-use Rattle.rustc_lexer.proofs.lemmas.joined.{Sure.{grown, joined-only}, Separators.{runs-on}}
+use Rattle.rustc_lexer.proofs.lemmas.joined.{Sure.{grown, joined-only, sure_joined}, Separators.{runs-on}}
 use Rattle.rustc_lexer.proofs.relex.joined.JoinedText.push.Goals as goal
 
 pub returns-then-not-append_separated-clause-closed : goal.returns-then-not-append_separated-clause-closed
@@ -13,10 +13,13 @@ returns-then-not-append_separated-clause-closed c =
 
 pub sure_later-self-inside-requires : goal.sure_later-self-inside-requires
 sure_later-self-inside-requires c =
-    let g = grown c.self.inside.edition c.self.inside.sure (rw c.reserve.ensures.bytes at
-    (c.append_separated.ensures.joined c.if-not-append_separated.false)) c.self.invariant.0 c.self.invariant.1 (omega arith)
-    (IsUtf8-string_bytes c.append_separated.new.text) in
-    rw c.as_str.ensures.value record { fits = g.0.fits; sure = g.1 }
+    let joined = rw c.reserve.ensures.bytes at (c.append_separated.ensures.joined c.if-not-append_separated.false) in
+    let g = grown c.self.inside.edition c.self.inside.sure joined c.self.invariant.0 c.self.invariant.1 (omega arith) (IsUtf8-string_bytes c.append_separated.new.text) in
+    let value = c.as_str-text.ensures.value in
+    record {
+      fits = rw value g.0.fits;
+      sure = c.sure_joined-sure.ensures _ (rw value g.1) (sure_joined c.self.inside.edition joined c.self.invariant.0 value (omega arith));
+    }
 
 pub invariant_of-self-2 : goal.invariant_of-self-2
 invariant_of-self-2 c =
@@ -24,7 +27,7 @@ invariant_of-self-2 c =
     (c.append_separated.ensures.joined c.if-not-append_separated.false)) c.self.invariant.0 c.self.invariant.1 (omega arith)
     (IsUtf8-string_bytes c.append_separated.new.text) in (
       g.0,
-      subst (λ (xs : List ℕ). IsSure (first_in c.self.inside.edition) xs c.sure_later-self-inside.result) c.as_str.ensures.value
+      subst (λ (xs : List ℕ). IsSure (first_in c.self.inside.edition) xs c.sure_later-self-inside.result) c.as_str-text.ensures.value
           c.sure_later-self-inside.ensures,
     )
 

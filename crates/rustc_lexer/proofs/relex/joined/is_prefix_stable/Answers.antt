@@ -1,7 +1,7 @@
 use Rattle.std.proofs.Common.{◌≡◌, ◌+◌, ◌-◌, arith, drop-drop, length-drop}
 use Rattle.std.proofs.lemmas.Str.{IsCharBoundary-from_drop, IsUtf8-drop}
 use Rattle.rustc_lexer.proofs.lemmas.joined.Sure.{near}
-use Rattle.rustc_lexer.proofs.relex.joined.stays.Goals as goal
+use Rattle.rustc_lexer.proofs.relex.joined.is_prefix_stable.Goals as goal
 
 pub range_from-requires : goal.range_from-requires
 range_from-requires c = λ some. (near c.args.edition c.args.text.now c.args.sure c.args.at record { utf8 = c.utf8.text; fits = c.requires.fits } c.requires.boundary c.requires.sure).boundary

@@ -1,8 +1,10 @@
-//! Texts that are kept with their tokens under edits: a part of a file, and a whole one.
+//! Incrementally lexed texts: `LexedText` for a part of a file, `LexedDocument` for a whole file.
 
 use crate::checked::Checked;
-use crate::edit_error::{EditError, FromStringError, check_accepted, made, try_fitting};
+use crate::edit_error::{EditError, FromStringError};
+use crate::edit_error::{check_accepted, try_fitting, unwrap_or_panic};
 use crate::erased::{self, Edit, EditStop, Stopped};
+use crate::extent::{Extent, Part, Whole};
 use crate::support::{self, AllocError, Global};
 use crate::{Edition, Piece, Pieces, Relexed, Stepper, Steps, Token, TokenStart};
 use alloc::string::String;
@@ -40,9 +42,9 @@ fn checked_range(numbers: &impl RangeBounds<usize>, tokens: &[Token]) -> Range<u
 /// of your own.
 ///
 /// ```
-/// use rustc_lexer::{Extent, Lexed, LexedDocument, LexedText};
+/// use rustc_lexer::{Extent, Lexed, LexedDocument, LexedText, Steps};
 ///
-/// fn count<E: Extent>(lexed: &Lexed<E>) -> usize {
+/// fn count<E: Extent>(lexed: &Lexed<Steps, E>) -> usize {
 ///     lexed.tokens().len()
 /// }
 ///
@@ -53,10 +55,11 @@ fn checked_range(numbers: &impl RangeBounds<usize>, tokens: &[Token]) -> Range<u
 ///
 /// Each call that panics if a text is too long, a range is bad or an allocation fails has a twin that returns an error
 /// instead, like [`try_edit`](Lexed::try_edit).
-pub struct Lexed<E: Extent, S: Stepper = Steps> {
-    kept: erased::Lexed<S, E::Proved>,
-    /// Whether an edit has begun and not ended. Past it that means that a step panicked.
-    in_edit: bool,
+#[derive(Clone)]
+pub struct Lexed<S: Stepper = Steps, E: Extent = Part> {
+    kept: erased::Lexed<S, E>,
+    /// Whether a step of an edit panicked. It is set while an edit runs, so it stays set if the edit never returns.
+    is_poisoned: bool,
 }
 
 /// A text and its tokens, which are always those of lexing the text from scratch, as a part of a file; of a stepper of
@@ -73,7 +76,7 @@ pub struct Lexed<E: Extent, S: Stepper = Steps> {
 /// assert_eq!(lexed.text(), "let ab = cd - 1 - ef;");
 /// assert_eq!((relexed.kept_front, relexed.lexed, relexed.kept_back), (6, 7, 3));
 /// ```
-pub type LexedText<S = Steps> = Lexed<Text, S>;
+pub type LexedText<S = Steps> = Lexed<S, Part>;
 
 /// A whole file and its tokens, which are always those of [`tokenize_document`](crate::tokenize_document): they begin
 /// after a shebang line, and a frontmatter is one token.
@@ -98,58 +101,9 @@ pub type LexedText<S = Steps> = Lexed<Text, S>;
 /// The first of its pieces begins at [`shebang_len`](LexedDocument::shebang_len). A shebang line is not a piece: if an
 /// edit changes it, `kept_front` is 0, and the text before the first piece is to be repainted too. A byte order mark in
 /// front of it is a piece, `Unknown`, and hides it and a frontmatter.
-pub type LexedDocument<S = Steps> = Lexed<Document, S>;
+pub type LexedDocument<S = Steps> = Lexed<S, Whole>;
 
-/// How much of a file a text is: [`Text`] or [`Document`], and nothing else.
-pub trait Extent: sealed::Sealed {}
-
-/// A part of a file: the extent of a [`LexedText`].
-pub enum Text {}
-
-/// A whole file: the extent of a [`LexedDocument`].
-pub enum Document {}
-
-impl Extent for Text {}
-impl Extent for Document {}
-
-mod sealed {
-    use crate::edit_error::{EditError, try_fitting};
-    use crate::erased::head::{self, Part, Whole};
-    use crate::erased::{Edition, Lexed, Steps};
-    use crate::support::Global;
-
-    pub trait Sealed {
-        /// What the proved source calls it.
-        type Proved: head::Extent;
-        /// The name of its kept text.
-        const NAME: &'static str;
-
-        /// Lexes a text. Nothing in it is generic, so it is compiled with this crate.
-        fn lex(text: &str, edition: Edition) -> Result<Lexed<Steps, Self::Proved>, EditError>;
-    }
-
-    impl Sealed for super::Text {
-        type Proved = Part;
-        const NAME: &'static str = "LexedText";
-
-        #[cfg_attr(not(debug_assertions), inline)]
-        fn lex(text: &str, edition: Edition) -> Result<Lexed<Steps, Part>, EditError> {
-            Ok(Lexed::new_in(Global, try_fitting(text)?, edition)?)
-        }
-    }
-
-    impl Sealed for super::Document {
-        type Proved = Whole;
-        const NAME: &'static str = "LexedDocument";
-
-        #[cfg_attr(not(debug_assertions), inline)]
-        fn lex(text: &str, edition: Edition) -> Result<Lexed<Steps, Whole>, EditError> {
-            Ok(Lexed::new_in(Global, try_fitting(text)?, edition)?)
-        }
-    }
-}
-
-impl<E: Extent> Lexed<E> {
+impl<E: Extent> Lexed<Steps, E> {
     /// Returns the text with its tokens in the newest edition.
     ///
     /// ```
@@ -181,7 +135,7 @@ impl<E: Extent> Lexed<E> {
     #[must_use]
     #[track_caller]
     pub fn new_in(text: impl AsRef<str>, edition: Edition) -> Self {
-        made(Self::try_new_in(text, edition))
+        unwrap_or_panic(Self::try_new_in(text, edition))
     }
 
     /// Returns the text with its tokens in an edition.
@@ -198,7 +152,7 @@ impl<E: Extent> Lexed<E> {
     ///
     /// `TooLong` if the text has more than `u32::MAX` bytes, `Memory` if an allocation failed.
     pub fn try_new_in(text: impl AsRef<str>, edition: Edition) -> Result<Self, EditError> {
-        Ok(Lexed::of(E::lex(text.as_ref(), edition)?))
+        Ok(Lexed::from_proved(E::lex(text.as_ref(), edition)?))
     }
 
     /// Returns the text, of which it copies nothing, with its tokens in an edition.
@@ -217,16 +171,16 @@ impl<E: Extent> Lexed<E> {
     /// `TooLong` if the text has more than `u32::MAX` bytes, `Memory` if an allocation failed. The error has the text.
     pub fn try_from_string_in(text: String, edition: Edition) -> Result<Self, FromStringError> {
         let mut text = text.into();
-        Self::taking(&mut text, edition).map_err(|error| FromStringError {
+        Self::try_move_in(&mut text, edition).map_err(|error| FromStringError {
             text: text.into(),
             error,
         })
     }
 
-    /// Does what `try_from_string_in` does. Where it fails, the text stays.
-    fn taking(text: &mut support::String, edition: Edition) -> Result<Self, EditError> {
+    /// Lexes a text, which it moves out of the variable only if it succeeds.
+    fn try_move_in(text: &mut support::String, edition: Edition) -> Result<Self, EditError> {
         try_fitting(text.as_str())?;
-        let mut lexed = Lexed::of(E::lex("", edition)?);
+        let mut lexed = Lexed::from_proved(E::lex("", edition)?);
         lexed.lex_anew(text)?;
         Ok(lexed)
     }
@@ -257,7 +211,7 @@ impl<E: Extent> Lexed<E> {
     ///
     /// Panics if an allocation fails. Nothing changes then.
     pub fn set_edition(&mut self, edition: Edition) {
-        made(self.try_set_edition(edition));
+        unwrap_or_panic(self.try_set_edition(edition));
     }
 
     /// Lexes the text again, in another edition.
@@ -292,7 +246,7 @@ impl<E: Extent> Lexed<E> {
     }
 }
 
-impl<S: Stepper, E: Extent> Lexed<E, Checked<S>> {
+impl<S: Stepper, E: Extent> Lexed<Checked<S>, E> {
     /// Returns the text with its tokens by a stepper of your own. The head of a whole file is not lexed by it.
     ///
     /// ```
@@ -316,7 +270,7 @@ impl<S: Stepper, E: Extent> Lexed<E, Checked<S>> {
     /// `TooLong` if the text has more than `u32::MAX` bytes, `Memory` if an allocation failed.
     pub fn try_with(text: impl AsRef<str>, stepper: S) -> Result<Self, EditError> {
         let text = try_fitting(text.as_ref())?;
-        Ok(Lexed::of(erased::Lexed::with(
+        Ok(Lexed::from_proved(erased::Lexed::with(
             Global,
             text,
             Checked(stepper),
@@ -338,38 +292,38 @@ impl<S: Stepper, E: Extent> Lexed<E, Checked<S>> {
     }
 }
 
-impl<S: Stepper, E: Extent> Lexed<E, S> {
-    fn of(kept: erased::Lexed<S, E::Proved>) -> Self {
+impl<S: Stepper, E: Extent> Lexed<S, E> {
+    fn from_proved(kept: erased::Lexed<S, E>) -> Self {
         Lexed {
             kept,
-            in_edit: false,
+            is_poisoned: false,
         }
     }
 
-    /// Returns what is kept. Panics if a step of an edit panicked: then the tokens are not those of the text.
+    /// Returns the lexed text. Panics if a step of an edit panicked: then the tokens are not those of the text.
     #[track_caller]
-    fn whole(&self) -> &erased::Lexed<S, E::Proved> {
+    fn unpoisoned(&self) -> &erased::Lexed<S, E> {
         assert!(
-            !self.in_edit,
+            !self.is_poisoned,
             "a panic in `Stepper::step` left this text without tokens"
         );
         &self.kept
     }
 
-    /// Makes edits. If a step panics on the way, the text is left without tokens.
+    /// Applies edits. If a step panics on the way, the text is poisoned: it has no tokens.
     #[track_caller]
-    fn change<T>(&mut self, edits: impl FnOnce(&mut erased::Lexed<S, E::Proved>) -> T) -> T {
-        self.whole();
-        self.in_edit = true;
-        let answer = edits(&mut self.kept);
-        self.in_edit = false;
-        answer
+    fn apply<T>(&mut self, edits: impl FnOnce(&mut erased::Lexed<S, E>) -> T) -> T {
+        self.unpoisoned();
+        self.is_poisoned = true;
+        let result = edits(&mut self.kept);
+        self.is_poisoned = false;
+        result
     }
 
     /// Takes a text, and lexes it by the stepper that is kept. If an allocation fails, the text stays.
     fn lex_anew(&mut self, text: &mut support::String) -> Result<Relexed, AllocError> {
         self.kept.lex_anew(text)?;
-        self.in_edit = false;
+        self.is_poisoned = false;
         Ok(Relexed::none(self.tokens().len()))
     }
 
@@ -396,7 +350,7 @@ impl<S: Stepper, E: Extent> Lexed<E, S> {
     #[must_use]
     #[track_caller]
     pub fn tokens(&self) -> &[Token] {
-        self.whole().tokens()
+        self.unpoisoned().tokens()
     }
 
     /// Returns the text, as [`text`](Lexed::text) does, and drops its tokens. It copies nothing.
@@ -424,7 +378,7 @@ impl<S: Stepper, E: Extent> Lexed<E, S> {
     /// ```
     #[track_caller]
     pub fn pieces(&self) -> Pieces<'_> {
-        self.whole().pieces()
+        self.unpoisoned().pieces()
     }
 
     /// Returns the pieces of some tokens, by their numbers. After an edit, repaint those of `relexed.changed_tokens()`.
@@ -444,7 +398,8 @@ impl<S: Stepper, E: Extent> Lexed<E, S> {
     #[track_caller]
     pub fn pieces_of_tokens(&self, numbers: impl RangeBounds<usize>) -> Pieces<'_> {
         let numbers = checked_range(&numbers, self.tokens());
-        self.whole().pieces_of_tokens(numbers.start, numbers.end)
+        self.unpoisoned()
+            .pieces_of_tokens(numbers.start, numbers.end)
     }
 
     /// Returns the token that contains the byte at `offset`: its index, and where it begins. `None` at and past the
@@ -462,7 +417,7 @@ impl<S: Stepper, E: Extent> Lexed<E, S> {
     #[must_use]
     #[track_caller]
     pub fn token_start_at(&self, offset: usize) -> Option<TokenStart> {
-        self.whole().token_start_at(offset)
+        self.unpoisoned().token_start_at(offset)
     }
 
     /// Returns the piece that contains the byte at `offset`, like that under a caret. `None` at and past the end of the
@@ -479,7 +434,7 @@ impl<S: Stepper, E: Extent> Lexed<E, S> {
     #[must_use]
     #[track_caller]
     pub fn piece_at(&self, offset: usize) -> Option<Piece<'_>> {
-        self.whole().piece_at(offset)
+        self.unpoisoned().piece_at(offset)
     }
 
     /// Returns the pieces of the tokens that contain a byte of the range, like those of the lines in view. The
@@ -505,7 +460,7 @@ impl<S: Stepper, E: Extent> Lexed<E, S> {
     #[track_caller]
     pub fn pieces_in_bytes(&self, range: impl RangeBounds<usize>) -> Pieces<'_> {
         let range = range_in(&range, self.text().len());
-        self.whole().pieces_in_bytes(range.start, range.end)
+        self.unpoisoned().pieces_in_bytes(range.start, range.end)
     }
 
     /// Returns whether the range is in bounds and on char boundaries, and the new text has at most `u32::MAX`
@@ -568,7 +523,7 @@ impl<S: Stepper, E: Extent> Lexed<E, S> {
     ) -> Result<Relexed, EditError> {
         let range = range_in(&range, self.text().len());
         check_accepted(|insert| self.accepts(range.clone(), insert), insert)?;
-        Ok(self.change(|kept| kept.edit(range.start, range.end, insert))?)
+        Ok(self.apply(|kept| kept.edit(range.start, range.end, insert))?)
     }
 
     /// Makes the edits in order, each on the text that those before it leave.
@@ -587,7 +542,7 @@ impl<S: Stepper, E: Extent> Lexed<E, S> {
     /// Which edit is the first that is refused, and why. Those before it are made.
     #[track_caller]
     pub fn edit_all(&mut self, edits: &[Edit<'_>]) -> Result<(), EditStop> {
-        self.change(|kept| kept.edit_all(edits))
+        self.apply(|kept| kept.edit_all(edits))
     }
 
     /// Makes the edits as `edit_all` does, and returns which tokens all of them kept: what to repaint is between.
@@ -608,7 +563,7 @@ impl<S: Stepper, E: Extent> Lexed<E, S> {
     /// Which edit is the first that is refused, why, and which tokens the edits before it kept. Those are made.
     #[track_caller]
     pub fn edit_each(&mut self, edits: &[Edit<'_>]) -> Result<Relexed, Stopped> {
-        self.change(|kept| kept.edit_each(edits))
+        self.apply(|kept| kept.edit_each(edits))
     }
 
     /// Makes the edits at once, like those of a rename or of several carets. All have offsets of the present text, are
@@ -635,7 +590,7 @@ impl<S: Stepper, E: Extent> Lexed<E, S> {
     /// in front of it ends. `TooLong` and `Memory` name the last. Text and tokens are then as they were.
     #[track_caller]
     pub fn edit_at_once(&mut self, edits: &[Edit<'_>]) -> Result<Relexed, EditStop> {
-        self.change(|kept| kept.edit_at_once(edits))
+        self.apply(|kept| kept.edit_at_once(edits))
     }
 
     /// Makes the text another one, like one that a formatter wrote, by one edit of what differs: between the
@@ -658,7 +613,7 @@ impl<S: Stepper, E: Extent> Lexed<E, S> {
     /// Panics if `try_set_text` returns an error. Text and tokens are then as they were.
     #[track_caller]
     pub fn set_text(&mut self, text: impl AsRef<str>) -> Relexed {
-        made(self.try_set_text(text))
+        unwrap_or_panic(self.try_set_text(text))
     }
 
     /// Makes the text another one by one edit, as `set_text` does.
@@ -677,11 +632,11 @@ impl<S: Stepper, E: Extent> Lexed<E, S> {
     /// are then as they were.
     pub fn try_set_text(&mut self, text: impl AsRef<str>) -> Result<Relexed, EditError> {
         let text = try_fitting(text.as_ref())?;
-        if self.in_edit {
+        if self.is_poisoned {
             let mut text = support::String::from_str(Global, text)?;
             return Ok(self.lex_anew(&mut text)?);
         }
-        Ok(self.change(|kept| kept.set_text(text))?)
+        Ok(self.apply(|kept| kept.set_text(text))?)
     }
 
     /// Gives back the memory that edits have left unused, by copying what is kept. If an allocation fails, the
@@ -700,22 +655,11 @@ impl<S: Stepper, E: Extent> Lexed<E, S> {
     }
 }
 
-/// Where a step panicked, the copy has the same [`text`](Lexed::text), and no tokens either.
-// Derived it would want `E::Proved: Clone`, which no caller can name.
-impl<S: Stepper + Clone, E: Extent> Clone for Lexed<E, S> {
-    fn clone(&self) -> Self {
-        Lexed {
-            kept: self.kept.clone(),
-            in_edit: self.in_edit,
-        }
-    }
-}
-
-impl<S: Stepper, E: Extent> fmt::Debug for Lexed<E, S> {
+impl<S: Stepper, E: Extent> fmt::Debug for Lexed<S, E> {
     fn fmt(&self, f: &mut fmt::Formatter<'_>) -> fmt::Result {
         let mut shown = f.debug_struct(E::NAME);
         shown.field("text", &self.text());
-        if !self.in_edit {
+        if !self.is_poisoned {
             shown.field("tokens", &self.tokens());
         }
         shown.finish_non_exhaustive()
@@ -733,7 +677,7 @@ impl<S: Stepper, E: Extent> fmt::Debug for Lexed<E, S> {
 /// lexed.edit(1..1, "b");
 /// assert_eq!(lexed, LexedText::new("ab"));
 /// ```
-impl<S: Stepper + PartialEq, E: Extent> PartialEq for Lexed<E, S> {
+impl<S: Stepper + PartialEq, E: Extent> PartialEq for Lexed<S, E> {
     #[track_caller]
     fn eq(&self, other: &Self) -> bool {
         self.text() == other.text()
@@ -742,7 +686,7 @@ impl<S: Stepper + PartialEq, E: Extent> PartialEq for Lexed<E, S> {
     }
 }
 
-impl<S: Stepper + Eq, E: Extent> Eq for Lexed<E, S> {}
+impl<S: Stepper + Eq, E: Extent> Eq for Lexed<S, E> {}
 
 /// Keeps the text, of which it copies nothing, with its tokens in the newest edition.
 ///
@@ -757,21 +701,21 @@ impl<S: Stepper + Eq, E: Extent> Eq for Lexed<E, S> {}
 /// # Panics
 ///
 /// Panics if the text has more than `u32::MAX` bytes, or if an allocation fails.
-impl<E: Extent> From<String> for Lexed<E> {
+impl<E: Extent> From<String> for Lexed<Steps, E> {
     #[track_caller]
     fn from(text: String) -> Self {
-        made(Self::try_from_string_in(text, Edition::NEWEST))
+        unwrap_or_panic(Self::try_from_string_in(text, Edition::NEWEST))
     }
 }
 
 /// That of the empty text.
-impl<E: Extent> Default for Lexed<E> {
+impl<E: Extent> Default for Lexed<Steps, E> {
     fn default() -> Self {
         Self::new("")
     }
 }
 
-impl<S: Stepper> Lexed<Text, S> {
+impl<S: Stepper> Lexed<S, Part> {
     /// Returns where the last token ends that at least two characters follow, in bytes, or 0 if there is none. Whatever is
     /// appended to the text, its tokens up to there stay.
     ///
@@ -788,11 +732,11 @@ impl<S: Stepper> Lexed<Text, S> {
     #[must_use]
     #[track_caller]
     pub fn settled(&self) -> usize {
-        self.whole().settled()
+        self.unpoisoned().settled()
     }
 }
 
-impl<S: Stepper> Lexed<Document, S> {
+impl<S: Stepper> Lexed<S, Whole> {
     /// Returns the length of the shebang line, or 0. The first token begins there.
     ///
     /// ```
@@ -804,7 +748,7 @@ impl<S: Stepper> Lexed<Document, S> {
     #[must_use]
     #[track_caller]
     pub fn shebang_len(&self) -> usize {
-        self.whole().shebang_len()
+        self.unpoisoned().shebang_len()
     }
 
     /// Returns where the body begins, which is all text after the head: how many tokens come before it, and its offset.
@@ -818,7 +762,7 @@ impl<S: Stepper> Lexed<Document, S> {
     #[must_use]
     #[track_caller]
     pub fn body_start(&self) -> TokenStart {
-        self.whole().body_start()
+        self.unpoisoned().body_start()
     }
 }
 

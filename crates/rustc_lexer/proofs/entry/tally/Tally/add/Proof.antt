@@ -1,15 +1,15 @@
--- `tick_by` runs nothing: the borrow is opened, and closed at the later count.
+-- `add` runs nothing: the borrow is opened, and closed at the later count.
 use Rattle.rustc_lexer.proofs.lemmas.tokens.TallyWalk.{[], ◌∷◌, ◌+◌, refl, proved, ftrue, flft, fsep, named, vunit, w64, ‵, ◌⊛◌, ◌$◌, ◌∵◌, !, qed, done, move, keep, split, join, feq_i, fsplit3, suffices, frame, group, enter, of_opd, unit_lit, returns, alloc_all, pass_all, free_all, look_at, sets, Is, MutRef, mut_vals, mut_Tells, uint_vals, uint_Tells, uint_Makes, usize, yes, plain, nothing, opens, owned, closes, Stays, walk_of, says, stay_none, stay_ref, Goes-none, Goes-ref, ends_at}
-use Rattle.rustc_lexer.specs.contracts.entry.tally.Tally.tick_by as f
-use Rattle.rustc_lexer.proofs.entry.tally.Tally.tick_by.Statement.{statement}
-use Rattle.rustc_lexer.proofs.entry.tally.Tally.tick_by.Code as code
+use Rattle.rustc_lexer.specs.contracts.entry.tally.Tally.add as f
+use Rattle.rustc_lexer.proofs.entry.tally.Tally.add.Statement.{statement}
+use Rattle.rustc_lexer.proofs.entry.tally.Tally.add.Code as code
 use Rattle.rustc_lexer.specs.contracts.entry.tally.Tally.{the_row as R}
 
 abbrev stayed : Stays f.ended.signature.params f.ended.kept
 stayed = (stay_ref (0 ∷ []) tt (plain (λ _. R)), (stay_none (λ _. usize) yes, tt))
 
-pub tick_by_spec : {M : Type 1} → statement M
-tick_by_spec 𝓤 𝓛 𝓜 𝓡 wired =
+pub add_spec : {M : Type 1} → statement M
+add_spec 𝓤 𝓛 𝓜 𝓡 wired =
     let c = f.clauses 𝓛 𝓜.mem 𝓡.returns in let W = walk_of 𝓛 f.ended stayed c in
     proved 𝓛 f.ended stayed c 𝓜 𝓡 (Goes-ref 𝓛 1 0 tt (plain (λ _. R)), (Goes-none 𝓛 1 (λ _. usize) yes (λ κs x f. refl), tt))
     f.Key.name code.function (code.unfolded 𝓤 𝓛.H 𝓜 𝓡 wired)
