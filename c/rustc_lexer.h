@@ -180,7 +180,7 @@ struct rustc_lexer_edit {
 /* The head of a document, which is all before its body: its shebang line, its frontmatter, and white space between them
  * if that is a token of its own. All zeros is the head of an empty text. */
 struct rustc_lexer_head {
-    uint32_t shebang_len;               /* of the shebang line, in bytes, or 0; the first token begins there */
+    uint32_t tokens_start;               /* of the shebang line, in bytes, or 0; the first token begins there */
     uint32_t body;                      /* where the body begins, in bytes from the start of the text */
     uint32_t count;                     /* how many tokens come before the body: 0, 1 or 2 */
     struct rustc_lexer_token tokens[2]; /* these, then zeros */

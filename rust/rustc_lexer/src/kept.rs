@@ -95,7 +95,7 @@ pub type LexedText<S = Steps> = Lexed<Text, S>;
 /// assert_eq!(lexed.pieces().nth(3).map(|piece| (piece.start, piece.text)), Some((28, "fn")));
 /// ```
 ///
-/// The first of its pieces begins at [`shebang_len`](LexedDocument::shebang_len). A shebang line is not a piece: if an
+/// The first of its pieces begins at [`tokens_start`](LexedDocument::tokens_start). A shebang line is not a piece: if an
 /// edit changes it, `kept_front` is 0, and the text before the first piece is to be repainted too. A byte order mark in
 /// front of it is a piece, `Unknown`, and hides it and a frontmatter.
 pub type LexedDocument<S = Steps> = Lexed<Document, S>;
@@ -798,13 +798,13 @@ impl<S: Stepper> Lexed<Document, S> {
     /// ```
     /// use rustc_lexer::LexedDocument;
     ///
-    /// assert_eq!(LexedDocument::new("#!/bin/sh\nfn").shebang_len(), 9);
-    /// assert_eq!(LexedDocument::new("#![no_std]").shebang_len(), 0);
+    /// assert_eq!(LexedDocument::new("#!/bin/sh\nfn").tokens_start(), 9);
+    /// assert_eq!(LexedDocument::new("#![no_std]").tokens_start(), 0);
     /// ```
     #[must_use]
     #[track_caller]
-    pub fn shebang_len(&self) -> usize {
-        self.whole().shebang_len()
+    pub fn tokens_start(&self) -> usize {
+        self.whole().tokens_start()
     }
 
     /// Returns where the body begins, which is all text after the head: how many tokens come before it, and its offset.

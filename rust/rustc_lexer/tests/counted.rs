@@ -485,7 +485,7 @@ fn edits_of_heads() {
             by_each_call::<Part>(&made.text, language, back);
             for (made, wanted) in [(&made, new_ends), (&again, ends)] {
                 let held = Whole::try_with(&made.text, Counting(None, 0)).unwrap();
-                let told = (held.shebang_len(), held.body_start().offset);
+                let told = (held.tokens_start(), held.body_start().offset);
                 assert_eq!(told, wanted, "{:?}", made.text);
             }
             assert_eq!(again.text, text);

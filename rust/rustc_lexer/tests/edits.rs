@@ -645,7 +645,7 @@ fn clones_and_defaults() {
     let mut document = LexedDocument::new("#!/a\nb");
     let second = document.clone();
     document.edit(0..5, "");
-    assert_eq!((second.text(), second.shebang_len()), ("#!/a\nb", 4));
+    assert_eq!((second.text(), second.tokens_start()), ("#!/a\nb", 4));
     assert_eq!(document.text(), "b");
     let empty = LexedText::default();
     assert_eq!((empty.text(), empty.tokens().len()), ("", 0));

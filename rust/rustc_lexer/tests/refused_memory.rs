@@ -62,7 +62,7 @@ impl Stepper for Counting {
 /// Makes an edit with each of its requests refused in turn: then all is as it was, no step was taken that the edit does not
 /// take, and it can be made. Returns its counts, its steps, and how many requests it makes.
 macro_rules! edits {
-    ($edit:ident, $Kept:ident, $tokenize:ident $(, $shebang_len:ident)?) => {
+    ($edit:ident, $Kept:ident, $tokenize:ident $(, $tokens_start:ident)?) => {
         fn $edit(text: &str, range: Range<usize>, insert: &str) -> (Relexed, usize, usize) {
             let make = || $Kept::try_with(text, Counting(Steps::new(), 0)).unwrap();
             let (old, mut new) = (make(), make());
@@ -77,7 +77,7 @@ macro_rules! edits {
                     if answer.is_err() {
                         assert_eq!(answer, Err(EditError::Memory));
                         assert_held!(lexed, text, $tokenize(text, Edition::E2024));
-                        $(assert_eq!(lexed.$shebang_len(), old.$shebang_len());)?
+                        $(assert_eq!(lexed.$tokens_start(), old.$tokens_start());)?
                         assert!((0..text.len()).all(|at| lexed.token_start_at(at) == old.token_start_at(at)));
                     }
                     let answer = answer.or_else(|_| lexed.try_edit(range.clone(), insert));
@@ -92,7 +92,7 @@ macro_rules! edits {
 }
 
 edits!(text_edit, LexedText, tokenize_in);
-edits!(document_edit, LexedDocument, tokenize_document, shebang_len);
+edits!(document_edit, LexedDocument, tokenize_document, tokens_start);
 
 /// What an edit takes out is one request, and so is room in the text where it puts in more. One to four tokens that it lexes
 /// are one, and five are two. The list of five tokens of the second text has no room for seven, which is one. An edit that

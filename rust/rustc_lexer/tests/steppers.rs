@@ -126,9 +126,9 @@ fn tokens_that_break_the_rule() {
 #[test]
 fn calls_of_one_kind() {
     let mut lexed = LexedDocument::try_with("#!a\nb", Bytes(0)).unwrap();
-    assert_eq!((lexed.shebang_len(), lexed.tokens().len()), (3, 2));
+    assert_eq!((lexed.tokens_start(), lexed.tokens().len()), (3, 2));
     assert_eq!(said(|| lexed.edit(0..4, "!")), broken(0, 2));
-    assert_eq!(said(|| lexed.shebang_len()), LEFT);
+    assert_eq!(said(|| lexed.tokens_start()), LEFT);
     assert_eq!(said(|| lexed.body_start()), LEFT);
     has_no_tokens!(lexed, "!b");
     let mut lexed = LexedText::try_with("abc", Few(3)).unwrap();
@@ -157,7 +157,7 @@ fn a_new_text_heals() {
     let mut lexed = LexedDocument::try_with("#!a\nb", Bytes(0)).unwrap();
     said(|| lexed.edit(0..4, "!"));
     assert_eq!(lexed.set_text("#!ab\n---\n---\nc"), Relexed::none(4));
-    assert_eq!((lexed.shebang_len(), lexed.body_start().index), (4, 2));
+    assert_eq!((lexed.tokens_start(), lexed.body_start().index), (4, 2));
     assert_eq!(lexed.edit(13..14, "d").kept_front, 2);
 }
 

@@ -2,13 +2,13 @@
 ghost use Rattle.std.specs.Prelude.{◌≡◌, All, drop};
 ghost use Rattle.std.specs.Str.{IsCharBoundary};
 ghost use Rattle.rustc_lexer.specs.Classes.{Fits};
-ghost use Rattle.rustc_lexer.specs.Document.{document_tokens, shebang_len};
+ghost use Rattle.rustc_lexer.specs.Document.{document_tokens, tokens_start};
 ghost use Rattle.rustc_lexer.specs.LanguageText.{source};
 ghost use Rattle.rustc_lexer.specs.Tokens.{HasSuffix, HaveTexts, Partitions, tokens_left};
 
 use crate::edition::Edition;
 use crate::entry::{Tokens, tokenize_as};
-use crate::shebang::shebang_len;
+use crate::shebang::tokens_start;
 use crate::token::FrontmatterAllowed;
 
 /// Returns an iterator over the tokens of a whole document in an edition. They are the tokens of the text past its
@@ -32,16 +32,16 @@ pub fn tokenize_document<'a>(text: &'a str, edition: Edition) -> Tokens<'a>
     ensures state { result
         ≡ record {
           pending = 0;
-          rest = drop (shebang_len text.now) text.now;
+          rest = drop (tokens_start text.now) text.now;
           mode = source edition;
         } }
     ensures tokens { tokens_left result ≡ document_tokens edition text.now }
-    ensures boundary { IsCharBoundary text.now (shebang_len text.now) }
-    ensures partitions { Partitions (drop (shebang_len text.now) text.now)
+    ensures boundary { IsCharBoundary text.now (tokens_start text.now) }
+    ensures partitions { Partitions (drop (tokens_start text.now) text.now)
         (document_tokens edition text.now) }
     ensures suffixes { All HasSuffix (document_tokens edition text.now) }
-    ensures texts { HaveTexts (drop (shebang_len text.now) text.now)
+    ensures texts { HaveTexts (drop (tokens_start text.now) text.now)
         (document_tokens edition text.now) }
 {
-    tokenize_as(&text[shebang_len(text)..], FrontmatterAllowed::Yes, edition)
+    tokenize_as(&text[tokens_start(text)..], FrontmatterAllowed::Yes, edition)
 }

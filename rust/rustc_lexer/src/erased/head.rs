@@ -4,7 +4,7 @@ use crate::support::Vec;
 
 use crate::erased::frontmatter::frontmatter;
 use crate::erased::scan::eat_whitespace;
-use crate::erased::shebang::shebang_len;
+use crate::erased::shebang::tokens_start;
 use crate::erased::token::{Token, TokenKind};
 use crate::support::AllocError;
 
@@ -28,7 +28,7 @@ use crate::support::AllocError;
 #[derive(Clone, Copy, Debug, PartialEq, Eq, Hash)]
 pub struct Head {
     /// The length of the shebang line in bytes, or 0.
-    pub shebang_len: usize,
+    pub tokens_start: usize,
     /// The length in bytes of the white space before the frontmatter, if it is a token of its own, or 0.
     pub space_len: u32,
     /// The frontmatter, or `None` if there is none.
@@ -49,11 +49,11 @@ pub struct Whole;
 
 impl Extent for Whole {
     fn find_head(text: &str) -> Head {
-        let shebang = shebang_len(text);
+        let shebang = tokens_start(text);
         let rest = &text[shebang..];
         if let Some(front) = frontmatter(rest) {
             return Head {
-                shebang_len: shebang,
+                tokens_start: shebang,
                 space_len: 0,
                 frontmatter: Some(front),
                 body: shebang + front.len as usize,
@@ -64,14 +64,14 @@ impl Extent for Whole {
             Some(front) => {
                 let space = rest.len() - past.len();
                 Head {
-                    shebang_len: shebang,
+                    tokens_start: shebang,
                     space_len: space as u32,
                     frontmatter: Some(front),
                     body: shebang + space + front.len as usize,
                 }
             }
             None => Head {
-                shebang_len: shebang,
+                tokens_start: shebang,
                 space_len: 0,
                 frontmatter: None,
                 body: shebang,
@@ -87,7 +87,7 @@ pub struct Part;
 impl Extent for Part {
     fn find_head(_text: &str) -> Head {
         Head {
-            shebang_len: 0,
+            tokens_start: 0,
             space_len: 0,
             frontmatter: None,
             body: 0,

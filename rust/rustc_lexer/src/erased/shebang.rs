@@ -20,7 +20,7 @@ pub fn strip_shebang(input: &str) -> Option<usize> {
 }
 
 /// Returns the length of the shebang line in bytes, or 0 if there is none.
-pub(crate) fn shebang_len(text: &str) -> usize {
+pub(crate) fn tokens_start(text: &str) -> usize {
     strip_shebang(text).unwrap_or(0)
 }
 

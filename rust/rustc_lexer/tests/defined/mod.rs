@@ -303,7 +303,7 @@ kept!(LexedText, part, |held, text, _, bounds| {
 });
 kept!(LexedDocument, document, |held, text, layout, bounds| {
     let told = (
-        held.shebang_len(),
+        held.tokens_start(),
         held.body_start().index,
         held.body_start().offset,
     );

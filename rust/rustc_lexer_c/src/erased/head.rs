@@ -12,7 +12,7 @@ use rustc_lexer::erased::{Change, Head, Token, TokenKind};
 #[derive(Clone, Copy, Debug, PartialEq, Eq)]
 pub struct CHead {
     /// The length of the shebang line in bytes, or 0.
-    pub shebang_len: u32,
+    pub tokens_start: u32,
     /// Where the body begins, in bytes from the start of the text.
     pub body: u32,
     /// How many tokens come before the body: 0, 1 or 2.
@@ -76,7 +76,7 @@ fn head_of(numbers: &CHead) -> Head {
         _ => (first.len, Some(frontmatter_of(second))),
     };
     Head {
-        shebang_len: numbers.shebang_len as usize,
+        tokens_start: numbers.tokens_start as usize,
         space_len: space,
         frontmatter: front,
         body: numbers.body as usize,
@@ -108,7 +108,7 @@ fn numbers_of_head(head: Head) -> CHead {
         }
     };
     CHead {
-        shebang_len: head.shebang_len as u32,
+        tokens_start: head.tokens_start as u32,
         body: head.body as u32,
         count,
         tokens,

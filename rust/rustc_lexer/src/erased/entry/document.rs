@@ -3,7 +3,7 @@
 
 use crate::erased::edition::Edition;
 use crate::erased::entry::{Tokens, tokenize_as};
-use crate::erased::shebang::shebang_len;
+use crate::erased::shebang::tokens_start;
 use crate::erased::token::FrontmatterAllowed;
 
 /// Returns an iterator over the tokens of a whole document in an edition. They are the tokens of the text past its
@@ -13,5 +13,5 @@ use crate::erased::token::FrontmatterAllowed;
 /// `text.len() - tokens.as_str().len()` bytes, as long as no token was taken. For a text that is not a whole
 /// document, and for one whose shebang line is to be read as tokens, call [`tokenize_as`].
 pub fn tokenize_document<'a>(text: &'a str, edition: Edition) -> Tokens<'a> {
-    tokenize_as(&text[shebang_len(text)..], FrontmatterAllowed::Yes, edition)
+    tokenize_as(&text[tokens_start(text)..], FrontmatterAllowed::Yes, edition)
 }

@@ -8,8 +8,8 @@ use crate::erased::relex::lexed::Lexed;
 
 impl<S: Stepper> Lexed<S, Whole> {
     /// Returns the length of the shebang line in bytes, or 0. The first token begins there.
-    pub fn shebang_len(&self) -> usize {
-        self.kept.head.shebang_len
+    pub fn tokens_start(&self) -> usize {
+        self.kept.head.tokens_start
     }
 
     /// Returns where the body begins, in bytes, and how many tokens come before it: those up to and
