@@ -12,7 +12,7 @@ use crate::shebang::tokens_start;
 use crate::token::{Token, TokenKind};
 use std::alloc::AllocError;
 
-/// The head of a document, which is the part before its body: a shebang line and a frontmatter.
+/// The head of a document, which is the part before its body: a byte order mark, a shebang line and a frontmatter.
 ///
 /// It is for a program that keeps the tokens of a whole document in lists of its own. [`Head::change_to`] returns what
 /// an edit of the document changes in its body, and [`Relexing`](crate::Relexing) lexes that again.
@@ -31,9 +31,9 @@ use std::alloc::AllocError;
 /// ```
 #[derive(Clone, Copy, Debug, PartialEq, Eq)]
 pub struct Head {
-    /// The length of the shebang line in bytes, or 0.
+    /// The offset of the first token, in bytes: the length of the byte order mark and of the shebang line.
     pub tokens_start: usize,
-    /// The length in bytes of the white space before the frontmatter, if it is a token of its own, or 0.
+    /// The length in bytes of the whitespace before the frontmatter, if it is a token of its own, or 0.
     pub space_len: u32,
     /// The frontmatter, or `None` if there is none.
     pub frontmatter: Option<Token>,

@@ -1,4 +1,4 @@
-//! The shebang line that a document may begin with.
+//! The shebang line and the byte order mark that a document may start with.
 ghost use Rattle.std.specs.Prelude.{◌≡◌, ◌≤◌, IfSome, IsNone, codes, false, length, unwrap_or};
 ghost use Rattle.std.specs.Str.{IsCharBoundary};
 ghost use Rattle.rustc_lexer.specs.Answers.{shebang};

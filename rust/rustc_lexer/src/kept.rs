@@ -95,9 +95,9 @@ pub type LexedText<S = Steps> = Lexed<Text, S>;
 /// assert_eq!(lexed.pieces().nth(3).map(|piece| (piece.start, piece.text)), Some((28, "fn")));
 /// ```
 ///
-/// The first of its pieces begins at [`tokens_start`](LexedDocument::tokens_start). A shebang line is not a piece: if an
-/// edit changes it, `kept_front` is 0, and the text before the first piece is to be repainted too. A byte order mark in
-/// front of it is a piece, `Unknown`, and hides it and a frontmatter.
+/// The first piece starts at [`tokens_start`](LexedDocument::tokens_start): a byte order mark (U+FEFF) and a shebang line
+/// come before it and are not pieces. If an edit changes them, `kept_front` is 0; repaint the text before the first
+/// piece too.
 pub type LexedDocument<S = Steps> = Lexed<Document, S>;
 
 /// How much of a file a text is: [`Text`] or [`Document`], and nothing else.
@@ -793,12 +793,13 @@ impl<S: Stepper> Lexed<Text, S> {
 }
 
 impl<S: Stepper> Lexed<Document, S> {
-    /// Returns the length of the shebang line, or 0. The first token begins there.
+    /// Returns the offset of the first token, in bytes: only a byte order mark and a shebang line come before it.
     ///
     /// ```
     /// use rustc_lexer::LexedDocument;
     ///
     /// assert_eq!(LexedDocument::new("#!/bin/sh\nfn").tokens_start(), 9);
+    /// assert_eq!(LexedDocument::new("\u{feff}#!/bin/sh\nfn").tokens_start(), 12);
     /// assert_eq!(LexedDocument::new("#![no_std]").tokens_start(), 0);
     /// ```
     #[must_use]

@@ -6,7 +6,7 @@ mod random;
 use made::{counts, edit, token};
 use random::Random;
 use rattle_support::Global;
-use rustc_lexer::incremental::{Edited, Change, Head, Relexing};
+use rustc_lexer::incremental::{Change, Edited, Head, Relexing};
 use rustc_lexer::{
     EditStop, Edition, FrontmatterAllowed, LexedDocument, LexedText, Relexed, Stepper, Steps,
     Token, TokenKind, TokenStart, erased, strip_shebang, tokenize_as, tokenize_document,
@@ -20,14 +20,15 @@ const BODY: usize = 19;
 /// What documents and edits are made of: pieces that begin, end and break a shebang line or a frontmatter.
 #[rustfmt::skip]
 const BITS: &[&str] = &[
-    "#!", "#", "!", "/", "[", "]", "#![", "bin/sh", "\n", "\n", "\n", "\r\n", "\r", " ", "\t", "\u{2028}",
+    "#!", "#", "!", "\u{feff}", "/", "[", "]", "#![", "bin/sh", "\n", "\n", "\n", "\r\n", "\r", " ", "\t", "\u{2028}",
     "---", "---\n", "\n---", "----", "--", "-", "---a\n", "---\nuse ", "cargo", "a.b", "use ", "\nuse ",
     "//", "//!", "\n//!", "/*", "*/", "/**", "\"", "'", "r#\"", "\"#", "'r#a", "##\"", "z\"", "é", "fn x", "1.",
 ];
 
 impl Random {
     fn document(&mut self) -> String {
-        let line = ["", "#!/bin/sh\n", "#!\n"][self.below(3)];
+        let starts = ["", "#!/bin/sh\n", "#!\n", "\u{feff}", "\u{feff}#!/bin/sh\n"];
+        let line = starts[self.below(starts.len())];
         let front = ["", "---\na\n---\n", "\n ---\n", " \n----\n---\n----\n"][self.below(4)];
         [line, front, &self.text(20)].concat()
     }
@@ -48,7 +49,8 @@ fn check(lexed: &LexedDocument, edition: Edition, context: &str) {
 
 fn check_tokens<S: Stepper>(lexed: &LexedDocument<S>, edition: Edition, context: &str) {
     let text = lexed.text();
-    let line = strip_shebang(text).unwrap_or(0);
+    let mark = if text.starts_with('\u{feff}') { 3 } else { 0 };
+    let line = mark + strip_shebang(&text[mark..]).unwrap_or(0);
     let scratch: Vec<Token> =
         tokenize_as(&text[line..], FrontmatterAllowed::Yes, edition).collect();
     assert_eq!(lexed.tokens(), scratch, "{context}");

@@ -92,7 +92,12 @@ macro_rules! edits {
 }
 
 edits!(text_edit, LexedText, tokenize_in);
-edits!(document_edit, LexedDocument, tokenize_document, tokens_start);
+edits!(
+    document_edit,
+    LexedDocument,
+    tokenize_document,
+    tokens_start
+);
 
 /// What an edit takes out is one request, and so is room in the text where it puts in more. One to four tokens that it lexes
 /// are one, and five are two. The list of five tokens of the second text has no room for seven, which is one. An edit that
