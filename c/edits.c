@@ -324,16 +324,17 @@ static bool is_document(const struct document *document) {
     const uint8_t *text = (const uint8_t *)document->text;
     struct rustc_lexer_token all[MOST];
     struct rustc_lexer_place place = {0, 1};
-    size_t line_len, count, end = head->shebang_len;
-    if (rustc_lexer_strip_shebang(text, document->len, &line_len) != RUSTC_LEXER_OK)
+    size_t mark = document->len >= 3 && memcmp(text, "\xef\xbb\xbf", 3) == 0 ? 3 : 0;
+    size_t line_len, count, end = head->tokens_start;
+    if (rustc_lexer_strip_shebang(text + mark, document->len - mark, &line_len) != RUSTC_LEXER_OK)
         return false;
-    place.at = (uint32_t)line_len;
+    place.at = (uint32_t)(mark + line_len);
     if (rustc_lexer_tokens(text, document->len, &place, all, MOST, &count) != RUSTC_LEXER_OK || head->count > 2)
         return false;
     for (size_t i = 0; i < head->count; i++)
         end += head->tokens[i].len;
-    size_t token = sizeof all[0], of_body = document->body.count;
-    return head->shebang_len == line_len && head->body == end && count == head->count + of_body &&
+    size_t place_start = mark + line_len, token = sizeof all[0], of_body = document->body.count;
+    return head->tokens_start == place_start && head->body == end && count == head->count + of_body &&
            memcmp(all, head->tokens, head->count * token) == 0 &&
            memcmp(head->tokens + head->count, none, (2 - head->count) * token) == 0 &&
            memcmp(all + head->count, document->body.tokens, of_body * token) == 0;
@@ -365,7 +366,7 @@ static void check_heads(body_edit_call *body_edit) {
     static struct document document;
     memset(&document, 0, sizeof document);
     edit_document(body_edit, &document, 0, 0, "#!/bin/sh\n---\na\n---\nb - c");
-    CHECK(document.head.shebang_len == 9 && document.head.count == 2 && document.head.body == 19);
+    CHECK(document.head.tokens_start == 9 && document.head.count == 2 && document.head.body == 19);
     CHECK(document.head.tokens[0].kind == RUSTC_LEXER_WHITESPACE && document.head.tokens[0].len == 1);
     CHECK(document.head.tokens[1].kind == RUSTC_LEXER_FRONTMATTER && document.head_kept == 0);
     edit_document(body_edit, &document, 22, 23, "+");
@@ -375,7 +376,16 @@ static void check_heads(body_edit_call *body_edit) {
     CHECK(document.head.count == 2 && document.head.body > 19 && document.head_kept == 0);
     edit_document(body_edit, &document, 0, document.len, "#!\na = b");
     edit_document(body_edit, &document, 3, 3, "[");
-    CHECK(document.head.shebang_len == 0 && document.head.body == 0 && document.head_kept == 0);
+    CHECK(document.head.tokens_start == 0 && document.head.body == 0 && document.head_kept == 0);
+    /* a byte order mark in front of a shebang line and a frontmatter, and of neither */
+    edit_document(body_edit, &document, 0, document.len, "\xef\xbb\xbf#!/bin/sh\n---\n---\nb - c");
+    CHECK(document.head.tokens_start == 12 && document.head.count == 2 && document.head.body == 20);
+    edit_document(body_edit, &document, 23, 24, "+");
+    CHECK(document.head_kept == 1 && document.body.relexing.lexed == 3);
+    edit_document(body_edit, &document, 0, 3, "");
+    CHECK(document.head.tokens_start == 9 && document.head.body == 17 && document.head_kept == 0);
+    edit_document(body_edit, &document, 0, document.len, "\xef\xbb\xbfa");
+    CHECK(document.head.tokens_start == 3 && document.head.count == 0 && document.head.body == 3);
     edit_document(body_edit, &document, 0, document.len, "");
 }
 

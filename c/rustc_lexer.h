@@ -162,8 +162,8 @@ static inline const char *rustc_lexer_literal_kind_name(uint8_t literal_kind) {
     return literal_kind < sizeof names / sizeof *names ? names[literal_kind] : "";
 }
 
-/* A place in a text. A part of a file begins at {0, 0}, and a whole file at {line_len, 1}: after its shebang line,
- * whose length rustc_lexer_strip_shebang writes. */
+/* A place in a text. Start a part of a file at {0, 0}, and a whole file at {head.tokens_start, 1}: after a byte
+ * order mark and a shebang line, which rustc_lexer_body_edit finds. */
 struct rustc_lexer_place {
     uint32_t at;                  /* in bytes from the start of the text */
     uint32_t frontmatter_allowed; /* whether a frontmatter may come there: 0 for no, any other number for yes */
@@ -177,10 +177,10 @@ struct rustc_lexer_edit {
     uint32_t new_stop;
 };
 
-/* The head of a document, which is all before its body: its shebang line, its frontmatter, and white space between them
- * if that is a token of its own. All zeros is the head of an empty text. */
+/* The head of a document, which is everything before its body: a byte order mark, a shebang line, a frontmatter, and
+ * whitespace in front of the frontmatter if that is a token of its own. All zeros is the head of an empty text. */
 struct rustc_lexer_head {
-    uint32_t shebang_len;               /* of the shebang line, in bytes, or 0; the first token begins there */
+    uint32_t tokens_start;              /* the offset of the first token: after a byte order mark and a shebang line */
     uint32_t body;                      /* where the body begins, in bytes from the start of the text */
     uint32_t count;                     /* how many tokens come before the body: 0, 1 or 2 */
     struct rustc_lexer_token tokens[2]; /* these, then zeros */
@@ -416,8 +416,8 @@ uint32_t rustc_lexer_relex_unchecked(const uint8_t *text, size_t len, const stru
 uint32_t rustc_lexer_splice(struct rustc_lexer_token *buffer, size_t buffer_len, size_t *count, size_t kept_front,
                             size_t kept_back, const struct rustc_lexer_token *lexed, size_t lexed_len);
 
-/* Finds what an edit of a whole document changes in its body. `text` is the document after the edit, with its shebang
- * line. Before the call, `head` is the head of the document before the edit, as the last call left it. The call writes
+/* Finds what an edit of a whole document changes in its body. `text` is the document after the edit, with its byte
+ * order mark and its shebang line. Before the call, `head` is the head of the document before the edit, as the last call left it. The call writes
  * the head of `text` into `head`, the edit of the body into `body_edit`, in bytes from where the body begins, and 1
  * into `head_kept` if all tokens of the head stay, otherwise 0. The tokens of the document are
  *

@@ -92,7 +92,7 @@ impl Source {
     pub fn begin(&self) -> usize {
         match &self.held {
             Held::Part(_) => 0,
-            Held::Document(texts) => texts[0].shebang_len(),
+            Held::Document(texts) => texts[0].tokens_start(),
         }
     }
 

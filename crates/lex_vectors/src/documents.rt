@@ -102,7 +102,7 @@ fn heads(rt: HostRuntime) -> Result<(), AllocError> {
             offset: *place,
         };
         assert!(rt;
-            lexed.shebang_len() == *shebang && lexed.body_start() == body,
+            lexed.tokens_start() == *shebang && lexed.body_start() == body,
             "{text}"
         );
     }

@@ -5,7 +5,7 @@ use Rattle.std.specs.Str.{IsCharBoundary, IsUtf8, chars}
 use Rattle.std.proofs.lemmas.{Bool.{cases_Bool, eqb-true}, Str.{IsCharBoundary-past_char, IsCharBoundary-start}}
 use Rattle.std.proofs.lemmas.{List.Concat.{flat_map-append}, Grind.{common_steps}}
 use Rattle.rustc_lexer.specs.declared.{edition.Edition.{Edition}, token.Token.{Token}}
-use Rattle.rustc_lexer.specs.{Document.{document_tokens, shebang_len}, Tokens.{bound, Partitions}}
+use Rattle.rustc_lexer.specs.{Document.{document_tokens, tokens_start}, Tokens.{bound, Partitions}}
 use Rattle.rustc_literal_escaper.specs.declared.mode.Mode.{Mode}
 use Rattle.marks.specs.declared.{class.{Class.{Class, TheVariants.{Comment, Plain}}}, fault.Fault.{Fault}}
 use Rattle.marks.specs.{declared.{format.{Format.{Format, TheVariants.{Html}}}}, Escape.{unescaped, untagged}}
@@ -23,7 +23,7 @@ without_marks-parts edition text [] = refl
 without_marks-parts edition text (token ∷ tokens) = grind (arith, common_steps, flat_map-append, without_token, take-add, without_marks-parts edition (drop token.len text) tokens)
 
 -- without the marks, a document is as it was
-pub document_is : (edition : Edition) (text : List ℕ) → Partitions (drop (shebang_len text) text) (document_tokens edition text) → without_marks (document_parts edition text) ≡ text
+pub document_is : (edition : Edition) (text : List ℕ) → Partitions (drop (tokens_start text) text) (document_tokens edition text) → without_marks (document_parts edition text) ≡ text
 document_is edition text cut = grind (arith, common_steps, without_marks-parts)
 
 -- a text may be cut past its byte order mark
@@ -56,12 +56,12 @@ module _ {W : Type 0} (took : W → List ℕ → W → Type 0) where
 
   -- a byte order mark and the shebang line, and then the tokens of what follows them
   pub writes_past : (format : Format) (edition : Edition) (w0 w v u : W) (mark text : List ℕ)
-      → WritesInCalls took w0 (with_marks format (Own Plain mark ∷ [])) w → WritesInCalls took w (with_marks format (Own Comment (take (shebang_len text) text) ∷ [])) v
-      → WritesInCalls took v (marked_tokens format edition (drop (shebang_len text) text) (document_tokens edition text)) u
+      → WritesInCalls took w0 (with_marks format (Own Plain mark ∷ [])) w → WritesInCalls took w (with_marks format (Own Comment (take (tokens_start text) text) ∷ [])) v
+      → WritesInCalls took v (marked_tokens format edition (drop (tokens_start text) text) (document_tokens edition text)) u
       → WritesInCalls took w0 (with_marks format (Own Plain mark ∷ document_parts edition text)) u
   writes_past format edition w0 w v u mark text before first more =
       writes_parts took format (Own Plain mark ∷ []) (document_parts edition text) w0 w u before
-      (writes_parts took format (Own Comment (take (shebang_len text) text) ∷ []) (parts edition (drop (shebang_len text) text) (document_tokens edition text)) w v u first more)
+      (writes_parts took format (Own Comment (take (tokens_start text) text) ∷ []) (parts edition (drop (tokens_start text) text) (document_tokens edition text)) w v u first more)
 
   -- so the byte order mark and the document are the text
   pub writes_whole : {T E : Type 0} (r : Result T E) (format : Format) (edition : Edition) (text mark rest : List ℕ) (n : ℕ) (w v : W)

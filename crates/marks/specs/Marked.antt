@@ -4,7 +4,7 @@ use Rattle.std.specs.Str.{chars}
 use Rattle.rustc_lexer.specs.declared.edition.Edition.{Edition}
 use Rattle.rustc_lexer.specs.declared.token.Token.{Token}
 use Rattle.rustc_lexer.specs.declared.token.TokenKind.{TokenKind}
-use Rattle.rustc_lexer.specs.Document.{document_tokens, shebang_len}
+use Rattle.rustc_lexer.specs.Document.{document_tokens, tokens_start}
 use Rattle.marks.specs.declared.class.Class.{Class}
 use Rattle.marks.specs.declared.class.Class.TheVariants.{Comment, Plain}
 use Rattle.marks.specs.declared.fault.Fault.{Fault}
@@ -41,8 +41,8 @@ parts edition text (token ∷ tokens) =
 -- after it
 abbrev pub document_parts : Edition → List ℕ → List Part
 document_parts edition text =
-    Own Comment (take (shebang_len text) text)
-    ∷ parts edition (drop (shebang_len text) text) (document_tokens edition text)
+    Own Comment (take (tokens_start text) text)
+    ∷ parts edition (drop (tokens_start text) text) (document_tokens edition text)
 
 -- the length of the byte order mark, U+FEFF, that a text begins with, or 0
 abbrev pub mark_len : List ℕ → ℕ

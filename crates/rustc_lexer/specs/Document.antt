@@ -1,19 +1,24 @@
--- A whole document: its tokens; its head, which is a shebang line and a frontmatter; and its body,
--- which is the rest.
-use Rattle.std.specs.Prelude.{ℕ, suc, ◌+◌, List, take, drop, Bool, true, false, unwrap_or}
+-- A whole document: its tokens; its head, which is a byte order mark, a shebang line and a
+-- frontmatter; and its body, which is the rest.
+use Rattle.std.specs.Prelude.{ℕ, suc, ◌+◌, ◌==◌, if◌then◌else◌, slice_index, List, take, drop, Bool, true, false, unwrap_or}
+use Rattle.std.specs.Str.{chars}
 use Rattle.std.specs.{List.position, Option.option_map_or}
 use Rattle.rustc_lexer.specs.{Edition, Token, TokenKind, Frontmatter}
 use Rattle.rustc_lexer.specs.Answers.{shebang, tokens_of}
 use Rattle.rustc_lexer.specs.LanguageText.{newest, source}
 use Rattle.rustc_lexer.specs.Partition.{Layout, bound, tokens_by, tokens_in}
 
--- the length of the shebang line, or 0
-abbrev pub shebang_len : List ℕ → ℕ
-shebang_len text = unwrap_or (shebang text) 0
+-- the length of the byte order mark, U+FEFF, at the start of a text, or 0
+abbrev pub mark_len : List ℕ → ℕ
+mark_len text = if slice_index (chars text) 0 == 0xFEFF then 3 else 0
 
--- the tokens of a document in an edition, without its shebang line
+-- the offset of the first token of a document: only a byte order mark and a shebang line come before it
+abbrev pub tokens_start : List ℕ → ℕ
+tokens_start text = mark_len text + unwrap_or (shebang (drop (mark_len text) text)) 0
+
+-- the tokens of a document in an edition
 abbrev pub document_tokens : Edition → List ℕ → List Token
-document_tokens edition text = tokens_of (source edition) (drop (shebang_len text) text)
+document_tokens edition text = tokens_of (source edition) (drop (tokens_start text) text)
 
 -- ---- head and body
 
@@ -32,10 +37,10 @@ head_count tokens =
 abbrev pub head_tokens : List ℕ → List Token
 head_tokens text = take (head_count (document_tokens newest text)) (document_tokens newest text)
 
--- the offset at which the body begins: after the shebang line and the tokens of the head
+-- the offset at which the body starts: after the tokens of the head
 abbrev pub body_start : List ℕ → ℕ
 body_start text =
-    shebang_len text + bound (document_tokens newest text)
+    tokens_start text + bound (document_tokens newest text)
     (head_count (document_tokens newest text))
 
 -- the tokens of a document if its body is lexed by a grammar: a function that returns the first
@@ -43,7 +48,7 @@ body_start text =
 abbrev pub whole_by : (List ℕ → Token) → List ℕ → Layout
 whole_by first text =
     record {
-      start = shebang_len text;
+      start = tokens_start text;
       head = head_tokens text;
       body = tokens_by first (drop (body_start text) text);
     }

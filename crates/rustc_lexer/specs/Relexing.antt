@@ -5,7 +5,7 @@ use Rattle.rustc_lexer.specs.declared.{head.Head.Head}
 use Rattle.rustc_lexer.specs.declared.relex.{relexing.Change.Change, relexing.Relexed.Relexed, relexing.Relexing.Relexing}
 use Rattle.rustc_lexer.specs.{Token, Whitespace}
 use Rattle.rustc_lexer.specs.Classes.{IsText}
-use Rattle.rustc_lexer.specs.Document.{body_start, head_tokens, shebang_len, whole_by}
+use Rattle.rustc_lexer.specs.Document.{body_start, head_tokens, tokens_start, whole_by}
 use Rattle.rustc_lexer.specs.Offsets.{IsBound}
 use Rattle.rustc_lexer.specs.Edits.{IsEdit, IsInside, IsMeeting, IsRelexed, KeepsHead, apply, ends_from, part_by}
 use Rattle.rustc_lexer.specs.Locality.{has_two}
@@ -126,7 +126,7 @@ tokens_of_head head = front_tokens head.space_len head.frontmatter
 
 -- `head` is the head of the text
 pub record IsHeadOf (text : List ℕ) (head : Head) : Type 0 where
-  pub shebang_is : head.shebang_len ≡ shebang_len text
+  pub shebang_is : head.tokens_start ≡ tokens_start text
   pub tokens_are : tokens_of_head head ≡ head_tokens text
   pub bare : head.frontmatter ≡ None → head.space_len ≡ 0
   pub end_is : head.body ≡ body_start text

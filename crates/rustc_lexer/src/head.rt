@@ -8,11 +8,11 @@ ghost use Rattle.rustc_lexer.specs.means.Document as means;
 
 use crate::frontmatter::frontmatter;
 use crate::scan::eat_whitespace;
-use crate::shebang::shebang_len;
+use crate::shebang::tokens_start;
 use crate::token::{Token, TokenKind};
 use std::alloc::AllocError;
 
-/// The head of a document, which is the part before its body: a shebang line and a frontmatter.
+/// The head of a document, which is the part before its body: a byte order mark, a shebang line and a frontmatter.
 ///
 /// It is for a program that keeps the tokens of a whole document in lists of its own. [`Head::change_to`] returns what
 /// an edit of the document changes in its body, and [`Relex`](crate::Relex) re-lexes that.
@@ -31,9 +31,9 @@ use std::alloc::AllocError;
 /// ```
 #[derive(Clone, Copy, Debug, PartialEq, Eq)]
 pub struct Head {
-    /// The length of the shebang line in bytes, or 0.
-    pub shebang_len: usize,
-    /// The length in bytes of the white space before the frontmatter, if it is a token of its own, or 0.
+    /// The offset of the first token, in bytes: the length of the byte order mark and of the shebang line.
+    pub tokens_start: usize,
+    /// The length in bytes of the whitespace before the frontmatter, if it is a token of its own, or 0.
     pub space_len: u32,
     /// The frontmatter, or `None` if there is none.
     pub frontmatter: Option<Token>,
@@ -61,14 +61,14 @@ impl Extent for Whole {
     ghost whole = { true };
 
     fn find_head(text: &str) -> Head {
-        let shebang = shebang_len(text);
-        let rest = &text[shebang..];
+        let start = tokens_start(text);
+        let rest = &text[start..];
         if let Some(front) = frontmatter(rest) {
             return Head {
-                shebang_len: shebang,
+                tokens_start: start,
                 space_len: 0,
                 frontmatter: Some(front),
-                body: shebang + front.len as usize,
+                body: start + front.len as usize,
             };
         }
         let past = eat_whitespace(rest);
@@ -76,17 +76,17 @@ impl Extent for Whole {
             Some(front) => {
                 let space = rest.len() - past.len();
                 Head {
-                    shebang_len: shebang,
+                    tokens_start: start,
                     space_len: space as u32,
                     frontmatter: Some(front),
-                    body: shebang + space + front.len as usize,
+                    body: start + space + front.len as usize,
                 }
             }
             None => Head {
-                shebang_len: shebang,
+                tokens_start: start,
                 space_len: 0,
                 frontmatter: None,
-                body: shebang,
+                body: start,
             },
         }
     }
@@ -101,7 +101,7 @@ impl Extent for Part {
 
     fn find_head(_text: &str) -> Head {
         Head {
-            shebang_len: 0,
+            tokens_start: 0,
             space_len: 0,
             frontmatter: None,
             body: 0,

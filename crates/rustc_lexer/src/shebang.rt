@@ -1,5 +1,5 @@
-//! The shebang line that a document may begin with.
-ghost use Rattle.std.specs.Prelude.{◌≡◌, ◌≤◌, IfSome, IsNone, codes, false, length};
+//! The shebang line and the byte order mark that a document may start with.
+ghost use Rattle.std.specs.Prelude.{◌≡◌, ◌≤◌, IfSome, IsNone, codes, false, length, unwrap_or};
 ghost use Rattle.std.specs.Str.{IsCharBoundary};
 ghost use Rattle.rustc_lexer.specs.Answers.{shebang};
 ghost use Rattle.rustc_lexer.specs.Classes.{Fits, begins};
@@ -9,6 +9,7 @@ ghost use Rattle.rustc_lexer.specs.means.Shebang as spec;
 ghost use Rattle.rustc_lexer.specs.Tokens.{tokens_of};
 
 use crate::entry::tokenize;
+use crate::scan::split_first;
 use crate::token::{FrontmatterAllowed, TokenKind};
 
 /// Returns the length in bytes of the shebang line at the front of a text, without the end of the line. Returns
@@ -38,14 +39,37 @@ pub fn strip_shebang(input: &str) -> Option<usize>
     Some(2 + line_len(tail))
 }
 
+/// Returns the offset of the first token of a document, in bytes: only a byte order mark and a shebang line come
+/// before it.
+pub(crate) fn tokens_start(text: &str) -> usize
+    requires fits { Fits text.now }
+    ensures start { result ≡ document.tokens_start text.now }
+    ensures boundary { IsCharBoundary text.now result }
+{
+    let mark = mark_len(text);
+    mark + line_end(&text[mark..])
+}
+
 /// Returns the length of the shebang line in bytes, or 0 if there is none.
 #[tactic(auto, using(crate::proofs::lemmas::tokens::Shebang::boundary_lemmas, std::proofs::lemmas::Grind::common_steps))]
-pub(crate) fn shebang_len(text: &str) -> usize
+fn line_end(text: &str) -> usize
     requires fits { Fits text.now }
-    ensures len { result ≡ document.shebang_len text.now }
+    ensures len { result ≡ unwrap_or (shebang text.now) 0 }
     ensures boundary { IsCharBoundary text.now result }
 {
     strip_shebang(text).unwrap_or(0)
+}
+
+/// Returns the length of the byte order mark at the start of a text in bytes, or 0 if there is none.
+#[tactic(auto, using(crate::proofs::lemmas::tokens::Shebang::mark_boundary, std::proofs::lemmas::Grind::common_steps))]
+fn mark_len(text: &str) -> usize
+    ensures len { result ≡ document.mark_len text.now }
+    ensures boundary { IsCharBoundary text.now (document.mark_len text.now) }
+{
+    match split_first(text) {
+        Some(('\u{feff}', _)) => 3,
+        _ => 0,
+    }
 }
 
 /// Returns whether the text after `#!` makes it an attribute.

@@ -20,11 +20,11 @@ kind-back kind len w2 = grind (arith, common_steps, bool-back)
 
 -- the numbers of a frontmatter tell it, and so those of a head
 back_with : (n end space : ℕ) (front : Option Token) → (front ≡ None → space ≡ 0) → ((t : Token) → front ≡ Some t → is_frontmatter t.kind ≡ true)
-    → head_of (numbers_of_head (record { shebang_len = n; space_len = space; frontmatter = front; body = end })) ≡ record { shebang_len = n; space_len = space; frontmatter = front; body = end }
+    → head_of (numbers_of_head (record { tokens_start = n; space_len = space; frontmatter = front; body = end })) ≡ record { tokens_start = n; space_len = space; frontmatter = front; body = end }
 unfolding token_numbers first_of second_of
 back_with n end space None bare is = rw (bare refl) refl
-back_with n end zero (Some t) bare is = ap (λ (f : Token). let h : Head = record { shebang_len = n; space_len = 0; frontmatter = Some f; body = end } in h) (kind-back t.kind t.len (is t refl))
-back_with n end (suc m) (Some t) bare is = ap (λ (f : Token). let h : Head = record { shebang_len = n; space_len = suc m; frontmatter = Some f; body = end } in h) (kind-back t.kind t.len (is t refl))
+back_with n end zero (Some t) bare is = ap (λ (f : Token). let h : Head = record { tokens_start = n; space_len = 0; frontmatter = Some f; body = end } in h) (kind-back t.kind t.len (is t refl))
+back_with n end (suc m) (Some t) bare is = ap (λ (f : Token). let h : Head = record { tokens_start = n; space_len = suc m; frontmatter = Some f; body = end } in h) (kind-back t.kind t.len (is t refl))
 
 module _ (text : List ℕ) (is : IsText text) where
   -- a head of the text has the numbers of the text

@@ -5,7 +5,7 @@ use Rattle.rustc_lexer.specs.declared.head.Head.{Head}
 use Rattle.rustc_lexer.specs.declared.token.Token.{Token}
 use Rattle.rustc_lexer.specs.declared.token.TokenKind.TheVariants.{Frontmatter}
 use Rattle.rustc_lexer.specs.Classes.{IsText}
-use Rattle.rustc_lexer.specs.Document.{body_start, head_tokens, shebang_len}
+use Rattle.rustc_lexer.specs.Document.{body_start, head_tokens, tokens_start}
 use Rattle.rustc_lexer.specs.Locality.{IsGrammar}
 use Rattle.rustc_lexer.specs.Relexing.{IsChange, IsEditOf, IsBodyChange, tokens_of_head}
 use Rattle.rustc_lexer_c.specs.declared.head.CHead.{CHead}
@@ -26,15 +26,15 @@ two_of (a ∷ b ∷ more) = token_numbers a ∷ token_numbers b ∷ []
 -- a head as numbers, by its shebang line, the start of the body and its tokens
 abbrev pub numbers_by : ℕ → ℕ → List Token → CHead
 numbers_by shebang body tokens =
-    record { shebang_len = shebang; body = body; count = length tokens; tokens = two_of tokens }
+    record { tokens_start = shebang; body = body; count = length tokens; tokens = two_of tokens }
 
 -- the head of a text as numbers
 abbrev pub head_numbers : List ℕ → CHead
-head_numbers text = numbers_by (shebang_len text) (body_start text) (head_tokens text)
+head_numbers text = numbers_by (tokens_start text) (body_start text) (head_tokens text)
 
 -- a head as numbers
 abbrev pub numbers_of_head : Head → CHead
-numbers_of_head head = numbers_by head.shebang_len head.body (tokens_of_head head)
+numbers_of_head head = numbers_by head.tokens_start head.body (tokens_of_head head)
 
 -- the frontmatter that these numbers stand for
 abbrev pub frontmatter_of : CToken → Token
@@ -51,7 +51,7 @@ head_with (suc (suc n)) bare a b =
 abbrev pub head_of : CHead → Head
 head_of c =
     let bare : Head =
-    record { shebang_len = c.shebang_len; space_len = 0; frontmatter = None; body = c.body } in
+    record { tokens_start = c.tokens_start; space_len = 0; frontmatter = None; body = c.body } in
     head_with c.count bare (get_or c.tokens 0 no_token) (get_or c.tokens 1 no_token)
 
 -- the status of a call that gets an edit of a document and the old head. An edit that made the text

@@ -13,8 +13,8 @@ use rustc_lexer::{Change, Head, Token, TokenKind};
 #[repr(C)]
 #[derive(Clone, Copy, Debug, PartialEq, Eq)]
 pub struct CHead {
-    /// The length of the shebang line in bytes, or 0.
-    pub shebang_len: u32,
+    /// The offset of the first token, in bytes: only a byte order mark and a shebang line come before it.
+    pub tokens_start: u32,
     /// The offset at which the body starts, in bytes.
     pub body: u32,
     /// The number of tokens before the body: 0, 1 or 2.
@@ -91,7 +91,7 @@ fn head_of(numbers: &CHead) -> Head
         _ => (first.len, Some(frontmatter_of(second))),
     };
     Head {
-        shebang_len: numbers.shebang_len as usize,
+        tokens_start: numbers.tokens_start as usize,
         space_len: space,
         frontmatter: front,
         body: numbers.body as usize,
@@ -113,7 +113,7 @@ fn frontmatter_of(numbers: CToken) -> Token
 
 /// Returns a head as numbers.
 fn numbers_of_head(head: Head) -> CHead
-    requires shebang { head.shebang_len < 2 ^ 32 }
+    requires shebang { head.tokens_start < 2 ^ 32 }
     requires end { head.body < 2 ^ 32 }
     ensures { result ≡ spec.numbers_of_head head }
 {
@@ -129,7 +129,7 @@ fn numbers_of_head(head: Head) -> CHead
         }
     };
     CHead {
-        shebang_len: head.shebang_len as u32,
+        tokens_start: head.tokens_start as u32,
         body: head.body as u32,
         count,
         tokens,

@@ -42,7 +42,7 @@ fn main() -> io::Result<()> {
         shown.splice(relexed.kept_front..shown.len() - relexed.kept_back, painted);
     }
     // The shebang line is not a token.
-    let shebang = &lexed.text()[..lexed.shebang_len()];
+    let shebang = &lexed.text()[..lexed.tokens_start()];
     print!("\x1b[32m{shebang}\x1b[0m{}", shown.concat());
     Ok(())
 }

@@ -98,9 +98,9 @@ pub type LexedText<S = Steps> = Lexed<S, Part>;
 /// assert_eq!(lexed.pieces().nth(3).map(|piece| (piece.start, piece.text)), Some((28, "fn")));
 /// ```
 ///
-/// The first of its pieces begins at [`shebang_len`](LexedDocument::shebang_len). A shebang line is not a piece: if an
-/// edit changes it, `kept_front` is 0, and the text before the first piece is to be repainted too. A byte order mark in
-/// front of it is a piece, `Unknown`, and hides it and a frontmatter.
+/// The first piece starts at [`tokens_start`](LexedDocument::tokens_start): a byte order mark (U+FEFF) and a shebang line
+/// come before it and are not pieces. If an edit changes them, `kept_front` is 0; repaint the text before the first
+/// piece too.
 pub type LexedDocument<S = Steps> = Lexed<S, Whole>;
 
 impl<E: Extent> Lexed<Steps, E> {
@@ -737,18 +737,19 @@ impl<S: Stepper> Lexed<S, Part> {
 }
 
 impl<S: Stepper> Lexed<S, Whole> {
-    /// Returns the length of the shebang line, or 0. The first token begins there.
+    /// Returns the offset of the first token, in bytes: only a byte order mark and a shebang line come before it.
     ///
     /// ```
     /// use rustc_lexer::LexedDocument;
     ///
-    /// assert_eq!(LexedDocument::new("#!/bin/sh\nfn").shebang_len(), 9);
-    /// assert_eq!(LexedDocument::new("#![no_std]").shebang_len(), 0);
+    /// assert_eq!(LexedDocument::new("#!/bin/sh\nfn").tokens_start(), 9);
+    /// assert_eq!(LexedDocument::new("\u{feff}#!/bin/sh\nfn").tokens_start(), 12);
+    /// assert_eq!(LexedDocument::new("#![no_std]").tokens_start(), 0);
     /// ```
     #[must_use]
     #[track_caller]
-    pub fn shebang_len(&self) -> usize {
-        self.unpoisoned().shebang_len()
+    pub fn tokens_start(&self) -> usize {
+        self.unpoisoned().tokens_start()
     }
 
     /// Returns where the body begins, which is all text after the head: how many tokens come before it, and its offset.

@@ -226,10 +226,10 @@ pub fn tokenize_as(
     Tokens { left, len }
 }
 
-/// Returns the tokens of a whole file in an edition, in order: those of the text after its shebang line, which may
-/// begin with a frontmatter. Take a byte order mark off first: it is an `Unknown` token, and hides both.
+/// Returns an iterator over the tokens of a whole file in an edition.
 ///
-/// The shebang line is not a token, so the first token begins where it ends:
+/// A file may start with a byte order mark (U+FEFF), then a shebang line, then a frontmatter. The mark and the shebang
+/// line are not tokens, so the first token starts after them. All offsets count them:
 ///
 /// ```
 /// use rustc_lexer::{tokenize_document, Edition};
@@ -239,6 +239,8 @@ pub fn tokenize_as(
 /// assert_eq!(tokens.offset(), 9);
 /// let texts = tokens.pieces().map(|piece| piece.text);
 /// assert!(texts.take(4).eq(["\n", "---\n[package]\n---", "\n", "fn"]));
+///
+/// assert_eq!(tokenize_document("\u{feff}fn main() {}", Edition::NEWEST).offset(), 3);
 /// ```
 ///
 /// # Panics

@@ -107,6 +107,6 @@ mod kept {
         let mut file = LexedDocument::try_with("ab", Bytes).unwrap();
         panic_place(|| file.edit(1..1, "!"));
         panics_here!(file.body_start());
-        panics_here!(file.shebang_len());
+        panics_here!(file.tokens_start());
     }
 }

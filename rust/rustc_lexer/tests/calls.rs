@@ -507,7 +507,8 @@ fn frontmatter_and_edition_of_each_call() {
     assert_eq!(lens(document), [1, 9, 1, 2]);
 }
 
-/// A byte order mark at the start is a token, and neither a shebang line nor a frontmatter can follow it.
+/// A document may start with a byte order mark. For every other call the mark is a token, and neither a shebang line
+/// nor a frontmatter comes after it.
 #[test]
 fn a_byte_order_mark() {
     let text = "\u{feff}#!/bin/sh";
@@ -526,7 +527,23 @@ fn a_byte_order_mark() {
     }
     for &edition in Edition::ALL {
         assert_eq!(lens(tokenize_in(text, edition)), wanted);
-        assert_eq!(lens(tokenize_document(text, edition)), wanted);
+        let document = tokenize_document(text, edition);
+        assert_eq!((document.as_str(), document.count()), ("", 0));
+        for (text, start, tokens) in [
+            ("\u{feff}", 3, vec![]),
+            ("\u{feff}fn", 3, vec![2]),
+            ("\u{feff}\u{feff}", 3, vec![3]),
+            ("\u{feff} \n---\n---\nfn", 3, vec![2, 7, 1, 2]),
+            ("\u{feff}#!/bin/sh\n---\n---\nfn", 12, vec![1, 7, 1, 2]),
+            ("\u{feff}#!/bin/sh\r\nfn", 12, vec![2, 2]),
+            ("\u{feff}#![a]", 3, vec![1, 1, 1, 1, 1]),
+            ("#!\u{feff}\nfn", 5, vec![1, 2]),
+            ("a\u{feff}", 0, vec![1, 3]),
+        ] {
+            let document = tokenize_document(text, edition);
+            assert_eq!(text.len() - document.as_str().len(), start, "{text:?}");
+            assert_eq!(lens(document), tokens, "{text:?}");
+        }
     }
     assert_eq!((strip_shebang(text), settled(text)), (None, 10));
     assert!(!is_ident("\u{feff}a") && !starts_raw("\u{feff}r\"\"", 1));

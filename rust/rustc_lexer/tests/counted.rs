@@ -411,7 +411,7 @@ const HEADS: &[(&str, Ends, usize, &str, Ends)] = &[
     ("#", (0, 0), 1, "!", (2, 2)),
     ("#!", (2, 2), 2, "a", (3, 3)),
     ("#!/bin/sh\na", (9, 9), 0, " ", (0, 0)),
-    ("#!/bin/sh\na", (9, 9), 0, "\u{feff}", (0, 0)),
+    ("#!/bin/sh\na", (9, 9), 0, "\u{feff}", (12, 12)),
     ("#! \na", (3, 3), 3, "[", (0, 0)),
     ("#!\na", (2, 2), 3, "[", (0, 0)),
     ("#!//b\na", (5, 5), 6, "[", (0, 0)),
@@ -424,7 +424,7 @@ const HEADS: &[(&str, Ends, usize, &str, Ends)] = &[
     ("--\n---\na", (0, 0), 0, "-", (0, 7)),
     ("--\n---\na", (0, 0), 2, "-", (0, 7)),
     ("\n--\n---\nb", (0, 0), 1, "-", (0, 8)),
-    ("---\n---\na", (0, 7), 0, "\u{feff}", (0, 0)),
+    ("---\n---\na", (0, 7), 0, "\u{feff}", (3, 10)),
     ("---\na\n---\nb", (0, 9), 0, "x", (0, 0)),
     ("---\na\n---\nb", (0, 9), 0, " ", (0, 10)),
     ("---\na\n---\nb", (0, 9), 0, "\n", (0, 10)),
@@ -445,8 +445,21 @@ const HEADS: &[(&str, Ends, usize, &str, Ends)] = &[
     ("#!/a\n--\n---\nb", (4, 4), 5, "-", (4, 12)),
     ("#!/a---\n---\nb", (7, 13), 4, "\n", (4, 12)),
     ("#!\n---\n---\nb", (2, 10), 2, "[", (0, 0)),
-    ("#!/a\n---\n---\nb", (4, 12), 0, "\u{feff}", (0, 0)),
+    ("#!/a\n---\n---\nb", (4, 12), 0, "\u{feff}", (7, 15)),
     ("a", (0, 0), 0, "#!x\n---\n---\n", (3, 11)),
+    // a byte order mark
+    ("a", (0, 0), 0, "\u{feff}", (3, 3)),
+    ("\u{feff}a", (3, 3), 0, " ", (0, 0)),
+    ("\u{feff}a", (3, 3), 0, "\u{feff}", (3, 3)),
+    ("\u{feff}a", (3, 3), 3, "#!", (6, 6)),
+    ("\u{feff}!/bin/sh\na", (3, 3), 3, "#", (12, 12)),
+    ("\u{feff}#!/bin/sh\na", (12, 12), 0, "\n", (0, 0)),
+    ("\u{feff}#!/bin/sh\na", (12, 12), 3, " ", (3, 3)),
+    ("\u{feff}#!/bin/sh\na", (12, 12), 12, "x", (13, 13)),
+    ("\u{feff}--\n---\na", (3, 3), 3, "-", (3, 10)),
+    ("\u{feff}---\n---\na", (3, 10), 0, "x", (0, 0)),
+    ("\u{feff}---\n---\na", (3, 10), 0, "\u{feff}", (3, 3)),
+    ("\u{feff}#!/a\n---\n---\nb", (7, 15), 15, "-", (7, 16)),
 ];
 
 /// Applies one edit with each call, alone and between two edits that change nothing.
@@ -485,7 +498,7 @@ fn edits_of_heads() {
             by_each_call::<Part>(&made.text, language, back);
             for (made, wanted) in [(&made, new_ends), (&again, ends)] {
                 let held = Whole::try_with(&made.text, Counting(None, 0)).unwrap();
-                let told = (held.shebang_len(), held.body_start().offset);
+                let told = (held.tokens_start(), held.body_start().offset);
                 assert_eq!(told, wanted, "{:?}", made.text);
             }
             assert_eq!(again.text, text);

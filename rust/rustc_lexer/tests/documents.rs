@@ -20,14 +20,15 @@ const BODY: usize = 19;
 /// What documents and edits are made of: pieces that begin, end and break a shebang line or a frontmatter.
 #[rustfmt::skip]
 const BITS: &[&str] = &[
-    "#!", "#", "!", "/", "[", "]", "#![", "bin/sh", "\n", "\n", "\n", "\r\n", "\r", " ", "\t", "\u{2028}",
+    "#!", "#", "!", "\u{feff}", "/", "[", "]", "#![", "bin/sh", "\n", "\n", "\n", "\r\n", "\r", " ", "\t", "\u{2028}",
     "---", "---\n", "\n---", "----", "--", "-", "---a\n", "---\nuse ", "cargo", "a.b", "use ", "\nuse ",
     "//", "//!", "\n//!", "/*", "*/", "/**", "\"", "'", "r#\"", "\"#", "'r#a", "##\"", "z\"", "é", "fn x", "1.",
 ];
 
 impl Random {
     fn document(&mut self) -> String {
-        let line = ["", "#!/bin/sh\n", "#!\n"][self.below(3)];
+        let starts = ["", "#!/bin/sh\n", "#!\n", "\u{feff}", "\u{feff}#!/bin/sh\n"];
+        let line = starts[self.below(starts.len())];
         let front = ["", "---\na\n---\n", "\n ---\n", " \n----\n---\n----\n"][self.below(4)];
         [line, front, &self.text(20)].concat()
     }
@@ -48,11 +49,12 @@ fn check(lexed: &LexedDocument, edition: Edition, context: &str) {
 
 fn check_tokens<S: Stepper>(lexed: &LexedDocument<S>, edition: Edition, context: &str) {
     let text = lexed.text();
-    let line = strip_shebang(text).unwrap_or(0);
+    let mark = if text.starts_with('\u{feff}') { 3 } else { 0 };
+    let line = mark + strip_shebang(&text[mark..]).unwrap_or(0);
     let scratch: Vec<Token> =
         tokenize_as(&text[line..], FrontmatterAllowed::Yes, edition).collect();
     assert_eq!(lexed.tokens(), scratch, "{context}");
-    assert_eq!(lexed.shebang_len(), line, "{context}");
+    assert_eq!(lexed.tokens_start(), line, "{context}");
     assert!(tokenize_document(text, edition).eq(scratch.iter().copied()));
     let is_frontmatter = |token: &Token| matches!(token.kind, TokenKind::Frontmatter { .. });
     let head = scratch.iter().position(is_frontmatter);
@@ -80,7 +82,7 @@ fn of_body(
 ) -> Option<Relexed> {
     let (old, new) = (before.body_start(), after.body_start());
     let stays = old == new
-        && before.shebang_len() == after.shebang_len()
+        && before.tokens_start() == after.tokens_start()
         && before.tokens()[..old.index] == after.tokens()[..new.index];
     (stays && old.offset <= range.start).then(|| {
         let mut body = LexedText::new_in(&before.text()[old.offset..], before.edition());
@@ -166,7 +168,7 @@ fn another_edition() {
             let told = (lexed.edition(), lexed.tokens().len());
             assert_eq!(told, (Edition::E2018, 6));
             let body = lexed.body_start();
-            assert_eq!((lexed.shebang_len(), body.index, body.offset), (3, 2, 11));
+            assert_eq!((lexed.tokens_start(), body.index, body.offset), (3, 2, 11));
         };
     }
     let (text, edition) = ("#!a\n---\n---\n'r#foo", Edition::E2021);
@@ -448,7 +450,7 @@ fn lists_of_the_caller() {
         let tokens = held.tokens().to_vec();
         let counts = held.edit(range.clone(), &insert);
         let (head, now) = (Head::find(&old), Head::find(held.text()));
-        assert_eq!(now.shebang_len, held.shebang_len());
+        assert_eq!(now.tokens_start, held.tokens_start());
         assert_eq!(now.body, held.body_start().offset);
         let edit = Change {
             start: range.start,

@@ -99,7 +99,7 @@ fn offsets_after_random_edits() {
         text.edit(range.clone(), &insert);
         document.edit(range.clone(), &insert);
         check!(text, starts(text.tokens(), 0), random, range.start);
-        let starts = starts(document.tokens(), document.shebang_len());
+        let starts = starts(document.tokens(), document.tokens_start());
         check!(document, starts, random, range.start);
     }
 }

@@ -62,7 +62,7 @@ impl Stepper for Counting {
 /// Applies an edit while each of its allocations fails in turn: nothing changes, no step is taken that the edit does
 /// not take, and then the edit succeeds. Returns its counts, its steps, and the number of its allocations.
 macro_rules! edits {
-    ($edit:ident, $Kept:ident, $tokenize:ident $(, $shebang_len:ident)?) => {
+    ($edit:ident, $Kept:ident, $tokenize:ident $(, $tokens_start:ident)?) => {
         fn $edit(text: &str, range: Range<usize>, insert: &str) -> (Relexed, usize, usize) {
             let make = || $Kept::try_with(text, Counting(Steps::new(), 0)).unwrap();
             let (old, mut new) = (make(), make());
@@ -77,7 +77,7 @@ macro_rules! edits {
                     if answer.is_err() {
                         assert_eq!(answer, Err(EditError::Memory));
                         assert_held!(lexed, text, $tokenize(text, Edition::E2024));
-                        $(assert_eq!(lexed.$shebang_len(), old.$shebang_len());)?
+                        $(assert_eq!(lexed.$tokens_start(), old.$tokens_start());)?
                         assert!((0..text.len()).all(|at| lexed.token_start_at(at) == old.token_start_at(at)));
                     }
                     let answer = answer.or_else(|_| lexed.try_edit(range.clone(), insert));
@@ -92,7 +92,12 @@ macro_rules! edits {
 }
 
 edits!(text_edit, LexedText, tokenize_in);
-edits!(document_edit, LexedDocument, tokenize_document, shebang_len);
+edits!(
+    document_edit,
+    LexedDocument,
+    tokenize_document,
+    tokens_start
+);
 
 /// The removed text is one allocation, and so is room in the text for a longer insertion. One to four lexed tokens are
 /// one, and five are two. The list of five tokens of the second text has no room for seven, which is one. An edit that

@@ -123,9 +123,9 @@ fn tokens_that_break_the_rule() {
 #[test]
 fn calls_of_documents_and_fragments() {
     let mut lexed = LexedDocument::try_with("#!a\nb", Bytes(0)).unwrap();
-    assert_eq!((lexed.shebang_len(), lexed.tokens().len()), (3, 2));
+    assert_eq!((lexed.tokens_start(), lexed.tokens().len()), (3, 2));
     assert_eq!(panic_message(|| lexed.edit(0..4, "!")), broken(0, 2));
-    assert_eq!(panic_message(|| lexed.shebang_len()), LEFT);
+    assert_eq!(panic_message(|| lexed.tokens_start()), LEFT);
     assert_eq!(panic_message(|| lexed.body_start()), LEFT);
     has_no_tokens!(lexed, "!b");
     let mut lexed = LexedText::try_with("abc", Few(3)).unwrap();
@@ -154,7 +154,7 @@ fn set_text_after_a_panic() {
     let mut lexed = LexedDocument::try_with("#!a\nb", Bytes(0)).unwrap();
     panic_message(|| lexed.edit(0..4, "!"));
     assert_eq!(lexed.set_text("#!ab\n---\n---\nc"), Relexed::none(4));
-    assert_eq!((lexed.shebang_len(), lexed.body_start().index), (4, 2));
+    assert_eq!((lexed.tokens_start(), lexed.body_start().index), (4, 2));
     assert_eq!(lexed.edit(13..14, "d").kept_front, 2);
 }
 

@@ -83,7 +83,7 @@ decided_same answer a b decided = (λ t. same_token a b (sym decided ∙ t), λ 
 -- ---- heads
 
 heads_by : (E : Option Token → Option Token → Bool) → ((x y : Option Token) → E x y ≡ true → x ≡ y) → (a b : Head)
-    → (a.shebang_len == b.shebang_len && (a.space_len == b.space_len && (E a.frontmatter b.frontmatter && a.body == b.body))) ≡ true
+    → (a.tokens_start == b.tokens_start && (a.space_len == b.space_len && (E a.frontmatter b.frontmatter && a.body == b.body))) ≡ true
     → a ≡ b
 heads_by E tells a b e = grind (arith, common_steps, and_parts, eqb-true)
 

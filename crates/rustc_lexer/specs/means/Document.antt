@@ -16,7 +16,7 @@ use Rattle.rustc_lexer.specs.means.Pieces.{AreBoundariesFrom}
 abbrev pub by_head : Head → (List ℕ → Token) → List ℕ → Layout
 by_head head first text =
     record {
-      start = head.shebang_len;
+      start = head.tokens_start;
       head = tokens_of_head head;
       body = tokens_by first (drop head.body text);
     }
@@ -27,8 +27,8 @@ pub record IsHeadIn (layout : (List ℕ → Token) → List ℕ → Layout) (tex
   pub layout_is : (first : List ℕ → Token) → layout first text ≡ by_head head first text
   pub bare : head.frontmatter ≡ None → head.space_len ≡ 0
   pub ends : head.body
-      ≡ head.shebang_len + bound (tokens_of_head head) (length (tokens_of_head head))
-  pub cuts : AreBoundariesFrom text head.shebang_len (tokens_of_head head)
+      ≡ head.tokens_start + bound (tokens_of_head head) (length (tokens_of_head head))
+  pub cuts : AreBoundariesFrom text head.tokens_start (tokens_of_head head)
 
 -- what is kept with a text: its tokens, its head, and boundaries of the tokens of its body
 abbrev pub AreKeptOf : ((List ℕ → Token) → List ℕ → Layout) → (List ℕ → Token) → List ℕ → List Token

@@ -2,21 +2,20 @@
 ghost use Rattle.std.specs.Prelude.{◌≡◌, All, drop};
 ghost use Rattle.std.specs.Str.{IsCharBoundary};
 ghost use Rattle.rustc_lexer.specs.Classes.{Fits};
-ghost use Rattle.rustc_lexer.specs.Document.{document_tokens, shebang_len};
+ghost use Rattle.rustc_lexer.specs.Document.{document_tokens, tokens_start};
 ghost use Rattle.rustc_lexer.specs.LanguageText.{source};
 ghost use Rattle.rustc_lexer.specs.Tokens.{HasSuffix, HaveTexts, Partitions, tokens_left};
 
 use crate::edition::Edition;
 use crate::entry::{Tokens, tokenize_as};
-use crate::shebang::shebang_len;
+use crate::shebang::tokens_start;
 use crate::token::FrontmatterAllowed;
 
-/// Returns an iterator over the tokens of a whole document in an edition. They are the tokens of the text past its
-/// shebang line, with or without a frontmatter in front. The text may have at most `u32::MAX` bytes.
+/// Returns an iterator over the tokens of a whole document in an edition. The text may have at most `u32::MAX` bytes.
 ///
-/// The shebang line is not a token. The first token begins where the remaining text begins: at
-/// `text.len() - tokens.as_str().len()` bytes, as long as no token was taken. For a text that is not a whole
-/// document, and for one whose shebang line is to be read as tokens, call [`tokenize_as`].
+/// A document may start with a byte order mark (U+FEFF), then a shebang line, then a frontmatter. The mark and the
+/// shebang line are not tokens: the first token starts at `text.len() - tokens.as_str().len()` bytes, as long as no
+/// token was taken. For a fragment, or to read the shebang line as tokens, call [`tokenize_as`].
 ///
 /// ```ignore
 /// let tokens = tokenize_document(text, Edition::E2024);
@@ -32,16 +31,16 @@ pub fn tokenize_document<'a>(text: &'a str, edition: Edition) -> Tokens<'a>
     ensures state { result
         ≡ record {
           pending = 0;
-          rest = drop (shebang_len text.now) text.now;
+          rest = drop (tokens_start text.now) text.now;
           mode = source edition;
         } }
     ensures tokens { tokens_left result ≡ document_tokens edition text.now }
-    ensures boundary { IsCharBoundary text.now (shebang_len text.now) }
-    ensures partitions { Partitions (drop (shebang_len text.now) text.now)
+    ensures boundary { IsCharBoundary text.now (tokens_start text.now) }
+    ensures partitions { Partitions (drop (tokens_start text.now) text.now)
         (document_tokens edition text.now) }
     ensures suffixes { All HasSuffix (document_tokens edition text.now) }
-    ensures texts { HaveTexts (drop (shebang_len text.now) text.now)
+    ensures texts { HaveTexts (drop (tokens_start text.now) text.now)
         (document_tokens edition text.now) }
 {
-    tokenize_as(&text[shebang_len(text)..], FrontmatterAllowed::Yes, edition)
+    tokenize_as(&text[tokens_start(text)..], FrontmatterAllowed::Yes, edition)
 }

@@ -4,11 +4,11 @@ use crate::support::Vec;
 
 use crate::erased::frontmatter::frontmatter;
 use crate::erased::scan::eat_whitespace;
-use crate::erased::shebang::shebang_len;
+use crate::erased::shebang::tokens_start;
 use crate::erased::token::{Token, TokenKind};
 use crate::support::AllocError;
 
-/// The head of a document, which is the part before its body: a shebang line and a frontmatter.
+/// The head of a document, which is the part before its body: a byte order mark, a shebang line and a frontmatter.
 ///
 /// It is for a program that keeps the tokens of a whole document in lists of its own. [`Head::change_to`] returns what
 /// an edit of the document changes in its body, and [`Relex`](crate::Relex) re-lexes that.
@@ -27,9 +27,9 @@ use crate::support::AllocError;
 /// ```
 #[derive(Clone, Copy, Debug, PartialEq, Eq, Hash)]
 pub struct Head {
-    /// The length of the shebang line in bytes, or 0.
-    pub shebang_len: usize,
-    /// The length in bytes of the white space before the frontmatter, if it is a token of its own, or 0.
+    /// The offset of the first token, in bytes: the length of the byte order mark and of the shebang line.
+    pub tokens_start: usize,
+    /// The length in bytes of the whitespace before the frontmatter, if it is a token of its own, or 0.
     pub space_len: u32,
     /// The frontmatter, or `None` if there is none.
     pub frontmatter: Option<Token>,
@@ -49,14 +49,14 @@ pub struct Whole;
 
 impl Extent for Whole {
     fn find_head(text: &str) -> Head {
-        let shebang = shebang_len(text);
-        let rest = &text[shebang..];
+        let start = tokens_start(text);
+        let rest = &text[start..];
         if let Some(front) = frontmatter(rest) {
             return Head {
-                shebang_len: shebang,
+                tokens_start: start,
                 space_len: 0,
                 frontmatter: Some(front),
-                body: shebang + front.len as usize,
+                body: start + front.len as usize,
             };
         }
         let past = eat_whitespace(rest);
@@ -64,17 +64,17 @@ impl Extent for Whole {
             Some(front) => {
                 let space = rest.len() - past.len();
                 Head {
-                    shebang_len: shebang,
+                    tokens_start: start,
                     space_len: space as u32,
                     frontmatter: Some(front),
-                    body: shebang + space + front.len as usize,
+                    body: start + space + front.len as usize,
                 }
             }
             None => Head {
-                shebang_len: shebang,
+                tokens_start: start,
                 space_len: 0,
                 frontmatter: None,
-                body: shebang,
+                body: start,
             },
         }
     }
@@ -87,7 +87,7 @@ pub struct Part;
 impl Extent for Part {
     fn find_head(_text: &str) -> Head {
         Head {
-            shebang_len: 0,
+            tokens_start: 0,
             space_len: 0,
             frontmatter: None,
             body: 0,

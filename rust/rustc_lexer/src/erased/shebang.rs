@@ -1,7 +1,8 @@
 // Made by tools/erase from crates/rustc_lexer/src/shebang.rt: edit that file.
-//! The shebang line that a document may begin with.
+//! The shebang line and the byte order mark that a document may start with.
 
 use crate::erased::entry::tokenize;
+use crate::erased::scan::split_first;
 use crate::erased::token::{FrontmatterAllowed, TokenKind};
 
 /// Returns the length in bytes of the shebang line at the front of a text, without the end of the line. Returns
@@ -19,9 +20,24 @@ pub fn strip_shebang(input: &str) -> Option<usize> {
     Some(2 + line_len(tail))
 }
 
+/// Returns the offset of the first token of a document, in bytes: only a byte order mark and a shebang line come
+/// before it.
+pub(crate) fn tokens_start(text: &str) -> usize {
+    let mark = mark_len(text);
+    mark + line_end(&text[mark..])
+}
+
 /// Returns the length of the shebang line in bytes, or 0 if there is none.
-pub(crate) fn shebang_len(text: &str) -> usize {
+fn line_end(text: &str) -> usize {
     strip_shebang(text).unwrap_or(0)
+}
+
+/// Returns the length of the byte order mark at the start of a text in bytes, or 0 if there is none.
+fn mark_len(text: &str) -> usize {
+    match split_first(text) {
+        Some(('\u{feff}', _)) => 3,
+        _ => 0,
+    }
 }
 
 /// Returns whether the text after `#!` makes it an attribute.

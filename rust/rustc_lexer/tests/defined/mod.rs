@@ -73,6 +73,12 @@ fn part(text: &str, language: Language) -> Layout {
     }
 }
 
+/// The offset of the first token of a document: after a byte order mark and a shebang line.
+fn tokens_start(text: &str) -> usize {
+    let mark = if text.starts_with('\u{feff}') { 3 } else { 0 };
+    mark + strip_shebang(&text[mark..]).unwrap_or(0)
+}
+
 fn document(text: &str, language: Language) -> Layout {
     let edition = language.unwrap_or(Edition::NEWEST);
     let mut tokens: Vec<Token> = tokenize_document(text, edition).collect();
@@ -81,7 +87,7 @@ fn document(text: &str, language: Language) -> Layout {
         .iter()
         .position(is_frontmatter)
         .map_or(0, |at| at + 1);
-    let start = strip_shebang(text).unwrap_or(0);
+    let start = tokens_start(text);
     if language.is_none() {
         tokens.truncate(head);
         let body = start + sum(&tokens);
@@ -303,7 +309,7 @@ kept!(LexedText, part, |held, text, _, bounds| {
 });
 kept!(LexedDocument, document, |held, text, layout, bounds| {
     let told = (
-        held.shebang_len(),
+        held.tokens_start(),
         held.body_start().index,
         held.body_start().offset,
     );

@@ -11,8 +11,8 @@ use rustc_lexer::erased::{Change, Head, Token, TokenKind};
 #[repr(C)]
 #[derive(Clone, Copy, Debug, PartialEq, Eq)]
 pub struct CHead {
-    /// The length of the shebang line in bytes, or 0.
-    pub shebang_len: u32,
+    /// The offset of the first token, in bytes: only a byte order mark and a shebang line come before it.
+    pub tokens_start: u32,
     /// The offset at which the body starts, in bytes.
     pub body: u32,
     /// The number of tokens before the body: 0, 1 or 2.
@@ -77,7 +77,7 @@ fn head_of(numbers: &CHead) -> Head {
         _ => (first.len, Some(frontmatter_of(second))),
     };
     Head {
-        shebang_len: numbers.shebang_len as usize,
+        tokens_start: numbers.tokens_start as usize,
         space_len: space,
         frontmatter: front,
         body: numbers.body as usize,
@@ -109,7 +109,7 @@ fn numbers_of_head(head: Head) -> CHead {
         }
     };
     CHead {
-        shebang_len: head.shebang_len as u32,
+        tokens_start: head.tokens_start as u32,
         body: head.body as u32,
         count,
         tokens,

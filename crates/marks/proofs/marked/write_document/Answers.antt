@@ -1,6 +1,6 @@
 use Rattle.std.proofs.Common.{◌≡◌, ℕ, ◌-◌, List, [], ◌∷◌, length, take, arith, ap, sym, subst, ◌∙◌}
 use Rattle.std.specs.Fmt.{WritesInCalls}
-use Rattle.rustc_lexer.specs.{Document.{shebang_len}, State.{State}, Tokens.{tokens_left}}
+use Rattle.rustc_lexer.specs.{Document.{tokens_start}, State.{State}, Tokens.{tokens_left}}
 use Rattle.rustc_lexer.proofs.lemmas.tokens.Places.{document_offset, document_start, piece_is, stands_past}
 use Rattle.marks.specs.{declared.class.Class.TheVariants.{Comment}, Marked.{marked_tokens}, Part.{Own, with_marks}}
 use Rattle.marks.proofs.MarkedLemmas.{writes_past, writes_token}
@@ -26,7 +26,7 @@ loop-token-init g c =
     let rest : c.as_str.result.now ≡ c.into_iter-token-iterator.result.rest = c.as_str.ensures.rest ∙ ap (λ (s : State). s.rest) (sym c.into_iter-token-iterator.ensures.into_iter_gives) in
     let left = ap (λ (s : State). s.rest) state in
     let begins = document_start text c.as_str.result.now c.into_iter-token-iterator.result tokens.ensures.boundary rest left in
-    let line : c.range.result.now ≡ take (shebang_len text) text = c.range.ensures.value ∙ ap (λ (n : ℕ). take n text) (let e : length text - length c.as_str.result.now - 0 ≡ shebang_len text = omega (arith, begins) in e) in
+    let line : c.range.result.now ≡ take (tokens_start text) text = c.range.ensures.value ∙ ap (λ (n : ℕ). take n text) (let e : length text - length c.as_str.result.now - 0 ≡ tokens_start text = omega (arith, begins) in e) in
     record {
       place = document_offset text c.as_str.result.now c.into_iter-token-iterator.result tokens.ensures.boundary rest left;
       left = λ w more. writes_past g.W.Write.write_str_gives c.args.format c.args.edition c.args.output.now c.write_in_class.new.output c.write_in_class-2.new.output w c.args.mark.now text c.in_ok-write_in_class.ensures

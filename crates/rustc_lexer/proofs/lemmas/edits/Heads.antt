@@ -2,7 +2,7 @@
 use Rattle.std.proofs.Common.{◌≡◌, ◌↔◌, ℕ, zero, suc, ◌+◌, ◌≤◌, Bool, true, false, List, [], length, refl, sym, ap, ap₂, ◌∙◌, subst, arith, drop, length-take-le, Option, None, IsCharBoundary}
 use Rattle.std.proofs.lemmas.{Grind.{common_steps}, Str.{IsCharBoundary-start}}
 use Rattle.rustc_lexer.specs.{Edition, Token, declared.head.Head.{Head}, Answers.{first_in}, Classes.{IsText}}
-use Rattle.rustc_lexer.specs.Document.{body_start, head_tokens, shebang_len, whole_by}
+use Rattle.rustc_lexer.specs.Document.{body_start, head_tokens, tokens_start, whole_by}
 use Rattle.rustc_lexer.specs.{Edits.{body_in, KeepsHead, part_by}, Kept.{edition_tokens_in, layout_in, start_in}}
 use Rattle.rustc_lexer.specs.{LanguageText.{newest}, Partition.{Layout, tokens_in}, Relexing.{IsHeadOf}}
 use Rattle.rustc_lexer.specs.Tokens.{bound, tokens_by}
@@ -12,7 +12,7 @@ use Rattle.rustc_lexer.proofs.lemmas.heads.ByTokens.{bound-append, head_cuts, in
 
 -- ---- the head of a document
 
-body_by : (text : List ℕ) → body_start text ≡ shebang_len text + bound (head_tokens text) (length (head_tokens text))
+body_by : (text : List ℕ) → body_start text ≡ tokens_start text + bound (head_tokens text) (length (head_tokens text))
 body_by text = grind (arith, common_steps, length-take-le, bound-take)
 
 pub whole_head : (text : List ℕ) → IsText text → (head : Head) → IsHeadOf text head → IsHeadIn whole_by text head
@@ -27,7 +27,7 @@ none_cut : (text : List ℕ) → IsText text → (k : ℕ) → k ≤ 0 → IsCha
 none_cut text is zero few = IsCharBoundary-start text is.utf8
 none_cut text is (suc k) few = absurd (omega arith)
 
-pub part_head : (text : List ℕ) → IsText text → IsHeadIn part_by text (record { shebang_len = 0; space_len = 0; frontmatter = None; body = 0 })
+pub part_head : (text : List ℕ) → IsText text → IsHeadIn part_by text (record { tokens_start = 0; space_len = 0; frontmatter = None; body = 0 })
 part_head text is = record { layout_is = λ first. refl; bare = λ none. refl; ends = refl; cuts = none_cut text is }
 
 pub head_in : (whole : Bool) (text : List ℕ) → IsText text → (head : Head) × IsHeadIn (layout_in whole) text head
@@ -35,7 +35,7 @@ head_in true text is = let some = some_head text is in (some.0, whole_head text 
 head_in false text is = (_, part_head text is)
 
 -- the tokens begin where the shebang line ends
-pub start_is : (whole : Bool) (text : List ℕ) (head : Head) → IsHeadIn (layout_in whole) text head → head.shebang_len ≡ start_in whole text
+pub start_is : (whole : Bool) (text : List ℕ) (head : Head) → IsHeadIn (layout_in whole) text head → head.tokens_start ≡ start_in whole text
 start_is true text head h = (is_page text head h).shebang_is
 start_is false text head h = sym (ap (λ (l : Layout). l.start) (h.layout_is (first_in newest)))
 
@@ -46,7 +46,7 @@ module _ {layout : (List ℕ → Token) → List ℕ → Layout} {text : List �
   pub boundary_of : IsCharBoundary text head.body
   boundary_of = subst (IsCharBoundary text) (sym h.ends) (h.cuts (length (tokens_of_head head)) (omega arith))
 
-  pub start_inside : head.shebang_len ≤ length text
+  pub start_inside : head.tokens_start ≤ length text
   start_inside = omega (arith, (h.cuts 0 (omega arith)).0)
 
   pub all_are : (first : List ℕ → Token) → tokens_in (layout first text) ≡ tokens_in (by_head head first text)
@@ -57,7 +57,7 @@ module _ {layout : (List ℕ → Token) → List ℕ → Layout} {text : List �
 
   -- the body begins where the tokens of the head end
   pub body_at : (first : List ℕ → Token) → body_in (by_head head first text) ≡ head.body
-  body_at first = ap (λ n. head.shebang_len + n) (bound-append (tokens_of_head head) (tokens_by first (drop head.body text))) ∙ sym h.ends
+  body_at first = ap (λ n. head.tokens_start + n) (bound-append (tokens_of_head head) (tokens_by first (drop head.body text))) ∙ sym h.ends
 
 -- ---- whether the head stays
 
@@ -68,10 +68,10 @@ same-parts s s' f f' w4 w5 w6 = grind (arith, common_steps)
 module _ {layout : (List ℕ → Token) → List ℕ → Layout} {text made : List ℕ} {old now : Head} (old_is : IsHeadIn layout text old) (now_is : IsHeadIn layout made now) (first : List ℕ → Token) (start : ℕ) where
   pub head_stays : {of to : Layout} → of ≡ by_head old first text → to ≡ by_head now first made → KeepsHead of to start ↔ ((old ≡ now) × (old.body ≤ start))
   head_stays of_is to_is = rw (of_is, to_is)
-      (kept, λ s. (omega (arith, s.1, body_at old_is first), ap (λ (h : Head). h.shebang_len) s.0, ap tokens_of_head s.0))
+      (kept, λ s. (omega (arith, s.1, body_at old_is first), ap (λ (h : Head). h.tokens_start) s.0, ap tokens_of_head s.0))
     where
       kept : KeepsHead (by_head old first text) (by_head now first made) start → (old ≡ now) × (old.body ≤ start)
       kept k =
           let parts = same-parts old.space_len now.space_len old.frontmatter now.frontmatter old_is.bare now_is.bare k.2 in
           let end = old_is.ends ∙ (ap₂ (λ n (ts : List Token). n + bound ts (length ts)) k.1 k.2 ∙ sym now_is.ends) in
-          ((λ i. record { shebang_len = k.1 i; space_len = parts.0 i; frontmatter = parts.1 i; body = end i }), omega (arith, k.0, body_at old_is first))
+          ((λ i. record { tokens_start = k.1 i; space_len = parts.0 i; frontmatter = parts.1 i; body = end i }), omega (arith, k.0, body_at old_is first))

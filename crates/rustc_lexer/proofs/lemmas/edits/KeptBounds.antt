@@ -24,20 +24,20 @@ module _ {first : List ℕ → Token} (law : IsGrammar first) {layout : (List �
   all_are : tokens ≡ fronts ++ tokens_by first body
   all_are = are.1 ∙ tokens_are are.2 first
 
-  body_at : (k : ℕ) → head.body + bound (drop (length fronts) tokens) k ≡ head.shebang_len + bound tokens (length fronts + k)
+  body_at : (k : ℕ) → head.body + bound (drop (length fronts) tokens) k ≡ head.tokens_start + bound tokens (length fronts + k)
   body_at k = grind (arith, common_steps, are.2.ends, all_are, bound-append, bound-shift)
 
   -- a bound of the body's tokens is one of all
-  pub near_at : (near : TokenStart) (n : ℕ) → n ≡ length fronts → IsBound (drop (length fronts) tokens) near → head.body + near.offset ≡ head.shebang_len + bound tokens (n + near.index)
+  pub near_at : (near : TokenStart) (n : ℕ) → n ≡ length fronts → IsBound (drop (length fronts) tokens) near → head.body + near.offset ≡ head.tokens_start + bound tokens (n + near.index)
   near_at near n e at = omega (arith, at.1, body_at near.index, ap (λ m. bound tokens (m + near.index)) e)
 
   -- the same, with its offset in the text
   pub near_from : (near : TokenStart) (n : ℕ) → n ≡ length fronts → IsBound (drop (length fronts) tokens) near
-      → IsBoundFrom head.shebang_len tokens (record { index = n + near.index; offset = head.body + near.offset })
+      → IsBoundFrom head.tokens_start tokens (record { index = n + near.index; offset = head.body + near.offset })
   near_from near n e at = grind (arith, common_steps, all_are, length-append, length-drop, near_at)
 
   -- the last bound is the text's end
-  pub end_is : head.shebang_len + bound tokens (length tokens) ≡ length text
+  pub end_is : head.tokens_start + bound tokens (length tokens) ≡ length text
   end_is =
       let n : ℕ = length (tokens_by first body) in
       let behind : drop (length fronts) tokens ≡ tokens_by first body = ap (drop (length fronts)) all_are ∙ drop-append_seam fronts (tokens_by first body) in
@@ -45,36 +45,36 @@ module _ {first : List ℕ → Token} (law : IsGrammar first) {layout : (List �
       let all : length tokens ≡ length fronts + n = ap length all_are ∙ length-append fronts (tokens_by first body) in
       omega (arith, ap (bound tokens) all, body_at n, last, length-drop head.body text, are.3.0)
 
-  pub offset_fits : (k : ℕ) → k ≤ length tokens → head.shebang_len + bound tokens k < 2 ^ 32
+  pub offset_fits : (k : ℕ) → k ≤ length tokens → head.tokens_start + bound tokens k < 2 ^ 32
   offset_fits k few = let fits = are.0.fits in omega (arith, bound_mono tokens k (length tokens) few, end_is)
 
-  cut_front : (k : ℕ) → k ≤ length fronts → IsCharBoundary text (head.shebang_len + bound tokens k)
+  cut_front : (k : ℕ) → k ≤ length fronts → IsCharBoundary text (head.tokens_start + bound tokens k)
   cut_front k few =
       let same = bound-same k fronts tokens (sym (ap (take k) all_are ∙ take-append-le k fronts (tokens_by first body) few)) in
-      subst (λ n. IsCharBoundary text (head.shebang_len + n)) same (are.2.cuts k few)
+      subst (λ n. IsCharBoundary text (head.tokens_start + n)) same (are.2.cuts k few)
 
-  cut_back : (j : ℕ) → length fronts + j ≤ length tokens → IsCharBoundary text (head.shebang_len + bound tokens (length fronts + j))
+  cut_back : (j : ℕ) → length fronts + j ≤ length tokens → IsCharBoundary text (head.tokens_start + bound tokens (length fronts + j))
   cut_back j few =
       let behind : drop (length fronts) tokens ≡ tokens_by first body = ap (drop (length fronts)) all_are ∙ drop-append_seam fronts (tokens_by first body) in
       let there = cuts law body body_text j (omega (arith, few, ap length all_are, length-append fronts (tokens_by first body))) in
-      let offset : head.body + bound (tokens_by first body) j ≡ head.shebang_len + bound tokens (length fronts + j) = omega (arith, body_at j, ap (λ ts. bound ts j) behind) in
+      let offset : head.body + bound (tokens_by first body) j ≡ head.tokens_start + bound tokens (length fronts + j) = omega (arith, body_at j, ap (λ ts. bound ts j) behind) in
       subst (IsCharBoundary text) offset (IsCharBoundary-from_rest text head.body (bound (tokens_by first body) j) are.3.0 there)
 
   -- the tokens cut the text between characters
-  pub kept_cuts : AreCut text head.shebang_len (length text) tokens
+  pub kept_cuts : AreCut text head.tokens_start (length text) tokens
   kept_cuts = (are.0.fits, by_front, sym end_is)
     where
-      by_front : (k : ℕ) → k ≤ length tokens → IsCharBoundary text (head.shebang_len + bound tokens k)
+      by_front : (k : ℕ) → k ≤ length tokens → IsCharBoundary text (head.tokens_start + bound tokens k)
       by_front k few = elim (cases_lt k (length fronts)) [
         | inl less ↦ cut_front k (omega arith)
         | inr more ↦
             let same : length fronts + (k - length fronts) ≡ k = omega arith in
-            subst (λ n. IsCharBoundary text (head.shebang_len + bound tokens n)) same (cut_back (k - length fronts) (omega arith))
+            subst (λ n. IsCharBoundary text (head.tokens_start + bound tokens n)) same (cut_back (k - length fronts) (omega arith))
       ]
 
 -- what the invariant says of the view
 module _ {S : Type 0} {first : List ℕ → Token} (law : IsGrammar first) (whole : Bool) (text : List ℕ) (tokens : List Token) (head : Head) (checkpoints : Checkpoints) (are : AreKeptOf (layout_in whole) first text tokens head checkpoints) (held : Held S) (text_is : text ≡ held.text) (tokens_is : tokens ≡ held.tokens) where
-  pub start_seen : head.shebang_len ≡ start_in whole held.text
+  pub start_seen : head.tokens_start ≡ start_in whole held.text
   start_seen = start_is whole text head are.2 ∙ ap (start_in whole) text_is
 
   pub fits_seen : (k : ℕ) → k ≤ length held.tokens → start_in whole held.text + bound held.tokens k < 2 ^ 32

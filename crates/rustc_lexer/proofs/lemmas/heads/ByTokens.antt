@@ -3,14 +3,14 @@ use Rattle.std.proofs.Common.{◌≡◌, ℕ, zero, suc, ◌+◌, ◌-◌, ◌�
 use Rattle.std.proofs.{Math.Seq.{take-append_seam}, lemmas.Bool.{not-true}}
 use Rattle.rustc_lexer.specs.{Edition, Token, TokenKind, declared.head.Head.{Head}, Classes.{IsText, bytes}}
 use Rattle.rustc_lexer.specs.Answers.{first_in}
-use Rattle.rustc_lexer.specs.Document.{is_frontmatter, shebang_len, document_tokens, head_count, head_tokens, whole_by}
+use Rattle.rustc_lexer.specs.Document.{is_frontmatter, tokens_start, document_tokens, head_count, head_tokens, whole_by}
 use Rattle.rustc_lexer.specs.means.Document.{front_tokens}
 use Rattle.rustc_lexer.specs.LanguageText as grammar
 use Rattle.rustc_lexer.specs.LanguageText.{AreTokens, IsTokenIn, Mode, is_source, mode_after, newest, part, source}
 use Rattle.rustc_lexer.specs.{Partition.{tokens_in}, Relexing.{IsHeadOf}, Tokens.{bound, tokens_by}}
 use Rattle.rustc_lexer.specs.laws.{Choice.{by_either, by_symbol}, LanguageTokens.{language}, Tokens.{partitions}}
 use Rattle.rustc_lexer.specs.means.{Frontmatter.{frontmatter, opens, spaces_len}, Scan.{past}, Tokens.{read_tokens}}
-use Rattle.rustc_lexer.proofs.lemmas.heads.DocumentTokens.{shebang-boundary, with-front, with-spaced, without-front}
+use Rattle.rustc_lexer.proofs.lemmas.heads.DocumentTokens.{start-boundary, with-front, with-spaced, without-front}
 use Rattle.rustc_lexer.proofs.lemmas.edits.FrontAndBack.{bound-same}
 use Rattle.std.proofs.lemmas.{List.{length-take, take-take}, Str.{IsCharBoundary-from_rest, IsUtf8-drop}}
 use Rattle.std.proofs.lemmas.Grind.{common_steps}
@@ -71,18 +71,18 @@ module _ (text : List ℕ) (is : IsText text) where
   abbrev all : List Token
   all = document_tokens newest text
 
-  rest_text : (rest : List ℕ) → rest ≡ drop (shebang_len text) text → IsText rest
+  rest_text : (rest : List ℕ) → rest ≡ drop (tokens_start text) text → IsText rest
   rest_text rest e =
       let fits = is.fits in
-      let utf8 = IsUtf8-drop text (shebang_len text) is.utf8 (shebang-boundary text is) in
-      subst IsText (sym e) record { utf8 = utf8; fits = omega (arith, length-drop (shebang_len text) text) }
+      let utf8 = IsUtf8-drop text (tokens_start text) is.utf8 (start-boundary text is) in
+      subst IsText (sym e) record { utf8 = utf8; fits = omega (arith, length-drop (tokens_start text) text) }
 
-  module _ (n : ℕ) (n_is : n ≡ shebang_len text) (rest : List ℕ) (rest_is : rest ≡ drop n text) where
-    rest_same : rest ≡ drop (shebang_len text) text
+  module _ (n : ℕ) (n_is : n ≡ tokens_start text) (rest : List ℕ) (rest_is : rest ≡ drop n text) where
+    rest_same : rest ≡ drop (tokens_start text) text
     rest_same = rest_is ∙ ap (λ k. drop k text) n_is
 
     head_is : {space : ℕ} {front : Option Token} {len : ℕ} → IsFront rest space front len → (body : ℕ) → body ≡ n + len
-        → IsHead text record { shebang_len = n; space_len = space; frontmatter = front; body = body }
+        → IsHead text record { tokens_start = n; space_len = space; frontmatter = front; body = body }
     head_is {space} {front} {len} at body body_is =
         let ts : List Token = front_tokens space front in
         let whole : all ≡ ts ++ read_tokens (part newest) (drop len rest) = ap (read_tokens (source newest)) (sym rest_same) ∙ at.tokens newest in
@@ -107,7 +107,7 @@ module _ (text : List ℕ) (is : IsText text) where
         }
 
     pub head-front : (front : Token) → opens (chars rest) ≡ true → front ≡ frontmatter rest
-        → IsHead text record { shebang_len = n; space_len = 0; frontmatter = Some front; body = n + front.len }
+        → IsHead text record { tokens_start = n; space_len = 0; frontmatter = Some front; body = n + front.len }
     head-front front opened e = rw e (head_is record {
       is_one = some-one rest;
       bare = λ none. refl;
@@ -118,7 +118,7 @@ module _ (text : List ℕ) (is : IsText text) where
     module _ (tail : List ℕ) (none : opens (chars rest) ≡ false) (tail_is : tail ≡ past (spaces_len (chars rest)) rest) where
       pub head-spaced : (front : Token) → opens (chars tail) ≡ true → front ≡ frontmatter tail
           → IsHead text record {
-            shebang_len = n;
+            tokens_start = n;
             space_len = length rest - length tail;
             frontmatter = Some front;
             body = n + (length rest - length tail) + front.len;
@@ -130,7 +130,7 @@ module _ (text : List ℕ) (is : IsText text) where
         tokens = λ edition. with-spaced edition rest tail (rest_text rest rest_same) tail_is none opened;
       } _ (omega arith))
 
-      pub head-none : opens (chars tail) ≡ false → IsHead text record { shebang_len = n; space_len = 0; frontmatter = None; body = n }
+      pub head-none : opens (chars tail) ≡ false → IsHead text record { tokens_start = n; space_len = 0; frontmatter = None; body = n }
       head-none none_past = head_is record {
         is_one = λ t same. absurd (cc);
         bare = λ none. refl;
@@ -139,17 +139,17 @@ module _ (text : List ℕ) (is : IsText text) where
       } _ (omega arith)
 
   abbrev rest : List ℕ
-  rest = drop (shebang_len text) text
+  rest = drop (tokens_start text) text
 
   abbrev past_space : List ℕ
   past_space = past (spaces_len (chars rest)) rest
 
   pub some_head : (head : Head) × IsHead text head
   some_head = by_either (opens (chars rest))
-      (λ e. (_, head-front (shebang_len text) refl rest refl (frontmatter rest) e refl))
+      (λ e. (_, head-front (tokens_start text) refl rest refl (frontmatter rest) e refl))
       (λ e. by_either (opens (chars past_space))
-      (λ f. (_, head-spaced (shebang_len text) refl rest refl past_space e refl (frontmatter past_space) f refl))
-      (λ f. (_, head-none (shebang_len text) refl rest refl past_space e refl f)))
+      (λ f. (_, head-spaced (tokens_start text) refl rest refl past_space e refl (frontmatter past_space) f refl))
+      (λ f. (_, head-none (tokens_start text) refl rest refl past_space e refl f)))
 
   -- the tokens of a document in an edition
   pub in_edition : (edition : Edition) → tokens_in (whole_by (first_in edition) text) ≡ document_tokens edition text
@@ -157,10 +157,10 @@ module _ (text : List ℕ) (is : IsText text) where
       let some = some_head.1 in sym (ap₂ (λ ts n. ts ++ tokens_by (first_in edition) (drop n text)) some.of.tokens_are some.of.end_is) ∙ some.tokens edition
 
   -- the tokens of the head are cut between characters
-  pub head_cuts : (k : ℕ) → k ≤ length (head_tokens text) → IsCharBoundary text (shebang_len text + bound (head_tokens text) k)
+  pub head_cuts : (k : ℕ) → k ≤ length (head_tokens text) → IsCharBoundary text (tokens_start text + bound (head_tokens text) k)
   head_cuts k few =
       let same : bound all k ≡ bound (head_tokens text) k =
       bound-same k all (head_tokens text) (sym (take-take k (head_count all) all (omega (arith, few, length-take (head_count all) all)))) in
-      IsCharBoundary-from_rest text (shebang_len text) (bound (head_tokens text) k) (shebang-boundary text is).0
+      IsCharBoundary-from_rest text (tokens_start text) (bound (head_tokens text) k) (start-boundary text is).0
       (subst (IsCharBoundary rest) same
       ((partitions rest (source newest) (rest_text rest refl)).boundaries k (omega (arith, few, length-take (head_count all) all))))

@@ -3,9 +3,10 @@ use Rattle.std.proofs.lemmas.Grind.{common_steps}
 use Rattle.std.proofs.Common.{◌≡◌, ℕ, zero, suc, ◌+◌, ◌-◌, ◌<◌, Bool, not, true, false, true≢false, List, [], ◌∷◌, ◌++◌, length, take, drop, refl, sym, ap, ap₂, ◌∙◌, subst, arith, length-drop, drop-drop, take-append-drop, append_assoc, length-append, codes, get_or, IsUtf8, IsCharBoundary, chars, Option, None, Some}
 use Rattle.std.specs.Option.{unwrap_or}
 use Rattle.std.proofs.{lemmas.Bool.{and_parts, eqb-true, not-true}, Math.Seq.{get_or-append_seam}}
+use Rattle.std.proofs.lemmas.Str.{IsCharBoundary-from_rest, IsUtf8-drop}
 use Rattle.std.proofs.lemmas.Str.{length-le-encodes, IsCharBoundary-before_ascii, IsCharBoundary-end, IsCharBoundary-start}
 use Rattle.rustc_lexer.specs.{Edition, Token, TokenKind, Eof, Whitespace, Classes.{is_whitespace, IsText, bytes}}
-use Rattle.rustc_lexer.specs.{Document.{shebang_len}, means.Document.{front_tokens}, Answers.{shebang}}
+use Rattle.rustc_lexer.specs.{Document.{mark_len, tokens_start}, means.Document.{front_tokens}, Answers.{shebang}}
 use Rattle.rustc_lexer.specs.Language as the
 use Rattle.rustc_lexer.specs.LanguageCalls as calls
 use Rattle.rustc_lexer.specs.{LanguageCalls.{IsLineBefore, IsShebang}, laws.TheAnswers.{the_shebang}}
@@ -20,6 +21,7 @@ use Rattle.rustc_lexer.specs.laws.Past.{past-zero, chars-past, length-past, past
 use Rattle.rustc_lexer.specs.{laws.Tokens.{tokens-cons}, means.Frontmatter.{frontmatter, opens, spaces_len}}
 use Rattle.rustc_lexer.specs.means.{Lexeme.{symbol_kind}, Scan.{bytes_of, next_is, past, run_len}, Taking.{token_at}}
 use Rattle.rustc_lexer.specs.means.Tokens.{read_tokens}
+use Rattle.rustc_lexer.proofs.lemmas.tokens.Shebang.{mark_boundary}
 
 -- ---- a token that leaves source what it is
 
@@ -144,8 +146,8 @@ seam : (xs ys : List ℕ) → (0 < length ys → get_or ys 0 0 < 128) → IsChar
 seam xs [] small = subst (IsCharBoundary (xs ++ [])) (let none = length-append xs [] in let same : length (xs ++ []) ≡ length xs = omega (arith, none) in same) (IsCharBoundary-end (xs ++ []))
 seam xs (y ∷ ys) small = IsCharBoundary-before_ascii (xs ++ (y ∷ ys)) (length xs) (omega (arith, length-append xs (y ∷ ys))) (let there : get_or (xs ++ (y ∷ ys)) (length xs) 0 ≡ y = get_or-append_seam xs y ys 0 in let less = small (omega arith) in omega (arith, there))
 
-pub shebang-boundary : (text : List ℕ) → IsText text → IsCharBoundary text (shebang_len text)
-shebang-boundary text is = by_answer (shebang text) (((the_shebang text).only is (shebang text)).1 refl)
+line-boundary : (text : List ℕ) → IsText text → IsCharBoundary text (unwrap_or (shebang text) 0)
+line-boundary text is = by_answer (shebang text) (((the_shebang text).only is (shebang text)).1 refl)
   where
     by_line : (w next : List ℕ) → text ≡ codes "#!" ++ (w ++ next) → IsLineBefore next w → IsCharBoundary text (length (codes "#!" ++ w))
     by_line w next whole line = subst (λ xs. IsCharBoundary xs (length (codes "#!" ++ w))) (append_assoc (codes "#!") w next ∙ sym whole) (seam (codes "#!" ++ w) next (small line))
@@ -156,3 +158,12 @@ shebang-boundary text is = by_answer (shebang text) (((the_shebang text).only is
     by_answer : (o : Option ℕ) → IsShebang text o → IsCharBoundary text (unwrap_or o 0)
     by_answer (Some k) (calls.shebang w next whole none line) = by_line w next whole line
     by_answer None (calls.none all) = IsCharBoundary-start text is.utf8
+
+pub start-boundary : (text : List ℕ) → IsText text → IsCharBoundary text (tokens_start text)
+start-boundary text is =
+    let after : IsText (drop (mark_len text) text) = record {
+      utf8 = IsUtf8-drop text (mark_len text) is.utf8 (mark_boundary text is.utf8);
+      fits = omega (arith, is.fits, length-drop (mark_len text) text);
+    } in
+    IsCharBoundary-from_rest text (mark_len text) (unwrap_or (shebang (drop (mark_len text) text)) 0)
+        (mark_boundary text is.utf8).0 (line-boundary (drop (mark_len text) text) after)

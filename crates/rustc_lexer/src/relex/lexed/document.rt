@@ -9,12 +9,12 @@ use crate::relex::front::TokenStart;
 use crate::relex::lexed::Lexed;
 
 impl<S: Stepper> Lexed<S, Whole> {
-    /// Returns the length of the shebang line in bytes, or 0. The first token begins there.
-    pub fn shebang_len(&self) -> usize
-        ensures shebang { result ≡ spec.shebang_len self.now.text }
+    /// Returns the offset of the first token, in bytes: only a byte order mark and a shebang line come before it.
+    pub fn tokens_start(&self) -> usize
+        ensures start { result ≡ spec.tokens_start self.now.text }
         ensures inside { result ≤ length self.now.text }
     {
-        self.kept.head.shebang_len
+        self.kept.head.tokens_start
     }
 
     /// Returns where the body begins, in bytes, and how many tokens come before it: those up to and

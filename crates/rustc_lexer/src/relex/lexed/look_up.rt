@@ -22,7 +22,7 @@ impl<S: Stepper, E: Extent> Lexed<S, E> {
         ensures number { length result ≡ length self.now.tokens }
     {
         let text = self.kept.text.as_str();
-        let start = self.kept.head.shebang_len as u32;
+        let start = self.kept.head.tokens_start as u32;
         let end = text.len() as u32;
         Pieces {
             text,
@@ -53,7 +53,7 @@ impl<S: Stepper, E: Extent> Lexed<S, E> {
     {
         let first = TokenStart {
             index: 0,
-            offset: self.kept.head.shebang_len,
+            offset: self.kept.head.tokens_start,
         };
         let start = self.offset_of(from, first);
         let known = TokenStart {
@@ -130,7 +130,7 @@ impl<S: Stepper, E: Extent> Lexed<S, E> {
         if offset < self.kept.head.body {
             return TokenStart {
                 index: 0,
-                offset: self.kept.head.shebang_len,
+                offset: self.kept.head.tokens_start,
             };
         }
         let near = self.kept.checkpoints.nearest(offset - self.kept.head.body);
@@ -185,7 +185,7 @@ impl<S: Stepper, E: Extent> Lexed<S, E> {
         ensures others { (k : ℕ) → result ≤ k → k < length self.now.tokens
             → offset < start_in E.whole self.now.text + bound self.now.tokens (k + 1) }
     {
-        if offset < self.kept.head.shebang_len {
+        if offset < self.kept.head.tokens_start {
             return 0;
         }
         match self.token_start_at(offset) {
@@ -202,7 +202,7 @@ impl<S: Stepper, E: Extent> Lexed<S, E> {
         ensures others { (k : ℕ) → result ≤ k → k < length self.now.tokens
             → offset ≤ start_in E.whole self.now.text + bound self.now.tokens k }
     {
-        if offset <= self.kept.head.shebang_len {
+        if offset <= self.kept.head.tokens_start {
             return 0;
         }
         match self.token_start_at(offset - 1) {

@@ -7,9 +7,9 @@ use crate::erased::relex::front::TokenStart;
 use crate::erased::relex::lexed::Lexed;
 
 impl<S: Stepper> Lexed<S, Whole> {
-    /// Returns the length of the shebang line in bytes, or 0. The first token begins there.
-    pub fn shebang_len(&self) -> usize {
-        self.kept.head.shebang_len
+    /// Returns the offset of the first token, in bytes: only a byte order mark and a shebang line come before it.
+    pub fn tokens_start(&self) -> usize {
+        self.kept.head.tokens_start
     }
 
     /// Returns where the body begins, in bytes, and how many tokens come before it: those up to and

@@ -14,7 +14,7 @@ impl<S: Stepper, E: Extent> Lexed<S, E> {
     /// piece: the first piece begins where it ends.
     pub fn pieces(&self) -> Pieces<'_> {
         let text = self.kept.text.as_str();
-        let start = self.kept.head.shebang_len as u32;
+        let start = self.kept.head.tokens_start as u32;
         let end = text.len() as u32;
         Pieces {
             text,
@@ -29,7 +29,7 @@ impl<S: Stepper, E: Extent> Lexed<S, E> {
     pub fn pieces_of_tokens(&self, from: usize, to: usize) -> Pieces<'_> {
         let first = TokenStart {
             index: 0,
-            offset: self.kept.head.shebang_len,
+            offset: self.kept.head.tokens_start,
         };
         let start = self.offset_of(from, first);
         let known = TokenStart {
@@ -86,7 +86,7 @@ impl<S: Stepper, E: Extent> Lexed<S, E> {
         if offset < self.kept.head.body {
             return TokenStart {
                 index: 0,
-                offset: self.kept.head.shebang_len,
+                offset: self.kept.head.tokens_start,
             };
         }
         let near = self.kept.checkpoints.nearest(offset - self.kept.head.body);
@@ -122,7 +122,7 @@ impl<S: Stepper, E: Extent> Lexed<S, E> {
 
     /// Returns how many tokens end at or before the offset.
     fn ended_at(&self, offset: usize) -> usize {
-        if offset < self.kept.head.shebang_len {
+        if offset < self.kept.head.tokens_start {
             return 0;
         }
         match self.token_start_at(offset) {
@@ -133,7 +133,7 @@ impl<S: Stepper, E: Extent> Lexed<S, E> {
 
     /// Returns how many tokens begin before the offset.
     fn begun_before(&self, offset: usize) -> usize {
-        if offset <= self.kept.head.shebang_len {
+        if offset <= self.kept.head.tokens_start {
             return 0;
         }
         match self.token_start_at(offset - 1) {

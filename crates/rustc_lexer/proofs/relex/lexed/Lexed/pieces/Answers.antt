@@ -17,4 +17,4 @@ pub returns-clause-pieces : goal.returns-clause-pieces
 returns-clause-pieces g c = rw (c.as_str-text.ensures.value, c.as_slice.ensures.value) (ap (λ n. pieces_from (string_bytes c.self.inside.kept.text) n c.self.inside.kept.tokens.items) (start_is g.E.Extent.whole (string_bytes c.self.inside.kept.text) c.self.inside.kept.head c.self.invariant.2) ∙ ap (λ h. pieces_from h.text (start_in g.E.Extent.whole h.text) h.tokens) c.self.view_is)
 
 pub returns-clause-number : goal.returns-clause-number
-returns-clause-number g c = length-pieces c.as_str-text.result.now c.self.inside.kept.head.shebang_len c.as_slice.result.now ∙ (ap length c.as_slice.ensures.value ∙ ap (λ h. length h.tokens) c.self.view_is)
+returns-clause-number g c = length-pieces c.as_str-text.result.now c.self.inside.kept.head.tokens_start c.as_slice.result.now ∙ (ap length c.as_slice.ensures.value ∙ ap (λ h. length h.tokens) c.self.view_is)
