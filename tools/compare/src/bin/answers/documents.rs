@@ -32,10 +32,11 @@ impl Documents {
             lexed.edit(range.clone(), insert);
             let anew = tokenize_document(&made, lexed.edition());
             let start = made.len() - anew.as_str().len();
-            let kept = answers(lexed.text(), lexed.shebang_len(), lexed.tokens().iter());
+            let kept = answers(lexed.text(), lexed.tokens_start(), lexed.tokens().iter());
             count += same(&[answers(&made, start, anew), kept.clone()])?;
             if lexed.edition() == Edition::NEWEST {
-                let start = original::strip_shebang(&made).unwrap_or(0);
+                let mark = if made.starts_with('\u{feff}') { 3 } else { 0 };
+                let start = mark + original::strip_shebang(&made[mark..]).unwrap_or(0);
                 let tokens = original::tokenize(&made[start..], original::FrontmatterAllowed::Yes);
                 count += same(&[answers(&made, start, tokens), kept])?;
             }
@@ -46,7 +47,7 @@ impl Documents {
 
 /// A text, where its tokens begin, and its tokens, as lines.
 fn answers(text: &str, start: usize, tokens: impl Iterator<Item = impl Debug>) -> String {
-    let mut lines = format!("text {text:?}\nshebang {start}\n");
+    let mut lines = format!("text {text:?}\nstart {start}\n");
     for token in tokens {
         writeln!(lines, "{token:?}").expect("a String takes all that is written");
     }
