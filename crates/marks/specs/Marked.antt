@@ -4,7 +4,7 @@ use Rattle.std.specs.Str.{chars}
 use Rattle.rustc_lexer.specs.declared.edition.Edition.{Edition}
 use Rattle.rustc_lexer.specs.declared.token.Token.{Token}
 use Rattle.rustc_lexer.specs.declared.token.TokenKind.{TokenKind}
-use Rattle.rustc_lexer.specs.Document.{document_tokens, tokens_start}
+use Rattle.rustc_lexer.specs.Document.{document_tokens, mark_len, tokens_start}
 use Rattle.marks.specs.declared.class.Class.{Class}
 use Rattle.marks.specs.declared.class.Class.TheVariants.{Comment, Plain}
 use Rattle.marks.specs.declared.fault.Fault.{Fault}
@@ -37,21 +37,16 @@ parts edition text (token ∷ tokens) =
     token_parts edition token.kind (take token.len text)
     ++ parts edition (drop token.len text) tokens
 
--- the parts of a document in an edition: its shebang line as a comment, and the tokens of the text
--- after it
+-- the parts of the text before the first token: a byte order mark, and a shebang line as a comment
+abbrev pub start_parts : List ℕ → List Part
+start_parts start =
+    Own Plain (take (mark_len start) start) ∷ Own Comment (drop (mark_len start) start) ∷ []
+
+-- the parts of a document in an edition
 abbrev pub document_parts : Edition → List ℕ → List Part
 document_parts edition text =
-    Own Comment (take (tokens_start text) text)
-    ∷ parts edition (drop (tokens_start text) text) (document_tokens edition text)
-
--- the length of the byte order mark, U+FEFF, that a text begins with, or 0
-abbrev pub mark_len : List ℕ → ℕ
-mark_len text = if slice_index (chars text) 0 == 0xFEFF then 3 else 0
-
--- the parts of a whole text: its byte order mark, and the document behind that
-abbrev pub text_parts : Edition → List ℕ → List Part
-text_parts edition text =
-    Own Plain (take (mark_len text) text) ∷ document_parts edition (drop (mark_len text) text)
+    start_parts (take (tokens_start text) text)
+    ++ parts edition (drop (tokens_start text) text) (document_tokens edition text)
 
 -- the tokens of a text in an edition, each between its marks, as they are written
 abbrev pub marked_tokens : Format → Edition → List ℕ → List Token → List ℕ
@@ -59,4 +54,4 @@ marked_tokens format edition text tokens = with_marks format (parts edition text
 
 -- the same for a whole text
 abbrev pub marked : Format → Edition → List ℕ → List ℕ
-marked format edition text = with_marks format (text_parts edition text)
+marked format edition text = with_marks format (document_parts edition text)

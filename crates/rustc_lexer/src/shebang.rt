@@ -62,7 +62,7 @@ fn line_end(text: &str) -> usize
 
 /// Returns the length of the byte order mark at the start of a text in bytes, or 0 if there is none.
 #[tactic(auto, using(crate::proofs::lemmas::tokens::Shebang::mark_boundary, std::proofs::lemmas::Grind::common_steps))]
-fn mark_len(text: &str) -> usize
+pub fn mark_len(text: &str) -> usize
     ensures len { result ≡ document.mark_len text.now }
     ensures boundary { IsCharBoundary text.now (document.mark_len text.now) }
 {

@@ -1,10 +1,10 @@
-use Rattle.std.proofs.Common.{◌≡◌, ℕ, ◌-◌, List, [], ◌∷◌, length, take, arith, ap, sym, subst, ◌∙◌}
+use Rattle.std.proofs.Common.{◌≡◌, ℕ, ◌-◌, List, length, take, arith, ap, sym, subst, ◌∙◌}
 use Rattle.std.specs.Fmt.{WritesInCalls}
 use Rattle.rustc_lexer.specs.{Document.{tokens_start}, State.{State}, Tokens.{tokens_left}}
 use Rattle.rustc_lexer.proofs.lemmas.tokens.Places.{document_offset, document_start, piece_is, stands_past}
-use Rattle.marks.specs.{declared.class.Class.TheVariants.{Comment}, Marked.{marked_tokens}, Part.{Own, with_marks}}
+use Rattle.marks.specs.{Marked.{marked_tokens, start_parts}, Part.{with_marks}}
 use Rattle.marks.proofs.MarkedLemmas.{writes_past, writes_token}
-use Rattle.marks.proofs.marked.write_document.Goals as goal
+use Rattle.marks.proofs.marked.write_marked.Goals as goal
 
 pub loop-token-preserved : goal.loop-token-preserved
 loop-token-preserved g c =
@@ -21,15 +21,21 @@ loop-token-preserved g c =
 pub loop-token-init : goal.loop-token-init
 loop-token-init g c =
     let text : List ℕ = c.args.text.now in
+    let took = g.W.Write.write_str_gives in
     let tokens = c.tokenize_document-tokens in
     let state = c.into_iter-token-iterator.ensures.into_iter_gives ∙ tokens.ensures.state in
-    let rest : c.as_str.result.now ≡ c.into_iter-token-iterator.result.rest = c.as_str.ensures.rest ∙ ap (λ (s : State). s.rest) (sym c.into_iter-token-iterator.ensures.into_iter_gives) in
+    let rest : c.as_str.result.now ≡ c.into_iter-token-iterator.result.rest =
+        c.as_str.ensures.rest ∙ ap (λ (s : State). s.rest) (sym c.into_iter-token-iterator.ensures.into_iter_gives) in
     let left = ap (λ (s : State). s.rest) state in
     let begins = document_start text c.as_str.result.now c.into_iter-token-iterator.result tokens.ensures.boundary rest left in
-    let line : c.range.result.now ≡ take (tokens_start text) text = c.range.ensures.value ∙ ap (λ (n : ℕ). take n text) (let e : length text - length c.as_str.result.now - 0 ≡ tokens_start text = omega (arith, begins) in e) in
+    let before : c.range.result.now ≡ take (tokens_start text) text =
+        c.range.ensures.value ∙ ap (λ (n : ℕ). take n text)
+        (let e : length text - length c.as_str.result.now - 0 ≡ tokens_start text = omega (arith, begins) in e) in
     record {
       place = document_offset text c.as_str.result.now c.into_iter-token-iterator.result tokens.ensures.boundary rest left;
-      left = λ w more. writes_past g.W.Write.write_str_gives c.args.format c.args.edition c.args.output.now c.write_in_class.new.output c.write_in_class-2.new.output w c.args.mark.now text c.in_ok-write_in_class.ensures
-          (subst (λ (bs : List ℕ). WritesInCalls g.W.Write.write_str_gives c.write_in_class.new.output (with_marks c.args.format (Own Comment bs ∷ [])) c.write_in_class-2.new.output) line c.in_ok-write_in_class-2.ensures)
-          (subst (λ (s : State). WritesInCalls g.W.Write.write_str_gives c.write_in_class-2.new.output (marked_tokens c.args.format c.args.edition s.rest (tokens_left s)) w) state more);
+      left = λ w more. writes_past took c.args.format c.args.edition c.args.output.now c.write_start.new.output w text
+          (subst (λ (bs : List ℕ). WritesInCalls took c.args.output.now (with_marks c.args.format (start_parts bs)) c.write_start.new.output)
+              before c.in_ok-write_start.ensures)
+          (subst (λ (s : State). WritesInCalls took c.write_start.new.output (marked_tokens c.args.format c.args.edition s.rest (tokens_left s)) w)
+              state more);
     }
