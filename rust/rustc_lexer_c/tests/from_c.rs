@@ -61,7 +61,8 @@ fn has(tools: &[&str]) -> bool {
     let missing = |tool: &&&str| Command::new(tool).arg("--version").output().is_err();
     let missing: Vec<_> = tools.iter().filter(missing).collect();
     if !missing.is_empty() {
-        writeln!(io::stderr(), "from_c: skipped what needs {missing:?}").unwrap();
+        let line = format!("from_c: skipped what needs {missing:?}\n");
+        io::stderr().write_all(line.as_bytes()).unwrap();
     }
     missing.is_empty()
 }
