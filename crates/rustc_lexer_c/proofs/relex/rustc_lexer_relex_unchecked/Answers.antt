@@ -1,6 +1,6 @@
 use Rattle.std.proofs.Common.{◌≡◌, ◌<◌, List, ℕ, ◌++◌, length, map, take, drop, subst, true, ◌∙◌, Some}
 use Rattle.std.proofs.lemmas.List.{length-map}
-use Rattle.rustc_lexer.specs.{declared.{relex.relexing.Change.{Change}, token.Token.{Token}}, Classes.{IsText}, Relexing.{known}}
+use Rattle.rustc_lexer.specs.{declared.relex.relexing.Change.{Change}, Classes.{IsText}, Relexing.{known}}
 use Rattle.rustc_lexer.specs.{Relexing.{IsMadeOf, IsUnderWay, TakesSteps, is_over}, Answers.{grammar_of}, LanguageCalls.{edition_of_year}, Locality.{Grammar}, Tokens.{tokens_by}}
 use Rattle.rustc_lexer_c.specs.{declared.token.CToken.{CToken}, Numbers.{token_numbers}, Relex.{change_of}}
 use Rattle.rustc_lexer_c.proofs.RelexLemmas.{none_some, relexed}
