@@ -384,7 +384,7 @@ static void check_heads(body_edit_call *body_edit) {
     CHECK(document.head_kept == 1 && document.body.relexing.lexed == 3);
     edit_document(body_edit, &document, 0, 3, "");
     CHECK(document.head.tokens_start == 9 && document.head.body == 17 && document.head_kept == 0);
-    edit_document(body_edit, &document, 0, document.len, "\xef\xbb\xbfa");
+    edit_document(body_edit, &document, 0, document.len, "\xef\xbb\xbf" "a");
     CHECK(document.head.tokens_start == 3 && document.head.count == 0 && document.head.body == 3);
     edit_document(body_edit, &document, 0, document.len, "");
 }

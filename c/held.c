@@ -22,10 +22,13 @@ int main(void) {
     static const struct {
         uint32_t start, stop;
         const char *insert;
-    } edits[] = {{0, 0, "#!/a\n---\n---\nlet ab = cd + ef;\n"}, {17, 19, "c - 1"}, {17, 22, ""}, {5, 5, "x"}, {5, 6, ""}, {0, 5, ""}};
+    } edits[] = {{0, 0, "#!/a\n---\n---\nlet ab = cd + ef;\n"}, {17, 19, "c - 1"}, {17, 22, ""},
+                 {5, 5, "x"}, {5, 6, ""}, {0, 5, ""}};
     static struct held held;
-    for (size_t i = 0; i < sizeof edits / sizeof edits[0]; i++)
-        CHECK(edit_held(&held, edits[i].start, edits[i].stop, edits[i].insert) == RUSTC_LEXER_OK && is_up_to_date(&held));
+    for (size_t i = 0; i < sizeof edits / sizeof edits[0]; i++) {
+        CHECK(edit_held(&held, edits[i].start, edits[i].stop, edits[i].insert) == RUSTC_LEXER_OK);
+        CHECK(is_up_to_date(&held));
+    }
 
     /* a text of MOST bytes fits, and one more does not: as a replacement of everything, and in the middle */
     static char symbols[MOST + 2];

@@ -1,5 +1,5 @@
-// What page.js draws of an answer, and when, with no browser: plain objects stand in for the page and for its lexer.
-// The gate calls it; tests/manual/page has the page itself.
+// Tests what page.js draws of the lexer's answers, and when, without a browser: simple objects replace the page and
+// its lexer. Only this finds a wrong drawing on a machine without Chromium; tests/manual/page tests the page itself.
 //
 // usage: node tests/page/alone.mjs
 import { deepStrictEqual as same } from 'node:assert';
@@ -73,7 +73,8 @@ const textsOf = (name) => part(name).children.map((row) => row.children.map((cel
 
 const barOf = () => [part('bar').className, ...part('bar').children.map(({ style }) => style.flexGrow)];
 
-// what is typed is drawn at once, from the line that is seen; what differs is asked later, of a long text after 0.3 seconds
+// what is typed is drawn at once, from the line that is seen; what differs is asked later, of a long text after 0.3
+// seconds
 same(changed(99_999), 'change show');
 same(calls[1], ['show', 200, 3, 1, 1]);
 same(delays.map(([, delay]) => delay), [0]);
@@ -95,8 +96,8 @@ delays[0][0]();
 same(part('differ').textContent, 'Tokens: 6 in 2015, 5 in 2024. They differ in 60 places; the first 1 are here.');
 same(textsOf('#differences tbody'), [['2:1', 'q', 'Ident q\nPound #', 'UnknownPrefix q']]);
 
-// a second answer takes the place of the first: all was lexed, another line is seen, the caret is in front, and its token
-// is out of sight
+// a second answer takes the place of the first: all was lexed, another line is seen, the caret is in front, and its
+// token is out of sight
 const first = { ...plainToken, number: 0, start: 0, place: '1:1', text: 'y', kind: 'Ident' };
 const plain = { runs: [['', 'z']], said: [] };
 answers.show = { lines: [plain, plain, plain], count: 6, begin: 0, tokens: [token], at: 0, elsewhere: [first], place: '1:1' };

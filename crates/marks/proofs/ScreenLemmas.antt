@@ -8,7 +8,7 @@ use Rattle.std.proofs.lemmas.Str.{encode_ascii, IsUtf8-drop, IsUtf8-past_char, I
 use Rattle.memchr.specs.Find.{IsFirstByte}
 use Rattle.marks.specs.declared.class.Class.{Class}
 use Rattle.marks.specs.Screen.{at_line_end, is_layout, is_replaceable, is_shown, may_begin_replaceable, seen, seen_char, symbol}
-use Rattle.marks.proofs.CallLemmas.{no_calls, one_call, writes_both}
+use Rattle.marks.proofs.CallLemmas.{one_call, writes_both}
 
 far : (c : ℕ) → 160 ≤ c → is_shown c ≡ true
 far c high = grind (arith, common_steps, nat_tests)

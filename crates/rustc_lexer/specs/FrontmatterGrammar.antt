@@ -31,8 +31,8 @@ pub data IsLabelBefore (next : Chars) : Chars → Type 0 where
       → NextIsNot is_horizontal_whitespace next
       → IsLabelBefore next (u ++ (c ∷ v ++ w))
 
--- the opening of a frontmatter: white space that does not end in a newline (or none), n dashes, at
--- least 3 and not one more, and their label, which is bad if no newline comes directly after it
+-- the opening of a frontmatter: white space that does not end in a newline (or none), n dashes, with
+-- n ≥ 3 and no dash after them, and their label, which is bad if no newline comes directly after it
 pub data IsOpeningBefore (next : Chars) : (n : ℕ) → (bad_label : Bool) → Chars → Type 0 where
   opening : (n : ℕ) (space label : Chars)
       → AreAll is_whitespace space

@@ -53,16 +53,16 @@ pub record AreInseparable (edition : Edition) (left right : Utf8) : Type 0 where
   pub spaced : IsSeparated edition left (codes " ") right → ⊥
   pub on_a_line : IsSeparated edition left (codes "\n") right → ⊥
 
--- whether a token is open: an unterminated literal or block comment, or a malformed raw string
-abbrev pub is_open : TokenKind → Bool
-is_open (Literal kind suffix_start) = is_faulty kind
-is_open (BlockComment style terminated) = not terminated
-is_open kind = false
+-- whether a token is malformed: an unterminated literal or block comment, or a malformed raw string
+abbrev pub is_malformed : TokenKind → Bool
+is_malformed (Literal kind suffix_start) = is_faulty kind
+is_malformed (BlockComment style terminated) = not terminated
+is_malformed kind = false
 
--- none of the tokens is open
-abbrev pub AreClosed : List Token → Type 0
-AreClosed [] = Unit {0}
-AreClosed (token ∷ tokens) = (is_open token.kind ≡ false) × AreClosed tokens
+-- none of the tokens is malformed
+abbrev pub AreWellFormed : List Token → Type 0
+AreWellFormed [] = Unit {0}
+AreWellFormed (token ∷ tokens) = (is_malformed token.kind ≡ false) × AreWellFormed tokens
 
 -- whether this whitespace character, directly after a token of this kind, is part of the token
 abbrev pub takes_in : TokenKind → ℕ → Bool
@@ -78,10 +78,10 @@ last_takes_in (token ∷ next ∷ tokens) c = last_takes_in (next ∷ tokens) c
 
 -- whitespace separates tokens
 pub record WhiteSpaceSeparates (edition : Edition) : Type 0 where
-  -- a text without open tokens keeps its tokens before whitespace that does not become part of its
-  -- last token
+  -- a text without malformed tokens keeps its tokens before whitespace that does not become part of
+  -- its last token
   pub keeps : (text after : Utf8) → IsText text → IsText (text ++ after)
-      → AreClosed (tokens_of (part edition) text)
+      → AreWellFormed (tokens_of (part edition) text)
       → NextIs is_whitespace (chars after)
       → NextIsNot (last_takes_in (tokens_of (part edition) text)) (chars after)
       → MayTouch edition text after

@@ -1,6 +1,6 @@
-//! Keeps a document as a language server does: takes changes by positions in UTF-16, and answers with semantic tokens,
-//! all of them, what changed since the last answer, or those in view. `cargo run -p verified-marks --example lsp -- FILE`
-//! prints all, and what each line of standard input changes: LINE CHARACTER LINE CHARACTER TEXT.
+//! The document of a language server: takes changes at UTF-16 positions, and answers with semantic tokens: all of them,
+//! the changes since the last answer, or the visible ones. `cargo run -p verified-marks --example lsp -- FILE` prints
+//! all tokens, and the changes by each line of standard input: LINE CHARACTER LINE CHARACTER TEXT.
 
 use marks::{Class, Edition, KeywordKind, class_of, keyword_kind};
 use rustc_lexer::{EditError, LexedDocument, Piece, Pieces, Relexed};
@@ -8,14 +8,14 @@ use std::error::Error;
 use std::ops::Range;
 use std::{env, fs, io};
 
-/// The types of tokens by their numbers, and the modifiers by their bits: a server names them when it starts.
+/// The types of tokens by number, and the modifiers by bit: a server announces them when it starts.
 pub const TYPES: [&str; 6] = ["comment", "keyword", "type", "string", "number", "lifetime"];
 pub const MODIFIERS: [&str; 1] = ["documentation"];
 
-/// A line, and how many UTF-16 units come before the place there. Both count from 0.
+/// A line, and an offset in it in UTF-16 units. Both count from 0.
 pub type Position = (usize, usize);
 
-/// Of the numbers that were sent last, `deleted` from `start` on become `data`.
+/// Replaces `deleted` of the numbers that were sent last, from `start` on, with `data`.
 #[derive(Debug, PartialEq, Eq)]
 pub struct Delta {
     pub start: usize,
@@ -23,14 +23,14 @@ pub struct Delta {
     pub data: Vec<u32>,
 }
 
-/// A document, with what its client knows of it.
+/// A document, and the state of its client.
 pub struct Document {
     lexed: LexedDocument,
-    /// Where each line begins, and where the last one ends.
+    /// The offset of each line, and the end of the last one.
     lines: Vec<usize>,
-    /// How many numbers were sent last for each token that the text then had.
+    /// The number of numbers that were last sent for each token.
     counts: Vec<usize>,
-    /// Which of those tokens all changes since have kept.
+    /// Which of those tokens all changes since then have kept.
     changes: Relexed,
 }
 
@@ -45,7 +45,7 @@ impl Document {
         })
     }
 
-    /// Replaces a range, or the whole text. Of several changes, each has the positions that those before it left.
+    /// Replaces a range, or the whole text. Each of several changes has positions after the previous ones.
     pub fn change(&mut self, at: Option<Range<Position>>, insert: &str) -> Result<(), EditError> {
         let relexed = match at.map(|at| self.offset(at.start)..self.offset(at.end)) {
             Some(range) => self.lexed.try_edit(range, insert)?,
@@ -56,18 +56,18 @@ impl Document {
         Ok(())
     }
 
-    /// Returns five numbers for each line of each token that is shown: how many lines it is below the one before, how
-    /// many units after the start of that one or of its line, its length in units, its type, and its modifiers.
+    /// Returns five numbers for each line of each highlighted token: its distance in lines from the previous one, its
+    /// distance in units from that one or from the start of its line, its length in units, its type, and its modifiers.
     pub fn full(&mut self) -> Vec<u32> {
         self.counts.clear();
         self.changes = Relexed::none(self.lexed.tokens().len());
         self.delta().data
     }
 
-    /// Returns what makes of the numbers that were sent last those of the present text.
+    /// Returns the change from the numbers that were sent last to those of the current text.
     pub fn delta(&mut self) -> Delta {
         let (front, back) = (self.changes.kept_front, self.changes.kept_back);
-        // A token is placed by the one before it. So the first one shown at the back is sent again.
+        // Positions are relative to the previous token, so the first highlighted one at the back is sent again.
         let mut old = self.counts[self.counts.len() - back..].iter();
         let back = back - old.position(|&count| count > 0).map_or(0, |at| at + 1);
         let (end, old_end) = (self.lexed.tokens().len() - back, self.counts.len() - back);
@@ -82,20 +82,20 @@ impl Document {
         delta
     }
 
-    /// Returns where the last part begins that is shown of the tokens before this one.
+    /// Returns the position of the last highlighted part before a token.
     fn place_before(&self, number: usize) -> Option<usize> {
         let shown = self.counts[..number].iter().rposition(|&count| count > 0)?;
         let last = self.lexed.pieces_of_tokens(shown..).next()?;
         Some(parts(last).last()?.start)
     }
 
-    /// Returns the numbers of all tokens that have a part in the range, like the lines in view.
+    /// Returns the numbers of all tokens with a part in the range, for example the visible lines.
     pub fn viewport(&self, range: Range<Position>) -> Vec<u32> {
         let range = self.offset(range.start)..self.offset(range.end);
         self.encode(0, self.lexed.pieces_in_bytes(range)).0
     }
 
-    /// Returns the offset of a position. One past the end of a line, or of the text, is that end.
+    /// Returns the offset of a position, or the end of the line or of the text if it is after that.
     fn offset(&self, (line, character): Position) -> usize {
         let Some(&[start, stop]) = self.lines.windows(2).nth(line) else {
             return self.lexed.text().len();
@@ -109,7 +109,7 @@ impl Document {
         start + before.map(char::len_utf8).sum::<usize>()
     }
 
-    /// Returns the numbers of pieces, the first of them placed by an offset, and how many numbers each piece has.
+    /// Returns the numbers of pieces, the first one relative to an offset, and how many numbers each piece has.
     fn encode(&self, mut last: usize, pieces: Pieces<'_>) -> (Vec<u32>, Vec<usize>) {
         let units = |range: Range<usize>| self.lexed.text()[range].encode_utf16().count() as u32;
         let line_of = |at: usize| self.lines.partition_point(|&start| start <= at) - 1;
@@ -131,7 +131,7 @@ impl Document {
     }
 }
 
-/// Returns where a piece is on each of its lines, without the ends of lines.
+/// Returns the part of a piece on each of its lines, without line endings.
 fn parts(piece: Piece<'_>) -> impl Iterator<Item = Range<usize>> {
     let mut at = piece.range().start;
     let parts = piece.text.split(['\r', '\n']).map(move |part| {
@@ -142,7 +142,8 @@ fn parts(piece: Piece<'_>) -> impl Iterator<Item = Range<usize>> {
     parts.filter(|part| !part.is_empty())
 }
 
-/// Returns type and modifiers of a token. Blanks, symbols and plain names have none: the client colours them.
+/// Returns the type and the modifiers of a token. Whitespace, symbols and plain names have none: the client colours
+/// them.
 fn paint(piece: Piece<'_>, edition: Edition) -> Option<[u32; 2]> {
     let word = keyword_kind(piece.text, edition);
     match class_of(piece.token.kind, piece.text, edition) {
@@ -156,7 +157,7 @@ fn paint(piece: Piece<'_>, edition: Edition) -> Option<[u32; 2]> {
     }
 }
 
-/// Returns where the lines of a text begin, and its end. A line ends with `\n`, `\r\n` or `\r`.
+/// Returns the offsets of the lines of a text, and its end. A line ends with `\n`, `\r\n` or `\r`.
 fn lines(text: &str) -> Vec<usize> {
     let ends = text.match_indices(['\r', '\n']).map(|(at, _)| at + 1);
     let starts = ends.filter(|&at| !text[at - 1..].starts_with("\r\n"));

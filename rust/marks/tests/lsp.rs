@@ -3,9 +3,13 @@
 #[allow(dead_code)]
 #[path = "../examples/lsp.rs"]
 mod lsp;
+#[allow(dead_code, reason = "ranges here have positions")]
+#[path = "../../rustc_lexer/tests/random/mod.rs"]
+mod random;
 
 use lsp::{Delta, Document, Position, TYPES};
 use marks::{Class, Edition, KeywordKind, class_of, keyword_kind};
+use random::Random;
 use rustc_lexer::{EditError, tokenize_document};
 use std::ops::Range;
 
@@ -250,53 +254,37 @@ fn successive_changes() {
     assert_eq!(document.viewport((1, 5)..(1, 5)), []);
 }
 
-/// Knuth's linear congruential generator with 64 bits.
-struct Random(u64);
+/// Random texts consist of these.
+#[rustfmt::skip]
+const PIECES: &[&str] = &[
+    "fn ", "a", "B", " ", "\n", "\r\n", "\r", "/*", "*/", "//", "/// ", "\"", "'", "'c ", "1.5", "é", "😀", "\u{2028}",
+    "#!/b\n", "---\n", "r#\"", "{}", "async",
+];
 
-impl Random {
-    fn below(&mut self, bound: usize) -> usize {
-        let factor = 6_364_136_223_846_793_005;
-        self.0 = self.0.wrapping_mul(factor).wrapping_add(1);
-        ((self.0 >> 33) as usize) % bound
+/// Returns an offset that a position can have, at most this many bytes after another one.
+fn random_offset(random: &mut Random, text: &str, from: usize, most: usize) -> usize {
+    let mut at = from + random.below(most.min(text.len() - from) + 1);
+    while !text.is_char_boundary(at) || text[..at].ends_with('\r') && text[at..].starts_with('\n') {
+        at -= 1;
     }
+    at
+}
 
-    /// Returns a text of at most this many pieces.
-    fn text(&mut self, most: usize) -> String {
-        const PIECES: &str = "fn |a|B| |\n|\r\n|\r|/*|*/|//|/// |\"|'|'c |1.5|é|😀|\u{2028}|#!/b\n|---\n|r#\"|{}|async";
-        let pieces: Vec<&str> = PIECES.split('|').collect();
-        let count = self.below(most + 1);
-        (0..count)
-            .map(|_| pieces[self.below(pieces.len())])
-            .collect()
-    }
-
-    /// Returns an offset that a position can have, at most this many bytes after another one.
-    fn place(&mut self, text: &str, from: usize, most: usize) -> usize {
-        let mut at = from + self.below(most.min(text.len() - from) + 1);
-        while !text.is_char_boundary(at)
-            || text[..at].ends_with('\r') && text[at..].starts_with('\n')
-        {
-            at -= 1;
-        }
-        at
-    }
-
-    fn range(&mut self, text: &str, most: usize) -> Range<usize> {
-        let start = self.place(text, 0, text.len());
-        start..self.place(text, start, most)
-    }
+fn random_range(random: &mut Random, text: &str, most: usize) -> Range<usize> {
+    let start = random_offset(random, text, 0, text.len());
+    start..random_offset(random, text, start, most)
 }
 
 #[test]
 fn random_changes() {
     for seed in 0..400 {
-        let mut random = Random(seed);
+        let mut random = Random(seed, PIECES);
         let mut text = random.text(40);
         let mut document = open(&text);
         let mut sent = document.full();
         for _ in 0..25 {
             for _ in 0..random.below(3) {
-                let (range, insert) = (random.range(&text, 6), random.text(3));
+                let (range, insert) = (random_range(&mut random, &text, 6), random.text(3));
                 document
                     .change(Some(positions(&text, &range)), &insert)
                     .unwrap();
@@ -305,7 +293,7 @@ fn random_changes() {
             let mut parts = parts(&text);
             apply(&mut sent, document.delta());
             assert_eq!(sent, numbers(&parts), "{text:?}");
-            let view = random.range(&text, 20);
+            let view = random_range(&mut random, &text, 20);
             parts.retain(|(token, ..)| token.start.max(view.start) < token.end.min(view.end));
             let seen = document.viewport(positions(&text, &view));
             assert_eq!(seen, numbers(&parts), "{text:?} {view:?}");

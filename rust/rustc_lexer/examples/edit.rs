@@ -1,4 +1,5 @@
-//! Prints the tokens of a file, then those that an edit changes: `cargo run --example edit` in a package with `src/main.rs`.
+//! Prints the tokens of a file, then those that an edit changes: `cargo run --example edit` in a package with
+//! `src/main.rs`.
 use rustc_lexer::LexedDocument;
 
 fn main() -> std::io::Result<()> {

@@ -1,6 +1,6 @@
-//! Keeps a file in colours while it is edited, as an editor does: its shebang line, its frontmatter and its code. Each
-//! line of standard input is an edit: START STOP TEXT. Prints what is repainted, and at the end the whole file:
-//! `cargo run --example highlight -- FILE`.
+//! Highlights a file while it is edited, with its shebang line and its frontmatter: `cargo run --example highlight --
+//! FILE`. Each line of standard input is an edit: START STOP TEXT. Prints the tokens that are repainted, and at the end
+//! the whole file.
 
 use rustc_lexer::{LexedDocument, Piece, TokenKind};
 use std::{env, fs, io};
@@ -19,7 +19,7 @@ fn paint(piece: Piece<'_>) -> String {
 fn main() -> io::Result<()> {
     let path = env::args().nth(1).expect("the name of a file");
     let mut lexed = LexedDocument::new(fs::read_to_string(path)?);
-    // What an editor shows: each token in its colour.
+    // Each token, in its colour.
     let mut shown: Vec<String> = lexed.pieces().map(paint).collect();
     for line in io::stdin().lines() {
         let line = line?;

@@ -1,12 +1,12 @@
-//! Counts the lines of files with code, with comments alone, and with neither: `cargo run --example lines -- FILE..`.
+//! Counts the lines of files with code, with only comments, and with neither: `cargo run --example lines -- FILE..`.
 //!
-//! It goes by tokens: `//` in a string is code, and so is each line of the string. An empty line in a comment is a comment.
+//! Tokens decide: `//` in a string is code, and so is each line of the string. An empty line in a comment is a comment.
 //! A shebang line and a frontmatter are code.
 use rustc_lexer::{Edition, TokenKind, tokenize_document};
 use std::error::Error;
 use std::{env, fs};
 
-/// What is on a line. If there are several things, the last of these counts.
+/// The contents of a line. If it has several, the last variant counts.
 #[derive(Clone, Copy, PartialEq, Eq, PartialOrd, Ord)]
 enum Line {
     Blank,
@@ -27,7 +27,7 @@ fn count(text: &str) -> [usize; 3] {
             TokenKind::LineComment { .. } | TokenKind::BlockComment { .. } => Line::Comment,
             _ => Line::Code,
         };
-        // A token may end with a line, as `r#` does that no quote follows: it has nothing on the next one.
+        // A token that ends with a line break, like `r#` without a quote, has nothing on the next line.
         for part in piece.text.split_inclusive('\n') {
             line = line.max(kind);
             if part.ends_with('\n') {

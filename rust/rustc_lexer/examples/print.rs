@@ -1,5 +1,5 @@
-//! Prints the texts of tokens, one in each line of the input, with the separators that they need and no other:
-//! `cargo run --example print < TOKENS`. A line that is not one token, or is refused, is told by its number.
+//! Prints tokens, one per line of the input, with only the separators that they need: `cargo run --example print <
+//! TOKENS`. Reports the number of a line that is not one token or is rejected.
 use rustc_lexer::{Edition, JoinedText, tokenize_in};
 use std::io;
 

@@ -1,21 +1,21 @@
-//! Prints the tokens of standard input as soon as they are final, one a line: `tail -f FILE | cargo run --example stream`.
-//! The input is a part of a file. It may come in pieces of any size, which may end inside a character.
+//! Prints the tokens of standard input as soon as they are final, one a line: `tail -f FILE | cargo run --example
+//! stream`. The input is a fragment. It can arrive in chunks of any size, which can end inside a character.
 use rustc_lexer::LexedText;
 use std::io::{self, Read, Write};
 use std::str;
 
-/// A text that is still arriving. What has been printed of it is dropped.
+/// A text that is still arriving, without the tokens that have been printed.
 #[derive(Default)]
 pub struct Stream {
     lexed: LexedText,
-    /// Where the text that is held begins in all the text.
+    /// The offset of the remaining text in the whole text.
     start: usize,
-    /// The first bytes of a character whose others are still to come.
+    /// The first bytes of a character that is still incomplete.
     cut: Vec<u8>,
 }
 
 impl Stream {
-    /// Takes the next bytes, and writes the tokens that are final with them.
+    /// Appends the next bytes, and writes the tokens that are final then.
     pub fn take(&mut self, bytes: &[u8], output: &mut impl Write) -> io::Result<()> {
         self.cut.extend_from_slice(bytes);
         let text = match str::from_utf8(&self.cut) {
@@ -32,7 +32,7 @@ impl Stream {
         self.print(self.lexed.settled(), output)
     }
 
-    /// Writes the tokens that are left, since no more bytes come.
+    /// Writes the remaining tokens at the end of the input.
     pub fn finish(mut self, output: &mut impl Write) -> io::Result<()> {
         if !self.cut.is_empty() {
             return Err(io::ErrorKind::InvalidData.into());

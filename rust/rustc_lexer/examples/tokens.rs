@@ -1,5 +1,5 @@
-//! Prints the tokens of a Rust file, one a line: offset, length in bytes, kind and text. `cargo run --example tokens FILE`;
-//! `--help` says what else it takes.
+//! Prints the tokens of a Rust file, one per line: offset, length in bytes, kind and text. `cargo run --example tokens
+//! FILE`; `--help` lists its options.
 use rustc_lexer::{Edition, Tokens, fits, tokenize_document, tokenize_in};
 use std::error::Error;
 use std::io::{self, BufWriter, Write};

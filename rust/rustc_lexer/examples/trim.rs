@@ -1,11 +1,11 @@
-//! Takes blanks and tabs from the ends of lines: `cargo run --example trim < FILE > TRIMMED`. Then it lexes what it made,
-//! and writes nothing but a message if a token other than white space differs.
+//! Removes spaces and tabs at the ends of lines: `cargo run --example trim < FILE > TRIMMED`. Then it lexes the result,
+//! and prints only a message if a token other than whitespace differs.
 //!
-//! Only white space between tokens is trimmed: a shebang line, a frontmatter, comments and literals stay as they are.
+//! Only whitespace between tokens is trimmed: a shebang line, a frontmatter, comments and literals stay as they are.
 use rustc_lexer::{Edition, TokenKind, tokenize_document};
 use std::io;
 
-/// The tokens after the shebang line that are not white space, each with its text.
+/// Returns the tokens after the shebang line, except whitespace, with their texts.
 fn words(text: &str) -> impl Iterator<Item = (TokenKind, &str)> {
     let pieces = tokenize_document(text, Edition::E2024).pieces();
     let pieces = pieces.map(|piece| (piece.token.kind, piece.text));
@@ -29,7 +29,7 @@ fn trim(text: &str) -> String {
 fn trim_space(space: &str, is_last: bool, trimmed: &mut String) {
     for line in space.split_inclusive('\n') {
         let blanks = line.trim_end_matches(['\r', '\n']);
-        // What no newline follows is the indentation of the next token.
+        // The part after the last newline is the indentation of the next token.
         if is_last || line.ends_with('\n') {
             trimmed.push_str(blanks.trim_end_matches([' ', '\t']));
         } else {

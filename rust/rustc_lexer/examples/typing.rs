@@ -1,4 +1,4 @@
-//! Keeps the tokens of a file while you type into it: `cargo run --example typing -- FILE`. Types each line of standard
+//! Updates the tokens of a file while you type: `cargo run --example typing -- FILE`. Inserts each line of standard
 //! input at the end of the file's first line, and prints the tokens that were lexed again.
 use rustc_lexer::LexedDocument;
 use std::{env, fs, io};

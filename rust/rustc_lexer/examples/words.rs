@@ -1,5 +1,5 @@
-//! Prints which characters may begin and continue a word in this build: where each run of them begins and ends. The
-//! tables are those of the crate `unicode-ident`, in the version that Cargo picked.
+//! Prints the ranges of characters that can start and continue an identifier in this build, by the tables of the crate
+//! `unicode-ident` in the version that Cargo picked.
 use rustc_lexer::{is_id_continue, is_id_start};
 
 fn main() {

@@ -1,11 +1,12 @@
-//! Why a text that is kept with its tokens could not be made or edited.
+//! Why a text could not be lexed or edited.
 
 use crate::AllocError;
+use crate::erased::{EditStop, Stopped};
 use alloc::string::String;
 use core::error::Error;
 use core::fmt;
 
-/// Why an edit was refused, or why a text could not be kept. Text and tokens are then as they were.
+/// Why an edit was rejected, or why a text could not be lexed. Text and tokens are then unchanged.
 ///
 /// ```
 /// use rustc_lexer::{EditError, LexedText};
@@ -13,6 +14,24 @@ use core::fmt;
 /// let mut lexed = LexedText::new("é");
 /// assert_eq!(lexed.try_edit(1..2, ""), Err(EditError::Range));
 /// assert_eq!(lexed.text(), "é");
+/// ```
+///
+/// The other errors of a lexed text add what the caller cannot know otherwise, and `?` converts each to this one:
+/// [`EditStop`] names an edit of a list, [`Stopped`] also has the counts of the edits before it, and
+/// [`FromStringError`] returns the text.
+///
+/// ```
+/// use rustc_lexer::{Edit, EditError, Edition, LexedText};
+///
+/// fn edited(text: String, edits: &[Edit<'_>]) -> Result<LexedText, EditError> {
+///     let mut lexed = LexedText::try_from_string_in(text, Edition::E2024)?;
+///     lexed.edit_each(edits)?;
+///     lexed.edit_at_once(edits)?;
+///     Ok(lexed)
+/// }
+///
+/// let edit = Edit { start: 3, stop: 3, insert: "" };
+/// assert_eq!(edited("é".into(), &[edit]).map(|_| ()), Err(EditError::Range));
 /// ```
 #[derive(Clone, Copy, Debug, PartialEq, Eq, Hash)]
 #[non_exhaustive]
@@ -43,7 +62,23 @@ impl From<AllocError> for EditError {
     }
 }
 
-/// Why a text could not be kept, with that text: an error of
+impl From<EditStop> for EditError {
+    fn from(stop: EditStop) -> EditError {
+        match stop {
+            EditStop::Range { .. } => EditError::Range,
+            EditStop::TooLong { .. } => EditError::TooLong,
+            EditStop::Memory { .. } => EditError::Memory,
+        }
+    }
+}
+
+impl From<Stopped> for EditError {
+    fn from(stopped: Stopped) -> EditError {
+        stopped.stop.into()
+    }
+}
+
+/// Why a text could not be lexed, with that text: the error of
 /// [`try_from_string_in`](crate::Lexed::try_from_string_in).
 #[derive(Clone, PartialEq, Eq)]
 pub struct FromStringError {
@@ -58,7 +93,7 @@ impl FromStringError {
         self.text
     }
 
-    /// Returns why it could not be kept.
+    /// Returns why it could not be lexed.
     #[must_use]
     pub fn error(&self) -> EditError {
         self.error
@@ -113,7 +148,7 @@ pub(crate) fn check_accepted(
     if accepts(insert) {
         Ok(())
     } else if accepts("") {
-        // Nothing in the place of the range makes no text longer, so the range is good.
+        // A deletion cannot make the text too long, so the range is valid.
         Err(EditError::TooLong)
     } else {
         Err(EditError::Range)

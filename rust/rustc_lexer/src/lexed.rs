@@ -53,8 +53,12 @@ fn checked_range(numbers: &impl RangeBounds<usize>, tokens: &[Token]) -> Range<u
 /// assert_eq!(count(&LexedDocument::new("#!a\nb")), 2);
 /// ```
 ///
-/// Each call that panics if a text is too long, a range is bad or an allocation fails has a twin that returns an error
-/// instead, like [`try_edit`](Lexed::try_edit).
+/// A constructor, or a method that changes the text once, panics if the text is too long, the range is invalid or an
+/// allocation fails, and has a `try_` variant that returns an error; a method that takes a list of edits returns a
+/// `Result` under its plain name, since its error says which edit failed.
+///
+/// If a step panics in an edit, the text is poisoned: [`text`](Lexed::text) has the edit, but each method that needs the
+/// tokens panics until `set_text` lexes a text again. A clone of it is poisoned too.
 #[derive(Clone)]
 pub struct Lexed<S: Stepper = Steps, E: Extent = Part> {
     kept: erased::Lexed<S, E>,

@@ -12,38 +12,32 @@ use std::{env, fs, thread};
 static EXAMPLES: LazyLock<PathBuf> = LazyLock::new(|| {
     let target = Path::new(env!("CARGO_TARGET_TMPDIR")).join("examples");
     let test = env::current_exe().unwrap();
-    let folder = test.ancestors().nth(2).and_then(Path::file_name).unwrap();
-    let profile = if folder == "debug" {
-        "dev".as_ref()
-    } else {
-        folder
-    };
-    let build = |config: &[&str]| {
+    let folder = test.ancestors().nth(2).unwrap();
+    let profile = folder.file_name().unwrap().to_str().unwrap();
+    let build = |settings: &[&str]| {
         let mut cargo = Command::new(env!("CARGO"));
-        cargo.current_dir(env!("CARGO_MANIFEST_DIR")).args(config);
+        cargo.current_dir(env!("CARGO_MANIFEST_DIR")).args(settings);
         cargo.args(["build", "--examples", "--locked", "--offline"]);
         if cfg!(feature = "portable") {
             cargo.args(["--features", "portable"]);
         }
-        cargo.arg("--profile").arg(profile);
-        cargo.arg("--target-dir").arg(&target).output().unwrap()
+        cargo.args(["--profile", profile.replace("debug", "dev").as_str()]);
+        cargo.env("CARGO_PROFILE_RELEASE_LTO", "false"); // saves minutes
+        let built = cargo.arg("--target-dir").arg(&target).output();
+        built.unwrap().status.success()
     };
-    // The dependencies are where this test found them: in Cargo's cache, or among the stand-ins.
-    let mut built = build(&[]);
-    if !built.status.success() {
-        built = build(&["--config", "../../stand_ins/offline.toml"]);
+    // The dependencies are in Cargo's cache or among the stand-ins. With other settings Cargo cannot find them here, and
+    // the examples are those that `cargo test` has built.
+    if build(&[]) || build(&["--config", "../../stand_ins/offline.toml"]) {
+        target.join(profile).join("examples")
+    } else {
+        folder.join("examples")
     }
-    let errors = String::from_utf8_lossy(&built.stderr);
-    assert!(built.status.success(), "{errors}");
-    target.join(folder).join("examples")
 });
 
 fn example(name: &str) -> Command {
-    Command::new(
-        EXAMPLES
-            .join(name)
-            .with_extension(env::consts::EXE_EXTENSION),
-    )
+    let file = EXAMPLES.join(name);
+    Command::new(file.with_extension(env::consts::EXE_EXTENSION))
 }
 
 /// Runs an example with this input, which it need not read to the end.
@@ -55,7 +49,7 @@ fn run(name: &str, args: &[&str], input: &str) -> Output {
         .stdout(pipe())
         .stderr(pipe())
         .spawn()
-        .unwrap();
+        .expect("the examples are built");
     let (mut to, input) = (process.stdin.take().unwrap(), input.to_owned());
     let writes = thread::spawn(move || to.write_all(input.as_bytes()));
     let output = process.wait_with_output().unwrap();

@@ -1,9 +1,11 @@
 //! Steppers that break a rule or panic: the messages of the calls, and the text and tokens afterwards.
 
+mod made;
 mod panics;
 
+use made::edit;
 use panics::panic_message;
-use rustc_lexer::{Edit, EditError, LexedDocument, LexedText, Relexed, Stepper, Token, TokenKind};
+use rustc_lexer::{EditError, LexedDocument, LexedText, Relexed, Stepper, Token, TokenKind};
 use std::panic::{AssertUnwindSafe, catch_unwind};
 
 /// A stepper whose tokens have one byte, but this many at `!`.
@@ -27,14 +29,6 @@ impl Stepper for Few {
         self.0 = self.0.checked_sub(1).expect("no step is left");
         let kind = TokenKind::Unknown;
         Token { kind, len: 1 }
-    }
-}
-
-fn edit_at(start: usize, insert: &str) -> Edit<'_> {
-    Edit {
-        start,
-        stop: start,
-        insert,
     }
 }
 
@@ -93,7 +87,7 @@ fn tokens_that_break_the_rule() {
                     panic_message(|| $Kept::try_with("a!é", Bytes(len))),
                     broken(len, 3)
                 );
-                let bad = [edit_at(0, "c"), edit_at(2, "!é"), edit_at(0, "d")];
+                let bad = [edit(0, 0, "c"), edit(2, 2, "!é"), edit(0, 0, "d")];
 
                 let mut lexed = kept();
                 assert_eq!(panic_message(|| lexed.edit(1..1, "!é")), broken(len, 4));
@@ -188,7 +182,7 @@ fn a_panic_at_each_step() {
             assert_eq!((panicked, edited), (3, 1));
             // A list is applied edit by edit, so the text is that after one of them.
             let mut lexed = $Kept::try_with("a;".repeat(70), Few(140 + 90)).unwrap();
-            let edits: Vec<_> = (0..70).map(|at| edit_at(3 * at, "b")).collect();
+            let edits: Vec<_> = (0..70).map(|at| edit(3 * at, 3 * at, "b")).collect();
             assert_eq!(panic_message(|| lexed.edit_each(&edits)), "no step is left");
             let made = lexed.text().len() - 140;
             assert!(1 < made && made < 70, "{made}");
@@ -197,7 +191,7 @@ fn a_panic_at_each_step() {
             assert_eq!(panic_message(|| lexed.tokens().len()), LEFT);
             // All edits at once have too few steps, and then the text includes all of them.
             let mut lexed = $Kept::try_with("ab", Few(3)).unwrap();
-            let edits = [edit_at(0, "c"), edit_at(2, "d")];
+            let edits = [edit(0, 0, "c"), edit(2, 2, "d")];
             assert_eq!(
                 panic_message(|| lexed.edit_at_once(&edits)),
                 "no step is left"
@@ -206,7 +200,7 @@ fn a_panic_at_each_step() {
             // The first edit of a list takes its two steps, and the second has none.
             for each in [false, true] {
                 let mut lexed = $Kept::try_with("a", Few(3)).unwrap();
-                let edits = [edit_at(1, "b"), edit_at(2, "c"), edit_at(3, "d")];
+                let edits = [edit(1, 1, "b"), edit(2, 2, "c"), edit(3, 3, "d")];
                 let made = || match each {
                     true => lexed.edit_each(&edits).map(drop).map_err(|it| it.stop),
                     false => lexed.edit_all(&edits),
@@ -225,7 +219,7 @@ fn a_panic_at_each_step() {
 fn edits_without_a_step() {
     let mut lexed = LexedText::try_with("ab", Few(2)).unwrap();
     assert!(lexed.try_edit(0..9, "").is_err());
-    assert!(lexed.edit_all(&[edit_at(9, "")]).is_err());
+    assert!(lexed.edit_all(&[edit(9, 9, "")]).is_err());
     assert_eq!((lexed.text(), lexed.tokens().len()), ("ab", 2));
     // The whole text is removed, which takes no step.
     lexed.edit(0..2, "");

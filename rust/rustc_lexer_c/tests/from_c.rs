@@ -1,5 +1,5 @@
-//! The library as C programs see it: the names that it exports and imports, the header, and the programs of `c`, which are built
-//! here over the static and the shared library. A missing tool skips what needs it, and says so.
+//! The library as C programs see it: the names that it exports and imports, the header, and the programs of `c`, which
+//! are built here over the static and the shared library. A missing tool skips what needs it, and says so.
 //!
 //! With `LIBRARY=FILE` the programs link with that static library, like the one that Rattle builds.
 #![cfg(target_os = "linux")]
@@ -61,13 +61,14 @@ fn has(tools: &[&str]) -> bool {
     let missing = |tool: &&&str| Command::new(tool).arg("--version").output().is_err();
     let missing: Vec<_> = tools.iter().filter(missing).collect();
     if !missing.is_empty() {
-        writeln!(io::stderr(), "from_c: skipped what needs {missing:?}").unwrap();
+        let line = format!("from_c: skipped what needs {missing:?}\n");
+        io::stderr().write_all(line.as_bytes()).unwrap();
     }
     missing.is_empty()
 }
 
-/// Builds a package with Cargo into a folder of its own, and returns that. Cargo uses what this test's build fetched, or else
-/// the stand-ins.
+/// Builds a package with Cargo into a folder of its own, and returns that. Cargo uses what this test's build fetched,
+/// or else the stand-ins.
 fn built(package: &str, folder: &str, words: &[&str]) -> PathBuf {
     let build = |source: &[&str]| {
         let mut cargo = Command::new(env!("CARGO"));

@@ -4,7 +4,7 @@ ghost use Rattle.std.specs.Str.{IsCharBoundary, chars};
 ghost use Rattle.std.specs.String.{string_bytes, string_capacity, string_len};
 ghost use Rattle.rustc_lexer.specs.Answers.{first_in, tokens_of};
 ghost use Rattle.rustc_lexer.specs.Classes.{Fits, Utf8};
-ghost use Rattle.rustc_lexer.specs.Joined.{AreClosed, AreInseparable, IsJoined, IsRefused, IsSeparated, MayEnd, MayTouch, RunsOn, TailDecides, WhiteSpaceSeparates, cut_to, error_text};
+ghost use Rattle.rustc_lexer.specs.Joined.{AreWellFormed, AreInseparable, IsJoined, IsRefused, IsSeparated, MayEnd, MayTouch, RunsOn, TailDecides, WhiteSpaceSeparates, cut_to, error_text};
 ghost use Rattle.rustc_lexer.specs.LanguageText.{part};
 ghost use Rattle.rustc_lexer.specs.Locality.{has_two};
 ghost use Rattle.rustc_lexer.specs.{Token};
@@ -146,7 +146,7 @@ impl JoinedText {
         ensures same { OnErr result (self.new ≡ self.old) }
         ensures refused { IfErr result (IsRefused self.old piece.now) }
         ensures closed { IfErr result (λ e. e ≡ JoinError.Inseparable
-            → AreClosed (tokens_of (part self.old.edition) self.old.text)
+            → AreWellFormed (tokens_of (part self.old.edition) self.old.text)
             → RunsOn (tokens_of (part self.old.edition) self.old.text) (chars piece.now)) }
     {
         let at = self.text.len();

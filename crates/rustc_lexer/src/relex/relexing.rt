@@ -535,7 +535,7 @@ impl<'a, T: Measured> Relex<'a, T> {
     /// Returns how far the text is lexed.
     pub fn state(&self) -> Relexing
         ensures state { result ≡ self.now.at }
-        ensures may_go_on { MayGoOn self.now.text (length self.now.lengths) result }
+        ensures may_go_on { MayGoOn self.now.text (length self.now.lengths) self.now.at }
     {
         self.at
     }

@@ -1,7 +1,8 @@
 //! Times the lexer on adversarial input, 1 MB and 4 MB of each shape: `cargo run --release --bin hostile`.
 //!
-//! Only this finds a lexer that is slower than linear, or too deep. It fails if a byte of the long text takes more than three
-//! times as long as a byte of the short one. A busy machine may also slow down ordinary Rust, the first shape: then more.
+//! Only this finds a lexer that is slower than linear, or too deep. It fails if a byte of the long text takes more
+//! than three times as long as a byte of the short one. A busy machine may also slow down ordinary Rust, the first
+//! shape: then more.
 
 use rustc_lexer::{FrontmatterAllowed, tokenize};
 use std::hint::black_box;
@@ -23,8 +24,8 @@ type Shape<'a> = (&'a str, &'a [&'a str]);
 const SHAPES: [Shape; 27] = [
     ("", &[RUST]), ("", &["/*", "*/"]), ("", &["/*"]), ("", &["/ * "]), ("", &["\""]), ("", &["'"]), ("\"", &["\\\\"]),
     ("\"", &["\\\""]), ("", &["r#~"]), ("", &["#"]), ("r", &["#"]), ("", &["#\"a\""]), ("", &["1"]), ("", &["1_"]),
-    ("", &["1e+"]), ("", &["😀"]), ("", &["😀 "]), ("", &["-"]), ("", &["\n"]), ("//", &["a"]), ("", &["é"]), ("", &["'a "]),
-    ("", &["1a "]), ("", &["k'a "]), ("", &["a\u{200d}"]), ("", &["a\"b\" c'd e#f 1.2 /*x*/ "]), ("", &["\0"]),
+    ("", &["1e+"]), ("", &["😀"]), ("", &["😀 "]), ("", &["-"]), ("", &["\n"]), ("//", &["a"]), ("", &["é"]),
+    ("", &["'a "]), ("", &["1a "]), ("", &["k'a "]), ("", &["a\u{200d}"]), ("", &["a\"b\" c'd e#f 1.2 /*x*/ "]), ("", &["\0"]),
 ];
 
 /// The minimum time for one byte of the shape, in picoseconds.

@@ -11,7 +11,7 @@ use Rattle.rustc_lexer.specs.Language as the
 use Rattle.rustc_lexer.specs.Language.{IsTokenBefore, begins_prefixed}
 use Rattle.rustc_lexer.specs.LiteralGrammar as lit
 use Rattle.rustc_lexer.specs.LiteralGrammar.{IsDoubleQuoted, IsSingleQuoted, IsRaw, IsLiteralBefore, IsSuffixBefore}
-use Rattle.rustc_lexer.specs.{NumberGrammar.{is_no_fraction, IsNumberBefore}, Tokens.{is_faulty}, Joined.{is_open}}
+use Rattle.rustc_lexer.specs.{NumberGrammar.{is_no_fraction, IsNumberBefore}, Tokens.{is_faulty}, Joined.{is_malformed}}
 use Rattle.rustc_lexer.specs.LanguageText.{IsTokenIn, kept, pound, ident, lifetime, lifetime_r}
 use Rattle.rustc_lexer.specs.means.{Number.{begins_fraction}, Scan.{begins, next_is}}
 use Rattle.rustc_lexer.specs.laws.{LanguageLiterals.{number-digit}, LanguageReach.{raw-alike}}
@@ -148,7 +148,7 @@ prefixed-apart w ch = rw (
 ) refl
 
 pub token-apart : {next : List ℕ} {kind : TokenKind} {w : List ℕ} → IsTokenBefore next kind w → 0 < length w
-    → is_open kind ≡ false → (other : List ℕ) → Changes next other → Goes kind next other → IsTokenBefore other kind w
+    → is_malformed kind ≡ false → (other : List ℕ) → Changes next other → Goes kind next other → IsTokenBefore other kind w
 token-apart (the.end none) some good other ch go = absurd (omega arith)
 token-apart (the.whitespace all stop) some good other ch go = the.whitespace all (go.space refl stop)
 token-apart (the.line_comment all stop is) some good other ch go = the.line_comment all (go.line refl stop) is
@@ -178,7 +178,7 @@ goes-free : (kind : TokenKind) (next other : List ℕ) → (kind ≡ Whitespace 
 goes-free kind next other no_space no_line = grind (arith, common_steps)
 
 pub in-apart : {edition : Edition} {next : List ℕ} {kind : TokenKind} {w : List ℕ} → IsTokenIn edition next kind w
-    → 0 < length w → is_open kind ≡ false → (other : List ℕ) → Changes next other → Goes kind next other
+    → 0 < length w → is_malformed kind ≡ false → (other : List ℕ) → Changes next other → Goes kind next other
     → IsTokenIn edition other kind w
 in-apart (kept le p) some good other ch go = kept le (token-apart p some good other ch go)
 in-apart (pound lt) some good other ch go = pound lt

@@ -88,7 +88,7 @@ separated_past edition text at len is cut e =
 
 -- no text touches each
 pub touch_none : (edition : Edition) (text : List ℕ) → MayTouch edition (take 0 text) (drop 0 text)
-touch_none edition text = sym (ap (λ (ts : List Token). ts ++ tokens_by (first_in edition) text) (tokens-nil (edition_grammar edition)))
+touch_none edition text = sym (ap (λ (ts : List Token). ts ++ tokens_by (first_in edition) text) (tokens-nil (first_in edition)))
 
 -- ---- how to find it out
 

@@ -8,7 +8,7 @@ use lib.Utf8.{encode, scalars}
 use Rattle.std.specs.Str.{encode_utf8_all}
 use Rattle.rustc_lexer.specs.{Edition, Token, TokenKind, Whitespace}
 use Rattle.rustc_lexer.specs.Classes.{AreAll, IsText, NextIs, NextIsNot, bytes, is_whitespace}
-use Rattle.rustc_lexer.specs.Joined.{AreClosed, IsSeparated, MayTouch, RunsOn, is_open, AreInseparable, WhiteSpaceSeparates, last_takes_in, takes_in}
+use Rattle.rustc_lexer.specs.Joined.{AreWellFormed, IsSeparated, MayTouch, RunsOn, is_malformed, AreInseparable, WhiteSpaceSeparates, last_takes_in, takes_in}
 use Rattle.rustc_lexer.specs.Partition.{tokens_by}
 use Rattle.rustc_lexer.specs.Language as the
 use Rattle.rustc_lexer.specs.Language.{IsTokenBefore}
@@ -75,7 +75,7 @@ changes (one {c = c} {w = w} p (one {c = d} {w = v} {next = next} q rest)) after
     subst (Changes (c ∷ w ++ (d ∷ v ++ next))) (sym (append_assoc (c ∷ w) (d ∷ v ++ next) after)) (changes-past (c ∷ w) (changes (one q rest) after (inr e)))
 
 stays : {edition : Edition} {kind : TokenKind} {c : ℕ} {w next : List ℕ} {tokens : List Token} → IsTokenIn edition next kind (c ∷ w)
-    → Are edition next tokens → is_open kind ≡ false → (after : List ℕ) → Parts (record { kind = kind; len = bytes (c ∷ w) } ∷ tokens) after
+    → Are edition next tokens → is_malformed kind ≡ false → (after : List ℕ) → Parts (record { kind = kind; len = bytes (c ∷ w) } ∷ tokens) after
     → IsTokenIn edition (next ++ after) kind (c ∷ w)
 stays {kind = kind} p none good after (inl e) = in-apart p (omega arith) good after (changed refl e.0) (kind-goes kind after e.1)
 stays {edition} {kind} {c} {w} p none good after (inr e) = let is = kind-space kind e.0 in
@@ -89,7 +89,7 @@ one-more : {edition : Edition} {kind : TokenKind} {c : ℕ} {w : List ℕ} (next
 one-more {edition} {kind} {c} {w} next after {us} p rest = subst (λ (xs : List ℕ). Are edition xs (record { kind = kind; len = bytes (c ∷ w) } ∷ us))
     (sym (append_assoc (c ∷ w) next after)) (one p rest)
 
-keeps : {edition : Edition} {cs : List ℕ} {tokens : List Token} → Are edition cs tokens → AreClosed tokens → {after : List ℕ} {others : List Token}
+keeps : {edition : Edition} {cs : List ℕ} {tokens : List Token} → Are edition cs tokens → AreWellFormed tokens → {after : List ℕ} {others : List Token}
     → Are edition after others → Parts tokens after → Are edition (cs ++ after) (tokens ++ others)
 keeps none closed more e = more
 keeps (one p none) closed {after} more e = one-more [] after (stays p none closed.0 after e) more
@@ -111,7 +111,7 @@ module _ (edition : Edition) where
   read : (text : List ℕ) → IsText text → {cs : List ℕ} {tokens : List Token} → Are edition cs tokens → chars text ≡ cs → Tokens text ≡ tokens
   read text is tokens e = tokens-read (to_part tokens) text is e
 
-  touches : (text after : List ℕ) → IsText text → IsText (text ++ after) → AreClosed (Tokens text) → Parts (Tokens text) (chars after)
+  touches : (text after : List ℕ) → IsText text → IsText (text ++ after) → AreWellFormed (Tokens text) → Parts (Tokens text) (chars after)
       → MayTouch edition text after
   touches text after is whole closed e = read (text ++ after) whole (keeps (are text is) closed (are after (rest-is text after whole is.utf8)) e)
       (chars-append text after is.utf8)
@@ -143,7 +143,7 @@ begins edition space text w3 w4 w5 w6 = grind (arith, common_steps, tokens-nil, 
 pub white_space_separates : (edition : Edition) → WhiteSpaceSeparates edition
 white_space_separates edition = grind (arith, common_steps, touches, begins)
 
-module _ (edition : Edition) (text piece : List ℕ) (is : IsText text) (utf8 : IsUtf8 piece) (room : length text + (length piece + 1) < 2 ^ 32) (closed : AreClosed (Tokens edition text)) where
+module _ (edition : Edition) (text piece : List ℕ) (is : IsText text) (utf8 : IsUtf8 piece) (room : length text + (length piece + 1) < 2 ^ 32) (closed : AreWellFormed (Tokens edition text)) where
   -- a separator of one character
   parts : (d : ℕ) → scalars (d ∷ []) ≡ true → encode_utf8_all (d ∷ []) ≡ d ∷ [] → is_whitespace d ≡ true
       → last_takes_in (Tokens edition text) d ≡ false → NextIsNot is_whitespace (chars piece)

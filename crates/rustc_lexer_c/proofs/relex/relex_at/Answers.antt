@@ -1,6 +1,6 @@
-use Rattle.std.proofs.Common.{◌≡◌, ap, refl, sym, subst, ◌∙◌, arith}
+use Rattle.std.proofs.Common.{ap, refl, sym, ◌∙◌, arith}
 use Rattle.std.proofs.lemmas.Grind.{common_steps}
-use Rattle.rustc_lexer.specs.Relexing.{IsUnderWay, RelexModel}
+use Rattle.rustc_lexer.specs.Relexing.{RelexModel}
 use Rattle.rustc_lexer_c.proofs.RelexLemmas.{if_each, if_some}
 use Rattle.rustc_lexer_c.proofs.relex.relex_at.Goals as goal
 

@@ -13,8 +13,8 @@ use core::iter::Iterator;
 /// A first token is not empty, ends between two characters, and depends only on itself and the two characters after
 /// it. `step` returns the first token of the text that it is given, and always the same one for the same text. In
 /// Rattle each implementation proves this. In plain Rust a kept text calls `step` alone, and tests where tokens end; if
-/// an implementation breaks another rule, the tokens of an edited text are wrong. [`Relex`](crate::Relex) tests
-/// nothing: there tokens of no length never come to an end. By this one each character is a token:
+/// an implementation breaks another rule, the tokens of an edited text are wrong. [`Relex`](crate::Relex) does not
+/// test the stepper: with tokens of length 0 it never finishes. For this stepper each character is a token:
 ///
 /// ```
 /// use rustc_lexer::{Stepper, Token, TokenKind};

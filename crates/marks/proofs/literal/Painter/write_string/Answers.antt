@@ -1,6 +1,5 @@
-use Rattle.std.proofs.Common.{◌≡◌, ℕ, ◌+◌, ◌≤◌, List, Bool, IsCharBoundary, arith, rules, refl, ap, sym, subst, ◌∙◌}
+use Rattle.std.proofs.Common.{ℕ, ◌+◌, ◌≤◌, List, Bool, IsCharBoundary, arith, rules, refl, ap, sym, subst, ◌∙◌}
 use Rattle.std.proofs.lemmas.Result.{on_ok_weaker}
-use Rattle.rustc_literal_escaper.specs.{Grammar.{Item}, Meaning.{is_raw}}
 use Rattle.marks.specs.LineEnds.{file_items}
 use Rattle.marks.proofs.LiteralLemmas.{paints_end, paints_item, placed_all, placed_first, writes_all, writes_told}
 use Rattle.marks.proofs.literal.Painter.write_string.Goals as goal

@@ -1,6 +1,6 @@
 use Rattle.std.proofs.{Common.{arith, subst, string_bytes, chars, List, ℕ}, lemmas.Grind.{common_steps}}
 use Rattle.std.proofs.lemmas.Str.{IsUtf8-string_bytes}
-use Rattle.rustc_lexer.specs.{Answers.{first_in, tokens_of}, Joined.{AreClosed, AreInseparable, Joined, RunsOn}}
+use Rattle.rustc_lexer.specs.{Answers.{first_in, tokens_of}, Joined.{AreWellFormed, AreInseparable, Joined, RunsOn}}
 use Rattle.rustc_lexer.specs.{LanguageText.{part}, means.Joined.{IsSure}}
 use Rattle.rustc_lexer.proofs.lemmas.joined.{Sure.{grown, joined-only, sure_joined}, Separators.{runs-on}}
 use Rattle.rustc_lexer.proofs.relex.joined.JoinedText.push.Goals as goal
@@ -8,7 +8,7 @@ use Rattle.rustc_lexer.proofs.relex.joined.JoinedText.push.Goals as goal
 pub returns-then-not-append_separated-clause-closed : goal.returns-then-not-append_separated-clause-closed
 returns-then-not-append_separated-clause-closed c =
     let apart : AreInseparable c.self.inside.edition (string_bytes c.self.inside.text) c.args.piece.now = subst (λ (text : List ℕ). AreInseparable c.self.inside.edition text c.args.piece.now) c.reserve.ensures.bytes (c.append_separated.ensures.apart c.if-not-append_separated.true) in
-    λ e. subst (λ (j : Joined). AreClosed (tokens_of (part j.edition) j.text) → RunsOn (tokens_of (part j.edition) j.text) (chars c.args.piece.now)) c.self.view_is
+    λ e. subst (λ (j : Joined). AreWellFormed (tokens_of (part j.edition) j.text) → RunsOn (tokens_of (part j.edition) j.text) (chars c.args.piece.now)) c.self.view_is
     (λ closed. runs-on c.self.inside.edition (string_bytes c.self.inside.text) c.args.piece.now c.self.invariant.0 c.utf8.piece (omega arith) closed apart)
 
 pub sure_later-self-inside-requires : goal.sure_later-self-inside-requires
