@@ -37,7 +37,7 @@ pub use relex::{
     Measured, Piece, Pieces, Relex, Relexed, Relexing, Stopped, TokenStart, is_seam, settled,
     settled_in, token_around,
 };
-pub use shebang::strip_shebang;
+pub use shebang::{mark_len, strip_shebang};
 pub use token::{
     Base, DocStyle, FrontmatterAllowed, GuardedStr, LiteralKind, RawStrError, Token, TokenKind,
 };

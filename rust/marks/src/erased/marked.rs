@@ -6,54 +6,36 @@ use crate::erased::fault::fault_of;
 use crate::erased::format::Format;
 use crate::erased::literal::{mode_of, write_literal};
 use crate::erased::part::{write_in_class, write_with_fault};
-use crate::erased::screen::split_first;
 use core::fmt;
-use rustc_lexer::erased::{Edition, TokenKind, tokenize_document, tokenize_in};
+use rustc_lexer::erased::{Edition, TokenKind, mark_len, tokenize_document, tokenize_in};
 
-/// Writes a whole text with marks. A byte order mark, U+FEFF, at its start is written as it is, though
-/// `tokenize_document` has a token for it. A shebang line behind it, if there is one, is written between the marks of
-/// a comment, and each token after that between its own. The marks are colours by the class of each token, and a
-/// sentence at each token that has a fault.
+/// Writes a document with marks: the class of each token as a colour, and a message at each token that has an error.
 ///
-/// Without the marks the output is the text, but for symbols in place of control characters, like `␛`, that are no
-/// tabs and no line ends, unless the format is `Raw`. In a page the text is the part outside of the tags, with its
-/// entities undone.
+/// A byte order mark, U+FEFF, at the start is written as it is, and a shebang line as a comment. Without the marks, the
+/// output is the text, with symbols such as `␛` in place of control characters other than tabs and line ends, unless the
+/// format is `Raw`. In a page, the text is what is outside of tags, with its entities decoded.
 pub fn write_marked<W: fmt::Write>(
     format: Format,
     edition: Edition,
     text: &str,
     output: &mut W,
 ) -> fmt::Result {
-    let begin = mark_len(text);
-    write_document(format, edition, &text[..begin], &text[begin..], output)
-}
-
-/// Returns the length of a byte order mark at the start of a text, or 0.
-fn mark_len(text: &str) -> usize {
-    match split_first(text) {
-        Some(('\u{feff}', _)) => 3,
-        _ => 0,
-    }
-}
-
-/// Writes a byte order mark, which may be empty, and a document behind it with marks.
-fn write_document<W: fmt::Write>(
-    format: Format,
-    edition: Edition,
-    mark: &str,
-    text: &str,
-    output: &mut W,
-) -> fmt::Result {
     let tokens = tokenize_document(text, edition);
-    write_in_class(format, Class::Plain, mark, output)?;
     let mut start = text.len() - tokens.as_str().len();
-    write_in_class(format, Class::Comment, &text[..start], output)?;
+    write_start(format, &text[..start], output)?;
     for token in tokens {
         let end = start + token.len as usize;
         write_token(format, edition, token.kind, &text[start..end], output)?;
         start = end;
     }
     Ok(())
+}
+
+/// Writes the text before the first token: a byte order mark, and a shebang line as a comment.
+fn write_start<W: fmt::Write>(format: Format, start: &str, output: &mut W) -> fmt::Result {
+    let mark = mark_len(start);
+    write_in_class(format, Class::Plain, &start[..mark], output)?;
+    write_in_class(format, Class::Comment, &start[mark..], output)
 }
 
 /// Writes the first `count` tokens of a text in an edition, each between its marks, or all tokens if it has fewer.

@@ -33,7 +33,7 @@ fn line_end(text: &str) -> usize {
 }
 
 /// Returns the length of the byte order mark at the start of a text in bytes, or 0 if there is none.
-fn mark_len(text: &str) -> usize {
+pub fn mark_len(text: &str) -> usize {
     match split_first(text) {
         Some(('\u{feff}', _)) => 3,
         _ => 0,
