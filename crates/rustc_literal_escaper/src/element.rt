@@ -6,23 +6,24 @@ use crate::error::EscapeError;
 use crate::mode::Mode;
 use crate::unit::{MixedUnit, NonZeroChar};
 
-/// An element of a literal, as it is written. The kind of the literal says later what the element stands for.
+/// An element of a literal, as it is written.
 ///
-/// Strings, byte strings and C strings are written in the same way. They differ in what each element stands for.
+/// Strings, byte strings and C strings have the same elements, but the value of an element depends on the kind of the
+/// literal.
 #[derive(Clone, Copy, Debug, PartialEq, Eq)]
 pub enum Element {
     /// A character that is not escaped.
     Plain(char),
-    /// A byte that is written as a short escape, like `\n`, or with two digits, like `\x41`.
+    /// A byte, written as a short escape like `\n`, or with two digits like `\x41`.
     Byte(u8),
-    /// A number of at most six digits, like `\u{1F600}`. It need not be the number of a character.
+    /// A number of at most six digits, like `\u{1F600}`. It is not always the number of a character.
     Unicode(u32),
-    /// Something that is not an element in any kind of literal, or a warning.
+    /// An error in every kind of literal, or a warning.
     Fault(EscapeError),
 }
 
 impl Element {
-    /// Returns the character that the element stands for in a character literal or a string.
+    /// Returns the value of the element in a character literal, a string or a raw string.
     #[inline]
     pub fn to_char(self) -> Result<char, EscapeError>
         ensures { result ≡ char_of self }
@@ -36,7 +37,7 @@ impl Element {
         }
     }
 
-    /// Returns the byte that the element stands for in a byte literal or a byte string.
+    /// Returns the value of the element in a byte literal, a byte string or a raw byte string.
     #[inline]
     pub fn to_byte(self) -> Result<u8, EscapeError>
         ensures { result ≡ byte_of self }
@@ -50,7 +51,7 @@ impl Element {
         }
     }
 
-    /// Returns the character or byte that the element stands for in a C string.
+    /// Returns the value of the element in a C string: a character or a byte.
     #[inline]
     pub fn to_mixed_unit(self) -> Result<MixedUnit, EscapeError>
         ensures { result ≡ unit_of self }
@@ -63,7 +64,7 @@ impl Element {
         }
     }
 
-    /// Returns the character that the element stands for in a raw C string.
+    /// Returns the value of the element in a raw C string.
     #[inline]
     pub fn to_raw_unit(self) -> Result<NonZeroChar, EscapeError>
         ensures { result ≡ raw_unit_of self }
@@ -71,7 +72,7 @@ impl Element {
         NonZeroChar::new(self.to_char()?).ok_or(EscapeError::NulInCStr)
     }
 
-    /// Returns what is wrong with the element in a literal of this kind, or `None` if nothing is.
+    /// Returns the error or warning of the element in a literal of this kind, or `None` if it has none.
     #[inline(always)]
     pub fn error_in(self, mode: Mode) -> Option<EscapeError>
         ensures { result ≡ error_of mode self }

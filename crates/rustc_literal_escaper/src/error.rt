@@ -6,7 +6,7 @@ ghost use Rattle.rustc_literal_escaper.specs.Numbers.{error_sentence};
 use std::error::Error;
 use std::fmt;
 
-/// An error in a literal, or a warning about it. Its `Display` writes a sentence about it.
+/// An error or warning in a literal. Its `Display` writes a message.
 ///
 /// ```
 /// use rustc_literal_escaper::EscapeError;
@@ -17,14 +17,14 @@ use std::fmt;
 /// ```
 #[derive(Clone, Copy, Debug, PartialEq, Eq)]
 pub enum EscapeError {
-    /// A character or byte literal with nothing in it: `''`.
+    /// An empty character or byte literal: `''`.
     ZeroChars,
     /// A character or byte literal with more than one unit in it: `'ab'`.
     MoreThanOneChar,
 
-    /// A backslash that nothing follows.
+    /// A backslash at the end of the literal.
     LoneSlash,
-    /// A backslash before a character that begins no escape: `\q`.
+    /// A backslash before a character that is not an escape: `\q`.
     InvalidEscape,
     /// A carriage return that is not escaped as `\r`.
     BareCarriageReturn,
@@ -48,13 +48,13 @@ pub enum EscapeError {
     EmptyUnicodeEscape,
     /// The literal ends before the closing brace: `\u{12`.
     UnclosedUnicodeEscape,
-    /// An underscore in front of the digits: `\u{_12}`.
+    /// An underscore before the digits: `\u{_12}`.
     LeadingUnderscoreUnicodeEscape,
     /// More than six digits: `\u{10FFFF_FF}`.
     OverlongUnicodeEscape,
     /// The number of a surrogate, which is not a character: `\u{DFFF}`.
     LoneSurrogateUnicodeEscape,
-    /// A number past the last character: `\u{FFFFFF}`.
+    /// A number greater than that of any character: `\u{FFFFFF}`.
     OutOfRangeUnicodeEscape,
 
     /// `\u` in a byte or a byte string.
@@ -65,7 +65,7 @@ pub enum EscapeError {
     /// U+0000 in a C string, which it would end.
     NulInCStr,
 
-    /// A warning: white space that is not skipped follows a line end that is.
+    /// A warning: whitespace that is not skipped follows a skipped line end.
     UnskippedWhitespaceWarning,
 
     /// A warning: a backslash at the end of a line skips more than that one line end.
@@ -84,7 +84,7 @@ impl EscapeError {
     }
 }
 
-/// What is said of each error, in the order of `EscapeError`.
+/// The message of each error, in the order of `EscapeError`.
 const ERRORS: [&str; 23] = [
     "nothing is between these quotes: one character goes there",
     "more than one character is between these quotes",

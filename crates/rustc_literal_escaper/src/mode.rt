@@ -1,8 +1,8 @@
-//! The kinds of literal that have escapes or could have them.
+//! The kinds of character, byte and string literals.
 ghost use Rattle.std.specs.Prelude.{◌≡◌, not};
 ghost use Rattle.rustc_literal_escaper.specs.Meaning.{is_single, prefix_of};
 
-/// The kind of a literal, by its quotes and its prefix. It says how the text between the quotes is read.
+/// The kind of a literal. It decides how the text between the quotes is read.
 ///
 /// ```
 /// use rustc_literal_escaper::Mode;
@@ -33,14 +33,14 @@ pub enum Mode {
 }
 
 impl Mode {
-    /// Returns whether such a literal has double quotes. All have except a character and a byte.
+    /// Returns whether a literal of this kind has double quotes: all have except characters and bytes.
     pub fn in_double_quotes(self) -> bool
         ensures { result ≡ not (is_single self) }
     {
         !matches!(self, Mode::Char | Mode::Byte)
     }
 
-    /// Returns the prefix of such a literal, without the `r` of a raw one: `""`, `"b"` or `"c"`.
+    /// Returns the prefix of a literal of this kind, without the `r` of a raw one: `""`, `"b"` or `"c"`.
     pub fn prefix_noraw(self) -> &'static str
         ensures { result.now ≡ prefix_of self }
     {

@@ -45,7 +45,7 @@ impl NonZeroChar {
         self.value
     }
 
-    /// Returns a character that is known not to be U+0000.
+    /// Returns `value` as a `NonZeroChar`, without a test.
     #[inline(always)]
     pub(crate) fn of_nonzero(value: char) -> NonZeroChar
         requires nonzero { 0 < value }
@@ -96,14 +96,14 @@ impl NonZeroU8 {
     }
 }
 
-/// A unit of a C string, which may hold characters and also bytes that belong to no character.
+/// A unit of a C string: a character, or a byte that belongs to no character.
 #[derive(Clone, Copy, Debug, PartialEq, Eq)]
 pub enum MixedUnit {
     /// A character that is written as it is, as `\u{..}`, or as an escape for a byte below 128.
     ///
-    /// It stands for its bytes in UTF-8, like the two of `¥`.
+    /// Its bytes are its UTF-8, like the two of `¥`.
     Char(NonZeroChar),
-    /// A byte from 128 on, which is written as `\x80` to `\xff`. It stands for itself.
+    /// A byte of 128 or more, written as `\x80` to `\xff`.
     HighByte(NonZeroU8),
 }
 

@@ -1,4 +1,4 @@
-//! Writes texts and bytes in the form that they have between double quotes.
+//! Writes texts and bytes as the contents of string literals.
 ghost use Rattle.std.specs.Prelude.{◌≡◌, ◌↔◌, ◌++◌, Contains, IsErrOf, OnErr, OnOk, map};
 ghost use Rattle.std.specs.Char.Escape.{escape_ascii, escape_default};
 ghost use Rattle.std.specs.Str.{chars};
@@ -9,10 +9,10 @@ ghost use Rattle.rustc_literal_escaper.specs.Written.{Grows, StandsFor, written_
 use crate::scan::split_first;
 use std::alloc::AllocError;
 
-/// The reason why a C string was not written.
+/// The error of [`escape_c_str`].
 #[derive(Clone, Copy, Debug, PartialEq, Eq)]
 pub enum EscapeCStrError {
-    /// A byte is 0. No C string has such a byte, and no escape writes it.
+    /// A byte is 0, which no C string contains.
     Nul,
     /// An allocation failed.
     Memory,
@@ -28,10 +28,14 @@ impl From<AllocError> for EscapeCStrError {
     }
 }
 
-/// Appends `text` to `out`, in the form that it has between the double quotes of a string.
+/// Appends `text` to `out` as the contents of a string literal.
 ///
-/// It writes each character like `char::escape_default`, so only ASCII. [`unescape_str`] reads the characters of
-/// `text` back from it. `Err` means that an allocation failed, and then `out` is as it was.
+/// Each character is written like `char::escape_default` writes it, so the output is ASCII. [`unescape_str`] reads
+/// the characters of `text` back from it.
+///
+/// # Errors
+///
+/// Returns `AllocError` if an allocation fails. Then `out` does not change.
 ///
 /// ```ignore
 /// escape_str("a\"é\n", &mut out)? // appends a\"\u{e9}\n, of eleven bytes
@@ -53,10 +57,14 @@ pub fn escape_str(text: &str, out: &mut String) -> Result<(), AllocError>
     pushed
 }
 
-/// Appends `bytes` to `out`, in the form that they have between the double quotes of a byte string.
+/// Appends `bytes` to `out` as the contents of a byte string literal.
 ///
-/// It writes each byte like `u8::escape_ascii`, so only ASCII. [`unescape_byte_str`] reads the bytes back from it.
-/// `Err` means that an allocation failed, and then `out` is as it was.
+/// Each byte is written like `u8::escape_ascii` writes it, so the output is ASCII. [`unescape_byte_str`] reads the
+/// bytes back from it.
+///
+/// # Errors
+///
+/// Returns `AllocError` if an allocation fails. Then `out` does not change.
 ///
 /// [`unescape_byte_str`]: crate::unescape_byte_str
 #[tactic(auto, using(crate::proofs::WrittenLemmas::boundary, crate::proofs::WrittenLemmas::written_lemmas))]
@@ -74,11 +82,14 @@ pub fn escape_byte_str(bytes: &[u8], out: &mut String) -> Result<(), AllocError>
     pushed
 }
 
-/// Appends the bytes of a C string to `out`, in the form that they have between its double quotes.
+/// Appends `bytes` to `out` as the contents of a C string literal.
 ///
-/// `bytes` does not include the NUL at the end. It writes them like [`escape_byte_str`]. [`unescape_c_str`] reads
-/// them back from it: a byte below 128 as a character, any other as `HighByte`. A byte that is 0 is refused first.
-/// After any `Err`, `out` is as it was.
+/// `bytes` does not include the NUL at the end. They are written like [`escape_byte_str`] writes them.
+/// [`unescape_c_str`] reads them back: a byte below 128 as a character, any other as `HighByte`.
+///
+/// # Errors
+///
+/// Returns `Nul` if a byte is 0, and `Memory` if an allocation fails. Then `out` does not change.
 ///
 /// [`unescape_c_str`]: crate::unescape_c_str
 #[tactic(auto, using(crate::proofs::WrittenLemmas::written_lemmas))]

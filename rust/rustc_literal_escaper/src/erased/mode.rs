@@ -1,7 +1,7 @@
 // Made by tools/erase from crates/rustc_literal_escaper/src/mode.rt: edit that file.
-//! The kinds of literal that have escapes or could have them.
+//! The kinds of character, byte and string literals.
 
-/// The kind of a literal, by its quotes and its prefix. It says how the text between the quotes is read.
+/// The kind of a literal. It decides how the text between the quotes is read.
 ///
 /// ```
 /// use rustc_literal_escaper::Mode;
@@ -32,13 +32,13 @@ pub enum Mode {
 }
 
 impl Mode {
-    /// Returns whether such a literal has double quotes. All have except a character and a byte.
+    /// Returns whether a literal of this kind has double quotes: all have except characters and bytes.
     #[must_use]
     pub fn in_double_quotes(self) -> bool {
         !matches!(self, Mode::Char | Mode::Byte)
     }
 
-    /// Returns the prefix of such a literal, without the `r` of a raw one: `""`, `"b"` or `"c"`.
+    /// Returns the prefix of a literal of this kind, without the `r` of a raw one: `""`, `"b"` or `"c"`.
     #[must_use]
     pub fn prefix_noraw(self) -> &'static str {
         match self {
