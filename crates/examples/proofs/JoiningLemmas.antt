@@ -22,6 +22,7 @@ module _ (edition : Edition) where
   one_more text piece are (step.spaced apart kept) = put text piece are the.space kept
   one_more text piece are (step.on_a_line apart close kept) = put text piece are the.newline kept
 
-  pub tokens_of_joined : {pieces : List Utf8} {text : Utf8} → AreJoined edition pieces text → AreTokensOf edition pieces (Tokens text)
+  pub tokens_of_joined : {pieces : List Utf8} {text : Utf8} → AreJoined edition pieces text
+      → AreTokensOf edition pieces (Tokens text)
   tokens_of_joined the.none = subst (AreTokensOf edition []) (sym (tokens-nil (first_in edition))) the.none
   tokens_of_joined (the.more {text = text} {piece = piece} are is) = one_more text piece (tokens_of_joined are) is

@@ -1,18 +1,24 @@
 -- The words of a job.
-use Rattle.std.proofs.Common.{◌≡◌, ◌↔◌, true≢false, ℕ, ◌<◌, ◌≤◌, ◌≢◌, Bool, true, false, List, [], ◌∷◌, ◌++◌, length, get_or, append_assoc, rules, refl, sym, ap, ◌∙◌, arith, Option, Some, None, Result}
+use Rattle.std.proofs.Common.{
+    ◌≡◌, ◌↔◌, true≢false, ℕ, ◌<◌, ◌≤◌, ◌≢◌, Bool, true, false, List, [], ◌∷◌, ◌++◌, length, get_or, append_assoc, rules,
+    refl, sym, ap, ◌∙◌, arith, Option, Some, None, Result
+}
 use Rattle.std.proofs.lemmas.Grind.{common_steps}
 use Rattle.std.specs.{Bool.{IsTrue}, Prelude.{is_some, IsSome}, Option.{option_map, option_zip}, Result.{result_ok}}
 use Rattle.std.specs.Str.{all_ascii_digits, Parse.{ParsesUnsigned}}
 use Rattle.std.proofs.lemmas.{List.{length-map}, Bool.Decides.{nat_tests}}
 use Rattle.std.proofs.lemmas.Str.Parse.{IsNumeralModel, numerals_by_fold, tells_all_ascii_digits, parse_plain}
 use Rattle.rustc_lexer.specs.declared.edition.Edition.{Edition}
-use Rattle.lexdump_run.specs.Job.{edit, edit_job, AsksEdits, Replacement, number_after, number_of, place_of, replacements_of, first_replacement}
+use Rattle.lexdump_run.specs.Job.{
+    edit, edit_job, AsksEdits, Replacement, number_after, number_of, place_of, replacements_of, first_replacement
+}
 
 numbers : IsNumeralModel (λ ds. all_ascii_digits ds ≡ true) number_of
 numbers = numerals_by_fold _ tells_all_ascii_digits number_after (search rules)
 
 -- `parse` reads the places that have no sign and at most ten digits
-pub place-parse : {E : Type 0} (word : List ℕ) (r : Result ℕ E) → length word ≤ 10 → get_or word 0 0 ≢ 43 → ParsesUnsigned 32 10 word r → place_of word ≡ result_ok r
+pub place-parse : {E : Type 0} (word : List ℕ) (r : Result ℕ E) → length word ≤ 10 → get_or word 0 0 ≢ 43
+    → ParsesUnsigned 32 10 word r → place_of word ≡ result_ok r
 unfolding place_of
 place-parse {E} word r short unsigned parses = grind (arith, common_steps, parse_plain, numbers, nat_tests)
 
@@ -25,31 +31,41 @@ Pair = Replacement × List (List ℕ)
 
 -- what follows from the edit of the first three words
 by_first : (e : Replacement) (words after : List (List ℕ)) (o : Option Replacement) (r : Option (List Replacement))
-    → (let p : Option Pair = Some (e, after) in p ≡ option_map (λ (edit : Replacement). let q : Pair = (edit, words) in q) o)
-    → (after ≡ words) × (option_map (λ (edits : Replacement × List Replacement). edits.0 ∷ edits.1) (option_zip o r) ≡ option_map (λ edits. e ∷ edits) r)
+    → (let p : Option Pair = Some (e, after) in
+        p ≡ option_map (λ (edit : Replacement). let q : Pair = (edit, words) in q) o)
+    → (after ≡ words)
+        × (option_map (λ (edits : Replacement × List Replacement). edits.0 ∷ edits.1) (option_zip o r) ≡
+        option_map (λ edits. e ∷ edits) r)
 by_first e words after o r h = grind (arith, common_steps)
 
 -- where three words write an edit, it is the first of the edits
-pub replacements-first : (e : Replacement) (words after : List (List ℕ)) → FirstIs words e after → replacements_of words ≡ option_map (λ edits. e ∷ edits) (replacements_of after)
+pub replacements-first : (e : Replacement) (words after : List (List ℕ)) → FirstIs words e after
+    → replacements_of words ≡ option_map (λ edits. e ∷ edits) (replacements_of after)
 replacements-first e words after h = grind (arith, common_steps, by_first)
 
 pub length-after : (e : Replacement) (words after : List (List ℕ)) → FirstIs words e after → length after < length words
 length-after e words after h = grind (arith, common_steps, by_first)
 
 -- the words are edits if those after the first edit are
-pub some-after : (e : Replacement) (words after : List (List ℕ)) → FirstIs words e after → is_some (replacements_of words) ≡ is_some (replacements_of after)
+pub some-after : (e : Replacement) (words after : List (List ℕ)) → FirstIs words e after
+    → is_some (replacements_of words) ≡ is_some (replacements_of after)
 some-after e words after h = grind (arith, common_steps, replacements-first)
 
 -- the edits of all words are those that were read, and then those of the rest
 abbrev pub ReadBefore : List (List ℕ) → List Replacement → List (List ℕ) → Type 0
 ReadBefore words edits rest = replacements_of words ≡ option_map (λ more. edits ++ more) (replacements_of rest)
 
-pub read_more : (words rest after : List (List ℕ)) (edits : List Replacement) (e : Replacement) → ReadBefore words edits rest → FirstIs rest e after → ReadBefore words (edits ++ e ∷ []) after
-read_more words rest after edits e read first = read ∙ (ap (option_map (λ more. edits ++ more)) (replacements-first e rest after first) ∙ by_edits (replacements_of after))
+pub read_more : (words rest after : List (List ℕ)) (edits : List Replacement) (e : Replacement)
+    → ReadBefore words edits rest → FirstIs rest e after → ReadBefore words (edits ++ e ∷ []) after
+read_more words rest after edits e read first =
+    read ∙ (ap (option_map (λ more. edits ++ more)) (replacements-first e rest after first)
+    ∙ by_edits (replacements_of after))
   where
-    by_edits : (r : Option (List Replacement)) → option_map (λ more. edits ++ more) (option_map (λ more. e ∷ more) r) ≡ option_map (λ more. (edits ++ e ∷ []) ++ more) r
+    by_edits : (r : Option (List Replacement)) → option_map (λ more. edits ++ more) (option_map (λ more. e ∷ more) r) ≡
+        option_map (λ more. (edits ++ e ∷ []) ++ more) r
     by_edits None = refl
-    by_edits (Some es) = ap (λ (xs : List Replacement). let r : Option (List Replacement) = Some xs in r) (sym (append_assoc edits (e ∷ []) es))
+    by_edits (Some es) = ap (λ (xs : List Replacement). let r : Option (List Replacement) = Some xs in
+        r) (sym (append_assoc edits (e ∷ []) es))
 
 -- words that are no edits ask for no job after `edit`
 pub no_edits : (edition : Edition) (words : List (List ℕ)) (n : ℕ) (are : Bool) → length words ≡ n
@@ -57,9 +73,11 @@ pub no_edits : (edition : Edition) (words : List (List ℕ)) (n : ℕ) (are : Bo
 no_edits edition [] n are e is shut = refl
 no_edits edition (start ∷ words) n are e is shut = by_edits (replacements_of (start ∷ words)) refl
   where
-    by_edits : (r : Option (List Replacement)) → replacements_of (start ∷ words) ≡ r → option_map (edit edition) r ≡ None
+    by_edits : (r : Option (List Replacement)) → replacements_of (start ∷ words) ≡ r → option_map (edit edition) r ≡
+        None
     by_edits None f = refl
-    by_edits (Some es) f = let is_so : are ≡ true = is.1 (omega (arith, e), ap is_some f) in absurd (true≢false (sym is_so ∙ shut))
+    by_edits (Some es) f = let is_so : are ≡ true = is.1 (omega (arith, e), ap is_some f) in
+        absurd (true≢false (sym is_so ∙ shut))
 
 -- and words that are edits ask for them
 pub asks_edits : (edition : Edition) (words : List (List ℕ)) (n : ℕ) (are : Bool) → length words ≡ n

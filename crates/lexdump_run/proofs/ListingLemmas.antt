@@ -1,26 +1,37 @@
 -- The loops that list tokens.
-use Rattle.std.proofs.Common.{◌≡◌, ℕ, zero, suc, ◌+◌, ◌-◌, ◌<◌, ◌≤◌, ◌^◌, List, [], ◌∷◌, ◌++◌, length, take, drop, refl, ap, ◌∙◌, arith, append_assoc, length-drop, length-take-le, subst}
+use Rattle.std.proofs.Common.{
+    ◌≡◌, ℕ, zero, suc, ◌+◌, ◌-◌, ◌<◌, ◌≤◌, ◌^◌, List, [], ◌∷◌, ◌++◌, length, take, drop, refl, ap, ◌∙◌, arith,
+    append_assoc, length-drop, length-take-le, subst
+}
 use Rattle.std.proofs.{Math.Nat.{min-le_right}, lemmas.{Grind.{common_steps}, List.{nil_from_length}}}
 use Rattle.std.specs.Str.{IsUtf8}
 use Rattle.rustc_lexer.specs.{declared.token.Token.{Token}, Kept.{Placed, pieces_from}, LanguageText.{Mode}}
 use Rattle.rustc_lexer.specs.{State.{State}, Tokens.{bound, tokens_left, tokens_of}, means.Tokens.{IsFilled}}
 use Rattle.rustc_lexer.specs.laws.Tokens.{partitions, tokens-nil}
-use Rattle.rustc_lexer.proofs.lemmas.edits.{Bounds.{bound_mono}, FrontAndBack.{bound-take}, ManyTokens.{IsFront, front_of}}
+use Rattle.rustc_lexer.proofs.lemmas.edits.{
+    Bounds.{bound_mono}, FrontAndBack.{bound-take}, ManyTokens.{IsFront, front_of}
+}
 use Rattle.lexdump_run.specs.Listing.{line_text, listing_from}
 
 -- the lines of some tokens, and then those of the others
-pub listing-split : (start : ℕ) (tokens : List Token) (count : ℕ) → listing_from start tokens ≡ listing_from start (take count tokens) ++ listing_from (start + bound tokens count) (drop count tokens)
+pub listing-split : (start : ℕ) (tokens : List Token) (count : ℕ)
+    → listing_from start tokens ≡ listing_from start (take count tokens) ++ listing_from (start + bound tokens count)
+    (drop count tokens)
 listing-split start tokens zero = let e : start ≡ start + 0 = omega arith in ap (λ n. listing_from n tokens) e
 listing-split start [] (suc count) = refl
-listing-split start (t ∷ ts) (suc count) = grind (arith, common_steps, append_assoc, listing-split (start + t.len) ts count)
+listing-split start (t ∷ ts) (suc count) =
+    grind (arith, common_steps, append_assoc, listing-split (start + t.len) ts count)
 
 -- a buffer is filled with the first `count` of the tokens of the rest of a text
-module _ (text cut rest : List ℕ) (mode : Mode) (buffer filled : List Token) (count : ℕ) (cut_is : cut ≡ rest) (utf8 : IsUtf8 cut) (within : length rest ≤ length text) (fits : length text < 2 ^ 32) (fills : IsFilled (λ (t : Token). t) (tokens_of mode rest) buffer filled count) where
+module _ (text cut rest : List ℕ) (mode : Mode) (buffer filled : List Token) (count : ℕ) (cut_is : cut ≡ rest)
+    (utf8 : IsUtf8 cut) (within : length rest ≤ length text) (fits : length text < 2 ^ 32)
+    (fills : IsFilled (λ (t : Token). t) (tokens_of mode rest) buffer filled count) where
   abbrev left : List Token
   left = tokens_of mode rest
 
   front : IsFront left filled count
-  front = front_of left buffer filled count (omega (arith, fills.as_many, min-le_right (length buffer) (length left))) fills.tokens
+  front = front_of left buffer filled count (omega (arith, fills.as_many, min-le_right (length buffer) (length left)))
+      fills.tokens
 
   inside : bound left count ≤ length rest
   inside =
@@ -31,11 +42,14 @@ module _ (text cut rest : List ℕ) (mode : Mode) (buffer filled : List Token) (
   buffer_fits = grind (arith, common_steps, length-take-le, bound-take, inside)
 
   -- the lines of the buffer, and then those of what is left past it
-  pub buffer-split : (later : List Token) (after : List ℕ) → later ≡ drop count left → after ≡ drop (bound left count) rest
-      → listing_from (length text - length rest) left ≡ listing_from (length text - length cut) (take count filled) ++ listing_from (length text - length after) later
+  pub buffer-split : (later : List Token) (after : List ℕ) → later ≡ drop count left
+      → after ≡ drop (bound left count) rest
+      → listing_from (length text - length rest) left ≡ listing_from (length text - length cut) (take count filled)
+          ++ listing_from (length text - length after) later
   buffer-split later after e f =
       let start : length text - length rest ≡ length text - length cut = omega (arith, ap length cut_is) in
-      let next : length text - length cut + bound left count ≡ length text - length after = omega (arith, ap length cut_is, ap length f, length-drop (bound left count) rest, inside, within) in
+      let next : length text - length cut + bound left count ≡ length text - length after =
+          omega (arith, ap length cut_is, ap length f, length-drop (bound left count) rest, inside, within) in
       cc (listing-split (length text - length cut) left count, front.front)
 
 -- where no text is left, no token is
@@ -47,7 +61,8 @@ abbrev pub lines : List Placed → List ℕ
 lines [] = []
 lines (p ∷ ps) = line_text p.start p.token ++ lines ps
 
-pub lines-from : (text : List ℕ) (start : ℕ) (tokens : List Token) → lines (pieces_from text start tokens) ≡ listing_from start tokens
+pub lines-from : (text : List ℕ) (start : ℕ) (tokens : List Token) → lines (pieces_from text start tokens) ≡
+    listing_from start tokens
 lines-from text start [] = refl
 lines-from text start (t ∷ ts) = ap (λ xs. line_text start t ++ xs) (lines-from text (start + t.len) ts)
 

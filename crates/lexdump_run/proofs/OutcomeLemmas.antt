@@ -1,5 +1,7 @@
 -- How a run ends, by what was read and what was listed.
-use Rattle.std.proofs.Common.{◌≡◌, ℕ, ◌<◌, ◌^◌, List, [], ◌++◌, length, sym, arith, subst, ap, ◌∙◌, append-nil, Option, Result, Ok, Err}
+use Rattle.std.proofs.Common.{
+    ◌≡◌, ℕ, ◌<◌, ◌^◌, List, [], ◌++◌, length, sym, arith, subst, ap, ◌∙◌, append-nil, Option, Result, Ok, Err
+}
 use Rattle.std.proofs.lemmas.Grind.{common_steps}
 use Rattle.std.specs.{Prelude.{IfSome, OnErr, OnOk}, Str.{IsUtf8}, Io.KnownBytes.{Appends}}
 use Rattle.ends.specs.{Known.{AppendsFront}, Run.{IsInputFault}}
@@ -11,11 +13,13 @@ use Rattle.lexdump_run.specs.Pushed.{held, Lists, Pushes}
 use Rattle.lexdump_run.proofs.PushLemmas.{pushes_both}
 
 -- no text was read
-pub ends_unread : (job : Job) (known old : Option (List ℕ)) (fault : Fault) → IsInputFault known fault → IfSome known (λ bytes. Ends job bytes old old (Err fault))
+pub ends_unread : (job : Job) (known old : Option (List ℕ)) (fault : Fault) → IsInputFault known fault
+    → IfSome known (λ bytes. Ends job bytes old old (Err fault))
 ends_unread job known old fault is = grind (arith, common_steps, keeps_same)
 
 -- what holds of a text holds of the bytes that it is
-text_known : (P : List ℕ → Type 0) (known : Option (List ℕ)) (text : List ℕ) → IfSome known (λ bytes. text ≡ bytes) → P text → IfSome known P
+text_known : (P : List ℕ → Type 0) (known : Option (List ℕ)) (text : List ℕ) → IfSome known (λ bytes. text ≡ bytes)
+    → P text → IfSome known P
 text_known P known text w3 w4 = grind (arith, common_steps)
 
 -- the bytes that the output took
@@ -23,21 +27,31 @@ abbrev pub written : {W : Type 0} → (W → Option (List ℕ)) → BlockWriter 
 written contents writer = contents writer.output.now.inner
 
 -- bytes that were pushed to an empty block, which is then written out
-module _ {W : Type 0} (contents : W → Option (List ℕ)) (start end : BlockWriter W) (none : held start ≡ []) (made : List ℕ) where
+module _ {W : Type 0} (contents : W → Option (List ℕ)) (start end : BlockWriter W) (none : held start ≡ [])
+    (made : List ℕ) where
   pushed_out : (result : Result (Unit {0}) Fault) → Pushes contents start end made result → OnOk result (held end ≡ [])
-      → OnOk result (Appends (written contents start) (written contents end) made) × OnErr result (AppendsFront (written contents start) (written contents end) made)
-  pushed_out (Ok done) p empty = (subst (λ (xs : List ℕ). Appends (written contents start) (written contents end) xs) (sym (ap (λ xs. xs ++ made) (sym none) ∙ p.ok.whole ∙ ap (λ xs. p.ok.front ++ xs) empty ∙ append-nil p.ok.front)) p.ok.grew, tt)
-  pushed_out (Err fault) p empty = (tt, subst (λ (xs : List ℕ). AppendsFront (written contents start) (written contents end) (xs ++ made)) none p.err)
+      → OnOk result (Appends (written contents start) (written contents end) made)
+          × OnErr result (AppendsFront (written contents start) (written contents end) made)
+  pushed_out (Ok done) p empty =
+      (subst (λ (xs : List ℕ). Appends (written contents start) (written contents end) xs)
+      (sym (ap (λ xs. xs ++ made) (sym none) ∙ p.ok.whole ∙ ap (λ xs. p.ok.front ++ xs) empty ∙ append-nil p.ok.front))
+      p.ok.grew, tt)
+  pushed_out (Err fault) p empty =
+      (tt, subst (λ (xs : List ℕ). AppendsFront (written contents start) (written contents end) (xs ++ made)) none
+      p.err)
 
   -- all went out, or where a write failed a beginning
   pub finished : (mid : BlockWriter W) (old new : Option (List ℕ)) (result : Result (Unit {0}) Fault)
       → written contents start ≡ old → written contents end ≡ new → Pushes contents start mid made (Ok tt)
       → Pushes contents mid end [] result → OnOk result (held end ≡ [])
       → OnOk result (Appends old new made) × OnErr result (AppendsFront old new made)
-  finished mid old new result e f p q empty = rw (← e, ← f) (pushed_out result (pushes_both contents start mid end made [] made result (sym (append-nil made)) p q) empty)
+  finished mid old new result e f p q empty =
+      rw (← e, ← f) (pushed_out result
+      (pushes_both contents start mid end made [] made result (sym (append-nil made)) p q) empty)
 
 -- all was listed, and what is held is written at the end
-pub ends_listed : {W : Type 0} (contents : W → Option (List ℕ)) (job : Job) (known : Option (List ℕ)) (text : List ℕ) (start mid end : BlockWriter W) (old new : Option (List ℕ)) (result : Result (Unit {0}) Fault)
+pub ends_listed : {W : Type 0} (contents : W → Option (List ℕ)) (job : Job) (known : Option (List ℕ)) (text : List ℕ)
+    (start mid end : BlockWriter W) (old new : Option (List ℕ)) (result : Result (Unit {0}) Fault)
     → IfSome known (λ bytes. text ≡ bytes) → IsUtf8 text → length text < 2 ^ 32 → held start ≡ []
     → written contents start ≡ old → written contents end ≡ new → Lists contents job text start mid (Ok tt)
     → Pushes contents mid end [] result → OnOk result (held end ≡ [])

@@ -1,5 +1,7 @@
 -- Bytes that are pushed, one after another.
-use Rattle.std.proofs.Common.{◌≡◌, ℕ, List, [], ◌++◌, refl, sym, ap, ◌∙◌, append_assoc, append-nil, subst, Option, Result, Ok, Err, arith}
+use Rattle.std.proofs.Common.{
+    ◌≡◌, ℕ, List, [], ◌++◌, refl, sym, ap, ◌∙◌, append_assoc, append-nil, subst, Option, Result, Ok, Err, arith
+}
 use Rattle.std.proofs.lemmas.Grind.{common_steps}
 use Rattle.std.specs.{Prelude.{OnOk}, Result.{IsErrAnd}, Io.KnownBytes.{Appends}}
 use Rattle.ends.proofs.KnownLemmas.{appends-none, appends-more, front_first, front_more}
@@ -7,18 +9,22 @@ use Rattle.ends.specs.{Known.{Went}, declared.fault.Fault.{Fault}}
 use Rattle.lexdump_run.specs.{declared.output.BlockWriter.{BlockWriter}, Pushed.{held, Pushes}}
 
 -- bytes are written past a block that holds none
-pub went_past : (old new : Option (List ℕ)) (none bytes : List ℕ) (result : Result (Unit {0}) Fault) → none ≡ [] → OnOk result (Appends old new bytes) → OnOk result (Went old new (none ++ bytes) none)
-went_past old new none bytes (Ok done) e a = record { front = bytes; whole = grind (arith, common_steps, append-nil); grew = a }
+pub went_past : (old new : Option (List ℕ)) (none bytes : List ℕ) (result : Result (Unit {0}) Fault) → none ≡ []
+    → OnOk result (Appends old new bytes) → OnOk result (Went old new (none ++ bytes) none)
+went_past old new none bytes (Ok done) e a =
+    record { front = bytes; whole = grind (arith, common_steps, append-nil); grew = a }
 went_past old new none bytes (Err fault) e a = tt
 
 -- some of the bytes were pushed since `start`, and the rest is to come
-pub record Pushing {W : Type 0} (contents : W → Option (List ℕ)) (start now : BlockWriter W) (all rest : List ℕ) : Type 0 where
+pub record Pushing {W : Type 0} (contents : W → Option (List ℕ)) (start now : BlockWriter W)
+    (all rest : List ℕ) : Type 0 where
   pub done : List ℕ
   pub whole : all ≡ done ++ rest
   pub pushed : Pushes contents start now done (Ok tt)
 
 module _ {W : Type 0} (contents : W → Option (List ℕ)) where
-  went_both : (old mid new : Option (List ℕ)) (xs middle last ys : List ℕ) → Went old mid xs middle → Went mid new (middle ++ ys) last → Went old new (xs ++ ys) last
+  went_both : (old mid new : Option (List ℕ)) (xs middle last ys : List ℕ) → Went old mid xs middle
+      → Went mid new (middle ++ ys) last → Went old new (xs ++ ys) last
   went_both old mid new xs middle last ys p q = record {
     front = p.front ++ q.front;
     whole = grind (arith, common_steps, append_assoc, p.whole, q.whole);
@@ -33,7 +39,8 @@ module _ {W : Type 0} (contents : W → Option (List ℕ)) where
     same_output = q.same_output ∙ p.same_output;
     failed = grind (arith, common_steps, p.failed, q.failed);
     only = tt;
-    ok = subst (λ (xs : List ℕ). Went (contents old.output.now.inner) (contents new.output.now.inner) xs (held new)) (append_assoc (held old) one two ∙ ap (λ xs. held old ++ xs) (sym e)) (went_both _ _ _ _ _ _ _ p.ok q.ok);
+    ok = subst (λ (xs : List ℕ). Went (contents old.output.now.inner) (contents new.output.now.inner) xs (held new))
+        (append_assoc (held old) one two ∙ ap (λ xs. held old ++ xs) (sym e)) (went_both _ _ _ _ _ _ _ p.ok q.ok);
     err = tt;
   }
   pushes_both old mid new one two bytes (Err fault) e p q = record {
@@ -41,11 +48,13 @@ module _ {W : Type 0} (contents : W → Option (List ℕ)) where
     failed = grind (arith, common_steps, p.failed, q.failed);
     only = q.only;
     ok = tt;
-    err = front_more _ _ _ p.ok.front (held mid ++ two) _ (grind (arith, common_steps, append_assoc, p.ok.whole, e)) p.ok.grew q.err;
+    err = front_more _ _ _ p.ok.front (held mid ++ two) _ (grind (arith, common_steps, append_assoc, p.ok.whole, e))
+        p.ok.grew q.err;
   }
 
   -- a push that fails before all is pushed
-  pub pushes_first : (old new : BlockWriter W) (one two bytes : List ℕ) (fault : Fault) (result : Result (Unit {0}) Fault)
+  pub pushes_first : (old new : BlockWriter W) (one two bytes : List ℕ) (fault : Fault)
+      (result : Result (Unit {0}) Fault)
       → bytes ≡ one ++ two → Pushes contents old new one (Err fault) → IsErrAnd result (λ y. y ≡ fault)
       → Pushes contents old new bytes result
   pushes_first old new one two bytes fault (Ok done) e p is = elim is [ ]
@@ -54,31 +63,43 @@ module _ {W : Type 0} (contents : W → Option (List ℕ)) where
     failed = p.failed;
     only = is ∙ p.only;
     ok = tt;
-    err = front_first _ _ (held old ++ one) two _ (append_assoc (held old) one two ∙ ap (λ xs. held old ++ xs) (sym e)) p.err;
+    err = front_first _ _ (held old ++ one) two _ (append_assoc (held old) one two ∙ ap (λ xs. held old ++ xs) (sym e))
+        p.err;
   }
 
   -- no bytes are pushed
   pushes_none : (old : BlockWriter W) → Pushes contents old old [] (Ok tt)
-  pushes_none old = record { same_output = refl; failed = grind (arith, common_steps); only = tt; ok = record { front = []; whole = append-nil (held old); grew = appends-none _ }; err = tt }
+  pushes_none old =
+      record { same_output = refl; failed = grind (arith, common_steps); only = tt;
+      ok = record { front = []; whole = append-nil (held old); grew = appends-none _ }; err = tt }
 
   -- nothing was pushed yet
   pub pushing_none : (start : BlockWriter W) (all rest : List ℕ) → rest ≡ all → Pushing contents start start all rest
   pushing_none start all rest e = record { done = []; whole = sym e; pushed = pushes_none start }
 
-  module _ (start mid new : BlockWriter W) (all to_come first rest : List ℕ) (at : Pushing contents start mid all to_come) (e : to_come ≡ first ++ rest) where
+  module _ (start mid new : BlockWriter W) (all to_come first rest : List ℕ)
+      (at : Pushing contents start mid all to_come) (e : to_come ≡ first ++ rest) where
     parted : all ≡ (at.done ++ first) ++ rest
     parted = at.whole ∙ (ap (λ xs. at.done ++ xs) e ∙ sym (append_assoc at.done first rest))
 
     -- the first of what is to come is pushed
     pub pushing_first : Pushes contents mid new first (Ok tt) → Pushing contents start new all rest
-    pushing_first p = record { done = at.done ++ first; whole = parted; pushed = pushes_both start mid new at.done first _ _ refl at.pushed p }
+    pushing_first p =
+        record { done = at.done ++ first; whole = parted;
+        pushed = pushes_both start mid new at.done first _ _ refl at.pushed p }
 
     -- or pushing it fails
-    pub pushing_stopped : (fault : Fault) (result : Result (Unit {0}) Fault) → Pushes contents mid new first (Err fault) → IsErrAnd result (λ y. y ≡ fault) → Pushes contents start new all result
-    pushing_stopped fault result p is = pushes_first start new (at.done ++ first) rest all fault result parted (pushes_both start mid new at.done first _ _ refl at.pushed p) is
+    pub pushing_stopped : (fault : Fault) (result : Result (Unit {0}) Fault) → Pushes contents mid new first (Err fault)
+        → IsErrAnd result (λ y. y ≡ fault) → Pushes contents start new all result
+    pushing_stopped fault result p is =
+        pushes_first start new (at.done ++ first) rest all fault result parted
+        (pushes_both start mid new at.done first _ _ refl at.pushed p) is
 
   -- nothing is to come
-  pub pushing_all : (start new : BlockWriter W) (all rest : List ℕ) → Pushing contents start new all rest → rest ≡ [] → Pushes contents start new all (Ok tt)
-  pushing_all start new all rest at e = subst (λ (xs : List ℕ). Pushes contents start new xs (Ok tt)) (sym (at.whole ∙ (ap (λ xs. at.done ++ xs) e ∙ append-nil at.done))) at.pushed
+  pub pushing_all : (start new : BlockWriter W) (all rest : List ℕ) → Pushing contents start new all rest → rest ≡ []
+      → Pushes contents start new all (Ok tt)
+  pushing_all start new all rest at e =
+      subst (λ (xs : List ℕ). Pushes contents start new xs (Ok tt))
+      (sym (at.whole ∙ (ap (λ xs. at.done ++ xs) e ∙ append-nil at.done))) at.pushed
 
 pub ruleset push_lemmas = (append-nil)

@@ -1,10 +1,13 @@
 -- Writes one after another, as the calls that they make.
-use Rattle.std.proofs.{Common.{List, [], ◌∷◌, ◌++◌, ℕ, refl, sym, subst, append-nil, arith}, lemmas.List.Folds.{concat-append}}
+use Rattle.std.proofs.{
+    Common.{List, [], ◌∷◌, ◌++◌, ℕ, refl, sym, subst, append-nil, arith}, lemmas.List.Folds.{concat-append}
+}
 use Rattle.std.specs.{Fmt.{WritesInCalls}, List.{FoldsTo}, Result.{IsOk}, Prelude.{OnOk, Result}}
 use Rattle.std.proofs.lemmas.Grind.{common_steps}
 
 -- calls over some items, and then over others
-folds-append : {P A : Type 0} (R : P → A → P → Type 0) (p q r : P) (xs ys : List A) → FoldsTo R p xs q → FoldsTo R q ys r → FoldsTo R p (xs ++ ys) r
+folds-append : {P A : Type 0} (R : P → A → P → Type 0) (p q r : P) (xs ys : List A) → FoldsTo R p xs q
+    → FoldsTo R q ys r → FoldsTo R p (xs ++ ys) r
 folds-append R p q r [] ys e f = subst (λ (a : _). FoldsTo R a ys r) (sym e) f
 folds-append R p q r (x ∷ xs) ys e f = (e.0, e.1, folds-append R e.0 q r xs ys e.2 f)
 
@@ -17,12 +20,14 @@ module _ {W : Type 0} (took : W → List ℕ → W → Type 0) where
   one_call w v bs call = record { parts = bs ∷ []; calls = (v, call, refl); whole = append-nil bs }
 
   -- the same where the call may fail
-  pub tried_call : {T E : Type 0} (r : Result T E) (w v : W) (bs : List ℕ) → (IsOk r → took w bs v) → OnOk r (WritesInCalls took w bs v)
+  pub tried_call : {T E : Type 0} (r : Result T E) (w v : W) (bs : List ℕ) → (IsOk r → took w bs v)
+      → OnOk r (WritesInCalls took w bs v)
   tried_call r w v bs call = on_ok r call (one_call w v bs)
 
   pub no_calls : (w : W) → WritesInCalls took w [] w
   no_calls w = record { parts = []; calls = refl; whole = refl }
 
   -- one write, and then another
-  pub writes_both : (w v u : W) (bs cs : List ℕ) → WritesInCalls took w bs v → WritesInCalls took v cs u → WritesInCalls took w (bs ++ cs) u
+  pub writes_both : (w v u : W) (bs cs : List ℕ) → WritesInCalls took w bs v → WritesInCalls took v cs u
+      → WritesInCalls took w (bs ++ cs) u
   writes_both w v u bs cs first second = grind (arith, common_steps, folds-append, concat-append)

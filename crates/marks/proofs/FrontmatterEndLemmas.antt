@@ -1,31 +1,50 @@
 -- The error at the end of a frontmatter is the one that its lines say.
-use Rattle.std.proofs.Common.{◌≡◌, ℕ, zero, suc, ◌+◌, ◌-◌, ◌<◌, ◌≤◌, ◌==◌, nat_eq, nat_lt, not, ◌&&◌, ◌||◌, Bool, true, false, true≢false, if◌then◌else◌, List, [], ◌∷◌, ◌++◌, codes, length, take, drop, get_or, refl, sym, ap, ◌∙◌, subst, arith, append_assoc, append-nil, drop-drop, length-append, take-append-drop, Option, Some, None, inl, inr}
+use Rattle.std.proofs.Common.{
+    ◌≡◌, ℕ, zero, suc, ◌+◌, ◌-◌, ◌<◌, ◌≤◌, ◌==◌, nat_eq, nat_lt, not, ◌&&◌, ◌||◌, Bool, true, false, true≢false,
+    if◌then◌else◌, List, [], ◌∷◌, ◌++◌, codes, length, take, drop, get_or, refl, sym, ap, ◌∙◌, subst, arith,
+    append_assoc, append-nil, drop-drop, length-append, take-append-drop, Option, Some, None, inl, inr
+}
 use Rattle.std.specs.{Char.{encode_utf8}, List.{after_last, list_all, list_any, prefix_len}, Option.{option_or}}
 use Rattle.std.specs.Str.{chars, encode_utf8_all, IsUtf8}
 use Rattle.std.proofs.Math.Seq.{drop-append_seam, get_or-append_seam}
-use Rattle.std.proofs.lemmas.Bool.{and_from, and_parts, cases_eq, eq-eqb, eqb-true, false_from_ne_true, ltb-false, ltb-true, ne_eqb, or_parts}
+use Rattle.std.proofs.lemmas.Bool.{
+    and_from, and_parts, cases_eq, eq-eqb, eqb-true, false_from_ne_true, ltb-false, ltb-true, ne_eqb, or_parts
+}
 use Rattle.std.proofs.lemmas.List.{nil_from_length, Elements.{All-from_get_or}}
 use Rattle.std.proofs.lemmas.List.Folds.{list_all-append, list_any-append, list_any_at, list_any_none}
 use Rattle.std.proofs.lemmas.List.Sums.{prefix_len_is}
-use Rattle.std.proofs.lemmas.Str.{char_from_byte, encode_ascii, encodes-append, encodes-chars, inside_one, length-encode, length-le-encodes, len_utf8_bounds}
+use Rattle.std.proofs.lemmas.Str.{
+    char_from_byte, encode_ascii, encodes-append, encodes-chars, inside_one, length-encode, length-le-encodes,
+    len_utf8_bounds
+}
 use Rattle.std.proofs.lemmas.{Bool.Decides.{nat_tests}, Grind.{common_steps}}
 use Rattle.memchr.specs.Find.{IsLastByte, is_byte}
-use Rattle.rustc_lexer.specs.Classes.{AreAll, Chars, NextIsNot, NextNotIn, begins, is_among, is_horizontal_whitespace, is_id_start, is_info, is_inline, is_whitespace, next_is}
+use Rattle.rustc_lexer.specs.Classes.{
+    AreAll, Chars, NextIsNot, NextNotIn, begins, is_among, is_horizontal_whitespace, is_id_start, is_info, is_inline,
+    is_whitespace, next_is
+}
 use Rattle.rustc_lexer.specs.FrontmatterGrammar as the
 use Rattle.rustc_lexer.specs.FrontmatterGrammar.{IsBodyBefore, IsLabelBefore, IsOpeningBefore, endings, fence}
 use Rattle.rustc_lexer.specs.declared.token.TokenKind.{TokenKind, TheVariants.{Frontmatter}}
 use Rattle.rustc_lexer.specs.laws.{Choice.{by_either, by_test}, Fences.{begins-dashes, begins-enough}}
 use Rattle.rustc_lexer.specs.means.{Frontmatter.{blanks_len, is_dash}, Scan.{run_len}}
 use Rattle.rustc_lexer.specs.laws.LanguageFrontmatter.{fence-length, run-fence}
-use Rattle.rustc_lexer.specs.laws.LanguageRuns.{among, other_than, run-stops, run_len-here, start-word_start, word_start-no_space}
+use Rattle.rustc_lexer.specs.laws.LanguageRuns.{
+    among, other_than, run-stops, run_len-here, start-word_start, word_start-no_space
+}
 use Rattle.rustc_lexer.specs.laws.Reach.{run_all}
 use Rattle.rustc_lexer.proofs.lemmas.tokens.ClassParts.{continue_part}
 use Rattle.marks.specs.declared.fault.Fault.{Fault}
-use Rattle.marks.specs.declared.fault.Fault.TheVariants.{WhitespaceBeforeFrontmatter, UnclosedFrontmatter, WhitespaceBeforeFrontmatterClose, FrontmatterCloseMismatch, ExtraAfterFrontmatterClose}
+use Rattle.marks.specs.declared.fault.Fault.TheVariants.{
+    WhitespaceBeforeFrontmatter, UnclosedFrontmatter, WhitespaceBeforeFrontmatterClose, FrontmatterCloseMismatch,
+    ExtraAfterFrontmatterClose
+}
 use Rattle.rustc_literal_escaper.specs.Grammar.{is_newline}
 use Rattle.marks.specs.Frontmatter.{blanks, closing_fault, dashes, end_fault, is_end, is_of, past_infostring, past_run}
 use Rattle.marks.specs.{Fault.{fault_of, front_fault, kind_fault}, TextFault.{frontmatter_fault}}
-use Rattle.marks.specs.FrontmatterEnd.{EndsAfter, IsEndFault, IsOpen, NoLineBegins, TellsFrontmatter, closed, indented, more_words, other_dashes, unclosed}
+use Rattle.marks.specs.FrontmatterEnd.{
+    EndsAfter, IsEndFault, IsOpen, NoLineBegins, TellsFrontmatter, closed, indented, more_words, other_dashes, unclosed
+}
 use Rattle.marks.proofs.FrontmatterLemmas.{last-line, skip_ends, skip_on}
 
 -- ---- runs
@@ -52,10 +71,12 @@ module _ (ds : List ℕ) (ascii : list_all (λ d. nat_lt d 128) ds ≡ true) whe
   small : (c : ℕ) → is_among ds c ≡ true → c < 128
   small c e = ltb-true c 128 (among (λ d. nat_lt d 128) ds ascii c e)
 
-  run-encode : (w s : Chars) → AreAll (is_among ds) w → NextNotIn ds s → prefix_len (is_of ds) (encode_utf8_all (w ++ s)) ≡ length w
+  run-encode : (w s : Chars) → AreAll (is_among ds) w → NextNotIn ds s
+      → prefix_len (is_of ds) (encode_utf8_all (w ++ s)) ≡ length w
   run-encode [] [] all stop = refl
   run-encode [] (c ∷ s) all stop =
-      prefix_len_is (is_of ds) (encode_utf8_all (c ∷ s)) 0 0 (omega arith) (λ k less. absurd (omega arith)) (λ some. false_from_ne_true _ (λ t.
+      prefix_len_is (is_of ds) (encode_utf8_all (c ∷ s)) 0 0 (omega arith) (λ k less. absurd (omega arith))
+          (λ some. false_from_ne_true _ (λ t.
       let first : is_among ds (get_or (encode_utf8_all (c ∷ s)) 0 0) ≡ true = sym (is_of-is ds _) ∙ t in
       let same = char_from_byte (encode_utf8_all (c ∷ s)) (encode_utf8_all s) c refl (small _ first) some in
       true≢false (sym first ∙ (ap (is_among ds) (sym same) ∙ stop))))
@@ -82,7 +103,8 @@ no_dash : (s : Chars) → NextIsNot is_dash s → NextNotIn (codes "-") s
 no_dash s stop = grind (arith, common_steps)
 
 dashes-encode : (n : ℕ) (s : Chars) → NextNotIn (codes "-") s → dashes (encode_utf8_all (fence n ++ s)) ≡ n
-dashes-encode n s stop = run-encode (codes "-") refl (fence n) s (fence-all (is_among (codes "-")) refl n) stop ∙ fence-length n
+dashes-encode n s stop = run-encode (codes "-") refl (fence n) s (fence-all (is_among (codes "-")) refl n) stop
+    ∙ fence-length n
 
 drop-dashes : (n : ℕ) (s : Chars) → drop n (encode_utf8_all (fence n ++ s)) ≡ encode_utf8_all s
 drop-dashes n s =
@@ -90,7 +112,8 @@ drop-dashes n s =
     ∙ drop-encode (codes "-") refl (fence n) s (fence-all (is_among (codes "-")) refl n)
 
 -- dashes stand on one line
-begins-line : (n : ℕ) (line next : Chars) → NextIsNot is_inline next → begins (fence n) (line ++ next) ≡ true → begins (fence n) line ≡ true
+begins-line : (n : ℕ) (line next : Chars) → NextIsNot is_inline next → begins (fence n) (line ++ next) ≡ true
+    → begins (fence n) line ≡ true
 begins-line zero line next stop e = refl
 begins-line (suc n) [] [] stop e = e
 begins-line (suc n) [] (c ∷ next) stop e = grind (arith, common_steps, nat_tests)
@@ -106,13 +129,16 @@ flush n d [] v some blank stop e =
     (refl, omega (arith, begins-dashes n (fence d ++ v) e, run, fence-length d))
 flush zero d (c ∷ bs) v some blank stop e = absurd (omega arith)
 flush (suc n) d (c ∷ bs) v some blank stop e =
-    absurd (true≢false (sym (and_parts (c == 45) _ e).0 ∙ other_than is_horizontal_whitespace 45 c refl (and_parts (is_horizontal_whitespace c) _ blank).0))
+    absurd (true≢false
+        (sym (and_parts (c == 45) _ e).0 ∙ other_than is_horizontal_whitespace 45 c refl
+        (and_parts (is_horizontal_whitespace c) _ blank).0))
 
 -- ---- lines
 
 all-inline : (p : ℕ → Bool) → p 10 ≡ false → (s : Chars) → AreAll p s → AreAll is_inline s
 all-inline p none [] all = refl
-all-inline p none (c ∷ s) all = let parts = and_parts (p c) (list_all p s) all in rw (other_than p 10 c none parts.0, all-inline p none s parts.1) refl
+all-inline p none (c ∷ s) all = let parts = and_parts (p c) (list_all p s) all in
+    rw (other_than p 10 c none parts.0, all-inline p none s parts.1) refl
 
 inline-append : (u v : Chars) → AreAll is_inline u → AreAll is_inline v → AreAll is_inline (u ++ v)
 inline-append u v first next = list_all-append is_inline u v ∙ and_from _ _ first next
@@ -123,7 +149,8 @@ label-inline (the.named u c v w before start info info_stops after stop) =
     let start_none : is_id_start 10 ≡ false =
     false_from_ne_true (is_id_start 10) (λ f. true≢false (word_start-no_space 10 (start-word_start 10 f))) in
     let info_none : is_info 10 ≡ false = ap (λ (b : Bool). b || false) (sym (continue_part.same 10 (omega arith))) in
-    let name : AreAll is_inline (c ∷ v) = rw (other_than is_id_start 10 c start_none start) (all-inline is_info info_none v info) in
+    let name : AreAll is_inline (c ∷ v) =
+        rw (other_than is_id_start 10 c start_none start) (all-inline is_info info_none v info) in
     inline-append u (c ∷ v ++ w) (all-inline is_horizontal_whitespace refl u before)
     (inline-append (c ∷ v) w name (all-inline is_horizontal_whitespace refl w after))
 
@@ -134,7 +161,9 @@ data HasLast : Chars → Type 0 where
 
 has_last-cons : (c : ℕ) {s : Chars} → HasLast s → HasLast (c ∷ s)
 has_last-cons c (last u line all) = last (c ∷ u) line all
-has_last-cons c {s} (only all) = by_either (c == 10) (λ e. subst (λ (d : ℕ). HasLast (d ∷ s)) (sym (eqb-true c 10 e)) (last [] s all)) (λ e. only (rw e all))
+has_last-cons c {s} (only all) =
+    by_either (c == 10) (λ e. subst (λ (d : ℕ). HasLast (d ∷ s)) (sym (eqb-true c 10 e)) (last [] s all))
+    (λ e. only (rw e all))
 
 has_last : (s : Chars) → HasLast s
 has_last [] = only refl
@@ -144,26 +173,30 @@ one-encode : (s : Chars) → AreAll is_inline s → list_any is_newline (encode_
 one-encode [] all = refl
 one-encode (c ∷ s) all =
     let parts = and_parts (is_inline c) (list_all is_inline s) all in
-    let first = list_any_none is_newline (encode_utf8 c) (All-from_get_or (λ x. is_newline x ≡ false) (encode_utf8 c) 0 (λ k less.
+    let first = list_any_none is_newline (encode_utf8 c)
+        (All-from_get_or (λ x. is_newline x ≡ false) (encode_utf8 c) 0 (λ k less.
     let out = parts.0 in
     let same = inside_one c [] (encode_utf8 c) k (sym (append-nil (encode_utf8 c))) less in
     grind (arith, nat_tests))) in
     list_any-append is_newline (encode_utf8 c) (encode_utf8_all s) ∙ rw (first, one-encode s parts.1) refl
 
-last_byte : (u line : List ℕ) → list_any is_newline line ≡ false → IsLastByte (is_byte 10) (u ++ 10 ∷ line) (Some (length u))
+last_byte : (u line : List ℕ) → list_any is_newline line ≡ false
+    → IsLastByte (is_byte 10) (u ++ 10 ∷ line) (Some (length u))
 last_byte u line none =
     let xs : List ℕ = u ++ 10 ∷ line in
     let long : length xs ≡ length u + suc (length line) = length-append u (10 ∷ line) in
     let after = λ (k : ℕ) (low : length u + 1 ≤ k) (less : k < length xs).
     let at = list_any_at is_newline line (k - (length u + 1)) 0 in
     let result : is_newline (get_or xs k 0) ≡ false = grind (arith, common_steps, nat_tests) in result in (
-      record { low = omega arith; high = omega arith; after = λ k low less here. true≢false (sym here ∙ after k low less) },
+      record { low = omega arith; high = omega arith; after = λ k low less here. true≢false
+          (sym here ∙ after k low less) },
       ap is_newline (get_or-append_seam u 10 line 0),
     )
 
 -- what stands past the last newline, in bytes
 last-encode : (u line : Chars) → AreAll is_inline line
-    → (list_any is_newline (encode_utf8_all (u ++ 10 ∷ line)) ≡ true) × (after_last is_newline (encode_utf8_all (u ++ 10 ∷ line)) ≡ encode_utf8_all line)
+    → (list_any is_newline (encode_utf8_all (u ++ 10 ∷ line)) ≡ true)
+        × (after_last is_newline (encode_utf8_all (u ++ 10 ∷ line)) ≡ encode_utf8_all line)
 unfolding encode_utf8
 last-encode u line all =
     let front : List ℕ = encode_utf8_all u in
@@ -180,7 +213,8 @@ end-encode [] = refl
 end-encode (c ∷ []) = by_either (nat_lt c 128)
     (λ e. rw (encode_ascii c (ltb-true c 128 e)) refl)
     (λ e.
-    let high = ltb-false c 128 e in let wide = length-encode c in let bounds = len_utf8_bounds c in let long = length-append (encode_utf8 c) [] in
+    let high = ltb-false c 128 e in let wide = length-encode c in let bounds = len_utf8_bounds c in
+    let long = length-append (encode_utf8 c) [] in
     grind (arith, nat_tests))
 end-encode (c ∷ d ∷ s) = let long = length-le-encodes (c ∷ d ∷ s) in grind (arith, nat_tests)
 
@@ -197,10 +231,12 @@ verdict n bs d end =
 abbrev last_dashes : Chars → ℕ
 last_dashes s = let line = after_last is_newline (encode_utf8_all s) in dashes (drop (blanks line) line)
 
-last_dashes-is : (u bs v : Chars) → AreAll is_horizontal_whitespace bs → NextIsNot is_horizontal_whitespace v → AreAll is_inline (bs ++ v)
+last_dashes-is : (u bs v : Chars) → AreAll is_horizontal_whitespace bs → NextIsNot is_horizontal_whitespace v
+    → AreAll is_inline (bs ++ v)
     → last_dashes (u ++ 10 ∷ (bs ++ v)) ≡ dashes (encode_utf8_all v)
 last_dashes-is u bs v blank stop inline =
-    rw ((last-encode u (bs ++ v) inline).1, run-encode (codes "\t ") refl bs v blank stop, drop-encode (codes "\t ") refl bs v blank) refl
+    rw ((last-encode u (bs ++ v) inline).1, run-encode (codes "\t ") refl bs v blank stop,
+        drop-encode (codes "\t ") refl bs v blank) refl
 
 -- three dashes end it
 ends_after : (d : ℕ) (u bs v : Chars) → 3 ≤ d → AreAll is_horizontal_whitespace bs → AreAll is_inline (fence d ++ v)
@@ -211,10 +247,12 @@ ends_after d u bs v many blank plain = absurd (omega arith)
 -- n dashes come first
 closes : (n : ℕ) (next u cs end : Chars) → NextNotIn (codes "-") (cs ++ end) → AreAll is_horizontal_whitespace cs
     → NextIsNot is_horizontal_whitespace end → AreAll is_inline end
-    → IsEndFault n next (u ++ 10 ∷ (fence n ++ (cs ++ end))) (if is_end end then None else Some ExtraAfterFrontmatterClose)
+    → IsEndFault n next (u ++ 10 ∷ (fence n ++ (cs ++ end)))
+        (if is_end end then None else Some ExtraAfterFrontmatterClose)
 unfolding is_end
 closes n next u cs [] stop blank end_stop plain = closed u cs [] blank refl
-closes n next u cs (c ∷ w) stop blank end_stop plain = by_test (IsEndFault n next (u ++ 10 ∷ (fence n ++ (cs ++ c ∷ w)))) (is_end (c ∷ w)) _ _
+closes n next u cs (c ∷ w) stop blank end_stop plain =
+    by_test (IsEndFault n next (u ++ 10 ∷ (fence n ++ (cs ++ c ∷ w)))) (is_end (c ∷ w)) _ _
     (λ ends. closed u cs (c ∷ w) blank ends)
     (λ more. more_words u cs c w blank end_stop more stop plain)
 
@@ -227,13 +265,16 @@ record Told (n : ℕ) (next body : Chars) : Type 0 where
   end : Option Fault
   is : IsEndFault n next body end
   free : IsOpen body next → end ≡ Some UnclosedFrontmatter
-  same : (front : Chars) → dashes (encode_utf8_all (front ++ body)) ≡ n → AreAll is_inline front → end_fault (encode_utf8_all (front ++ body)) ≡ end
+  same : (front : Chars) → dashes (encode_utf8_all (front ++ body)) ≡ n → AreAll is_inline front
+      → end_fault (encode_utf8_all (front ++ body)) ≡ end
 
 module _ (n d : ℕ) (next u bs cs end : Chars) (many : 3 ≤ n) (blank : AreAll is_horizontal_whitespace bs)
     (first_stop : NextIsNot is_horizontal_whitespace (fence d ++ (cs ++ end)))
-    (stop : NextNotIn (codes "-") (cs ++ end)) (end_blank : AreAll is_horizontal_whitespace cs) (end_stop : NextIsNot is_horizontal_whitespace end)
+    (stop : NextNotIn (codes "-") (cs ++ end)) (end_blank : AreAll is_horizontal_whitespace cs)
+        (end_stop : NextIsNot is_horizontal_whitespace end)
     (inline : AreAll is_inline (bs ++ (fence d ++ (cs ++ end))))
-    (lone : NoneUnless 3 next u (bs ++ (fence d ++ (cs ++ end)))) (first : NoneUnless n next u (bs ++ (fence d ++ (cs ++ end)))) where
+    (lone : NoneUnless 3 next u (bs ++ (fence d ++ (cs ++ end))))
+        (first : NoneUnless n next u (bs ++ (fence d ++ (cs ++ end)))) where
   abbrev line : Chars
   line = bs ++ (fence d ++ (cs ++ end))
 
@@ -245,14 +286,17 @@ module _ (n d : ℕ) (next u bs cs end : Chars) (many : 3 ≤ n) (blank : AreAll
 
   closing-read : closing_fault n (encode_utf8_all line) ≡ verdict n bs d end
   closing-read =
-      rw (run-encode (codes "\t ") refl bs (fence d ++ (cs ++ end)) blank first_stop, drop-encode (codes "\t ") refl bs (fence d ++ (cs ++ end)) blank)
+      rw (run-encode (codes "\t ") refl bs (fence d ++ (cs ++ end)) blank first_stop, drop-encode (codes "\t ") refl bs
+          (fence d ++ (cs ++ end)) blank)
       (rw (dashes-encode d (cs ++ end) stop, drop-dashes d (cs ++ end))
-      (rw (run-encode (codes "\t ") refl cs end end_blank end_stop, drop-encode (codes "\t ") refl cs end end_blank, end-encode end) refl))
+      (rw (run-encode (codes "\t ") refl cs end end_blank end_stop, drop-encode (codes "\t ") refl cs end end_blank,
+          end-encode end) refl))
 
   no-dashes : d < 3 → (ws : Chars) → EndsAfter ws body → ⊥
   unfolding encode_utf8
   no-dashes few ws ends =
-      let here = last_dashes-is u bs (fence d ++ (cs ++ end)) blank first_stop inline ∙ dashes-encode d (cs ++ end) stop in
+      let here = last_dashes-is u bs (fence d ++ (cs ++ end)) blank first_stop inline
+          ∙ dashes-encode d (cs ++ end) stop in
       let clean = inline-append ws (fence 3 ++ ends.1) (all-inline is_horizontal_whitespace refl ws ends.3) ends.4 in
       let there = last_dashes-is ends.0 ws (fence 3 ++ ends.1) ends.3 refl clean in
       let same = ap last_dashes ends.2 in
@@ -263,11 +307,13 @@ module _ (n d : ℕ) (next u bs cs end : Chars) (many : 3 ≤ n) (blank : AreAll
 
   -- no blanks come first
   at-once : bs ≡ [] → 3 ≤ d → IsEndFault n next body
-      (if not (nat_eq d n) then Some (FrontmatterCloseMismatch n d) else if is_end end then None else Some ExtraAfterFrontmatterClose)
+      (if not (nat_eq d n) then Some (FrontmatterCloseMismatch n d) else if is_end end then None else Some
+          ExtraAfterFrontmatterClose)
   at-once none enough =
       let left = all-past is_inline (fence d) (cs ++ end) plain in
       rw none (elim (cases_eq d n) [
-        | inl same ↦ rw (eq-eqb d n same, same) (closes n next u cs end stop end_blank end_stop (all-past is_inline cs end left))
+        | inl same ↦ rw (eq-eqb d n same, same)
+            (closes n next u cs end stop end_blank end_stop (all-past is_inline cs end left))
         | inr other ↦ rw (ne_eqb d n other) (other_dashes u (cs ++ end) d enough (λ le.
             let few : d < n = omega arith in (
               few,
@@ -291,12 +337,14 @@ module _ (n d : ℕ) (next u bs cs end : Chars) (many : 3 ≤ n) (blank : AreAll
         let text : Chars = (front ++ u) ++ 10 ∷ line in
         let whole : front ++ body ≡ text = sym (append_assoc front u (10 ∷ line)) in
         let past = last-encode (front ++ u) line inline in
-        let opens : dashes (encode_utf8_all text) ≡ n = ap (λ (s : Chars). dashes (encode_utf8_all s)) (sym whole) ∙ run in
+        let opens : dashes (encode_utf8_all text) ≡ n = ap (λ (s : Chars). dashes (encode_utf8_all s)) (sym whole)
+            ∙ run in
         ap (λ (s : Chars). end_fault (encode_utf8_all s)) whole ∙ rw (past.0, past.1, opens) closing-read;
   }
 
 -- that line in parts: spaces and tabs, dashes, spaces and tabs, and the rest
-told-line : (n : ℕ) (next u line : Chars) → 3 ≤ n → AreAll is_inline line → NoneUnless 3 next u line → NoneUnless n next u line → Told n next (u ++ 10 ∷ line)
+told-line : (n : ℕ) (next u line : Chars) → 3 ≤ n → AreAll is_inline line → NoneUnless 3 next u line
+    → NoneUnless n next u line → Told n next (u ++ 10 ∷ line)
 told-line n next u line many =
     let rest : Chars = drop (blanks_len line) line in
     let d : ℕ = run_len is_dash rest in
@@ -304,20 +352,27 @@ told-line n next u line many =
     let left : Chars = drop (blanks_len tail) tail in
     let cut : take (blanks_len tail) tail ++ left ≡ tail = take-append-drop (blanks_len tail) tail in
     let whole : fence d ++ (take (blanks_len tail) tail ++ left) ≡ rest =
-    ap (λ (w : Chars). fence d ++ w) cut ∙ (ap (λ (w : Chars). w ++ tail) (sym (run-fence rest)) ∙ take-append-drop d rest) in
-    subst (λ (l : Chars). AreAll is_inline l → NoneUnless 3 next u l → NoneUnless n next u l → Told n next (u ++ 10 ∷ l))
+    ap (λ (w : Chars). fence d ++ w) cut
+        ∙ (ap (λ (w : Chars). w ++ tail) (sym (run-fence rest)) ∙ take-append-drop d rest) in
+    subst (λ (l : Chars). AreAll is_inline l → NoneUnless 3 next u l → NoneUnless n next u l
+        → Told n next (u ++ 10 ∷ l))
     (ap (λ (w : Chars). take (blanks_len line) line ++ w) whole ∙ take-append-drop (blanks_len line) line)
-    (told-last n d next u (take (blanks_len line) line) (take (blanks_len tail) tail) left many (run_all is_horizontal_whitespace line)
+    (told-last n d next u (take (blanks_len line) line) (take (blanks_len tail) tail) left many
+        (run_all is_horizontal_whitespace line)
     (ap (next_is is_horizontal_whitespace) whole ∙ run-stops is_horizontal_whitespace line)
     (no_dash (take (blanks_len tail) tail ++ left) (ap (next_is is_dash) cut ∙ run-stops is_dash rest))
     (run_all is_horizontal_whitespace tail) (run-stops is_horizontal_whitespace tail))
 
 -- where no line begins with dashes
-told-lone : (n : ℕ) (next : Chars) {body : Chars} → 3 ≤ n → HasLast body → NoLineBegins 3 (body ++ next) → NoLineBegins n (body ++ next) → Told n next body
+told-lone : (n : ℕ) (next : Chars) {body : Chars} → 3 ≤ n → HasLast body → NoLineBegins 3 (body ++ next)
+    → NoLineBegins n (body ++ next) → Told n next body
 told-lone n next many (last u line all) lone none = told-line n next u line many all (λ _. lone) (λ _. none)
 told-lone n next {body} many (only all) lone none = record {
   end = Some UnclosedFrontmatter;
-  is = unclosed (lone, λ ws ends. true≢false (sym (all-past is_inline ends.0 (10 ∷ (ws ++ (fence 3 ++ ends.1))) (ap (list_all is_inline) (sym ends.2) ∙ all))));
+  is =
+      unclosed (lone, λ ws ends. true≢false
+      (sym (all-past is_inline ends.0 (10 ∷ (ws ++ (fence 3 ++ ends.1)))
+      (ap (list_all is_inline) (sym ends.2) ∙ all))));
   free = λ free. refl;
   same = λ front run clean. rw (one-encode (front ++ body) (inline-append front body clean all)) refl;
 }
@@ -326,10 +381,13 @@ told-body : (n : ℕ) {next body : Chars} → 3 ≤ n → IsBodyBefore next (end
 told-body n {next} many (the.with_line pattern u line is all stop) =
     let here : begins (fence n) line ≡ true = begins-line n line next stop is.here in
     let three : begins (fence 3) line ≡ true = begins-enough 3 line (omega (arith, many, begins-dashes n line here)) in
-    told-line n next u line many all (λ e. absurd (true≢false (sym three ∙ e))) (λ e. absurd (true≢false (sym here ∙ e)))
+    told-line n next u line many all (λ e. absurd (true≢false (sym three ∙ e)))
+        (λ e. absurd (true≢false (sym here ∙ e)))
 told-body n {next} many (the.other pattern none (the.with_line three u line is all stop)) =
-    told-line n next u line many all (λ e. absurd (true≢false (sym (begins-line 3 line next stop is.here) ∙ e))) (λ _. none)
-told-body n {next} {body} many (the.other pattern none (the.other three lone left)) = told-lone n next many (has_last body) lone none
+    told-line n next u line many all (λ e. absurd (true≢false (sym (begins-line 3 line next stop is.here) ∙ e)))
+        (λ _. none)
+told-body n {next} {body} many (the.other pattern none (the.other three lone left)) =
+    told-lone n next many (has_last body) lone none
 
 -- ---- the label, read again
 
@@ -337,33 +395,44 @@ label-past : (body next : Chars) {label : Chars} → IsLabelBefore (body ++ next
     → past_run is_horizontal_whitespace (past_infostring (past_run is_horizontal_whitespace (label ++ body))) ≡ body
 label-past body next (the.blank {w} all stop start) =
     let ends = front-stops is_horizontal_whitespace body next stop in
-    rw (past-here is_horizontal_whitespace w body all ends, front-stops is_id_start body next start) (past-here is_horizontal_whitespace [] body refl ends)
+    rw (past-here is_horizontal_whitespace w body all ends, front-stops is_id_start body next start)
+        (past-here is_horizontal_whitespace [] body refl ends)
 label-past body next (the.named u c v w before start info info_stops after stop) =
     let whole : (u ++ (c ∷ v ++ w)) ++ body ≡ u ++ (c ∷ (v ++ (w ++ body))) = simp append_assoc in
-    let info_ends = front-stops is_info (w ++ body) next (ap (next_is is_info) (append_assoc w body next) ∙ info_stops) in
-    let no_blank : is_horizontal_whitespace c ≡ false = grind (arith, common_steps, word_start-no_space c (start-word_start c start)) in
-    rw (whole, past-here is_horizontal_whitespace u (c ∷ (v ++ (w ++ body))) before no_blank, start, past-here is_info v (w ++ body) info info_ends)
+    let info_ends = front-stops is_info (w ++ body) next (ap (next_is is_info) (append_assoc w body next)
+        ∙ info_stops) in
+    let no_blank : is_horizontal_whitespace c ≡ false =
+        grind (arith, common_steps, word_start-no_space c (start-word_start c start)) in
+    rw (whole, past-here is_horizontal_whitespace u (c ∷ (v ++ (w ++ body))) before no_blank, start,
+        past-here is_info v (w ++ body) info info_ends)
     (past-here is_horizontal_whitespace w body after (front-stops is_horizontal_whitespace body next stop))
 
 -- ---- what is told
 
-opening-told : {n : ℕ} {bad_label : Bool} {opening body next : Chars} (text : List ℕ) → IsOpeningBefore (body ++ next) n bad_label opening
+opening-told : {n : ℕ} {bad_label : Bool} {opening body next : Chars} (text : List ℕ)
+    → IsOpeningBefore (body ++ next) n bad_label opening
     → (told : Told n next body)
     → chars text ≡ opening ++ body → encode_utf8_all (opening ++ body) ≡ text
     → kind_fault (Frontmatter (next_is is_whitespace opening) bad_label) text
-    ≡ (if next_is is_whitespace opening then Some WhitespaceBeforeFrontmatter else front_fault (bad_label && not (begins (codes "\r\n") body)) told.end)
+    ≡ (if next_is is_whitespace opening then Some WhitespaceBeforeFrontmatter else front_fault
+        (bad_label && not (begins (codes "\r\n") body)) told.end)
 opening-told text (the.opening n (c ∷ space) label spaces no_line many is stop) told reads whole =
     rw (and_parts (is_whitespace c) (list_all is_whitespace space) spaces).0 refl
 opening-told text (the.opening zero [] label spaces no_line many is stop) told reads whole = absurd (omega arith)
-opening-told {body = body} {next = next} text (the.opening (suc n) [] label spaces no_line many is stop) told reads whole =
+opening-told {body = body} {next = next} text (the.opening (suc n) [] label spaces no_line many is stop) told reads
+    whole =
     let front : Chars = fence (suc n) ++ label in
     let split : front ++ body ≡ fence (suc n) ++ (label ++ body) = append_assoc (fence (suc n)) label body in
-    let stops = front-stops (is_among (codes "-")) (label ++ body) next (ap (next_is (is_among (codes "-"))) (append_assoc label body next) ∙ stop) in
+    let stops = front-stops (is_among (codes "-")) (label ++ body) next
+        (ap (next_is (is_among (codes "-"))) (append_assoc label body next) ∙ stop) in
     let run = ap (λ (s : Chars). dashes (encode_utf8_all s)) split ∙ dashes-encode (suc n) (label ++ body) stops in
     let name : past_run is_dash (chars text) ≡ label ++ body =
     ap (past_run is_dash) (reads ∙ split)
-    ∙ past-here is_dash (fence (suc n)) (label ++ body) (fence-all is_dash refl (suc n)) (not_dash (label ++ body) stops) in
-    let ends = ap end_fault (sym whole) ∙ told.same front run (inline-append (fence (suc n)) label (fence-all is_inline refl (suc n)) (label-inline is)) in
+    ∙ past-here is_dash (fence (suc n)) (label ++ body) (fence-all is_dash refl (suc n))
+        (not_dash (label ++ body) stops) in
+    let ends = ap end_fault (sym whole)
+        ∙ told.same front run
+        (inline-append (fence (suc n)) label (fence-all is_inline refl (suc n)) (label-inline is)) in
     rw (ends, name, label-past body next is) refl
 
 pub tells : (kind : TokenKind) (text : List ℕ) → IsUtf8 text → TellsFrontmatter kind text (fault_of kind text)
@@ -374,7 +443,8 @@ tells kind text utf8 n bad_label opening body next opens is_body whole kind_is =
       end = told.end;
       is = told.is;
       told = ap (λ (k : TokenKind). fault_of k text) kind_is
-          ∙ ap (λ (fault : Option Fault). option_or fault (frontmatter_fault text)) (opening-told text opens told whole back);
+          ∙ ap (λ (fault : Option Fault). option_or fault (frontmatter_fault text))
+              (opening-told text opens told whole back);
       exact = (λ e. open-is n (subst (IsEndFault n next body) e told.is), told.free);
     }
   where

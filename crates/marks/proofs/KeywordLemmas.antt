@@ -1,5 +1,8 @@
 -- What it takes for a word to be no keyword of a sort.
-use Rattle.std.proofs.{Common.{arith}, lemmas.Grind.{common_steps}, Common.{◌≡◌, ℕ, Bool, false, List, [], ◌∷◌, ◌++◌, ◌||◌, refl, sym, ◌∙◌, take, drop}}
+use Rattle.std.proofs.{
+    Common.{arith}, lemmas.Grind.{common_steps},
+    Common.{◌≡◌, ℕ, Bool, false, List, [], ◌∷◌, ◌++◌, ◌||◌, refl, sym, ◌∙◌, take, drop}
+}
 use Rattle.std.proofs.lemmas.List.Folds.{list_any-append}
 use Rattle.std.specs.{List.{AllByRecursion, list_any}, Str.{bytes_eq}}
 use Rattle.std.proofs.lemmas.Slice.Eq.{bytes_eq-Decides}
@@ -36,7 +39,8 @@ none_later : (edition : Edition) (word : List ℕ) → IsNoneOf word (made Stric
 none_later edition word later in_2015 = grind (arith, common_steps, is_out)
 
 -- a word that is not among the first 24 strict ones, and none that a later edition made
-pub is_among_last : (edition : Edition) (word : List ℕ) → is_in (strict_from 0) word ≡ false → is_in (strict_from 12) word ≡ false
+pub is_among_last : (edition : Edition) (word : List ℕ) → is_in (strict_from 0) word ≡ false
+    → is_in (strict_from 12) word ≡ false
     → IsNoneOf word (made Strict E2018) → is_in (strict_from 24) word ≡ has Strict edition word
 is_among_last edition word first second later =
     sym (last_of (λ keyword. bytes_eq keyword word) (strict_from 0) (strict_from 12) (strict_from 24) first second)

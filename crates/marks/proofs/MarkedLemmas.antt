@@ -1,5 +1,8 @@
 -- What a marked text says, and the calls that write it.
-use Rattle.std.proofs.Common.{◌≡◌, ℕ, ◌+◌, ◌-◌, ◌==◌, inl, inr, List, [], ◌∷◌, ◌++◌, length, take, drop, refl, ap, subst, ◌∙◌, arith, take-add, take-append-drop, Option, append-nil}
+use Rattle.std.proofs.Common.{
+    ◌≡◌, ℕ, ◌+◌, ◌-◌, ◌==◌, inl, inr, List, [], ◌∷◌, ◌++◌, length, take, drop, refl, ap, subst, ◌∙◌, arith, take-add,
+    take-append-drop, Option, append-nil
+}
 use Rattle.std.specs.{Fmt.{WritesInCalls}, Prelude.{OnOk, Result}, Char.{encode_utf8, len_utf8}}
 use Rattle.std.specs.Str.{IsCharBoundary, IsUtf8, chars}
 use Rattle.std.proofs.lemmas.{Bool.{cases_Bool, eqb-true}, Str.{IsCharBoundary-past_char, IsCharBoundary-start}}
@@ -14,33 +17,43 @@ use Rattle.marks.specs.Part.{Own, own, with_marks, without_marks}
 use Rattle.marks.proofs.{EscapeLemmas.{unescaped_escaped}, LiteralLemmas.{without_literal}}
 use Rattle.marks.proofs.PartLemmas.{shows, without_fault, writes_parts}
 
-without_token : (fault : Option Fault) (mode : Option Mode) (class : Class) (text : List ℕ) → without_marks (parts_by fault mode class text) ≡ text
+without_token : (fault : Option Fault) (mode : Option Mode) (class : Class) (text : List ℕ)
+    → without_marks (parts_by fault mode class text) ≡ text
 without_token fault mode class text = grind (arith, common_steps, without_fault, without_literal, append-nil)
 
 -- without the marks, the parts are the text as far as the tokens go
-without_marks-parts : (edition : Edition) (text : List ℕ) (tokens : List Token) → without_marks (parts edition text tokens) ≡ take (bound tokens (length tokens)) text
+without_marks-parts : (edition : Edition) (text : List ℕ) (tokens : List Token)
+    → without_marks (parts edition text tokens) ≡ take (bound tokens (length tokens)) text
 without_marks-parts edition text [] = refl
-without_marks-parts edition text (token ∷ tokens) = grind (arith, common_steps, flat_map-append, without_token, take-add, without_marks-parts edition (drop token.len text) tokens)
+without_marks-parts edition text (token ∷ tokens) =
+    grind (arith, common_steps, flat_map-append, without_token, take-add, without_marks-parts edition
+    (drop token.len text) tokens)
 
 -- without the marks, a document is as it was
-pub document_is : (edition : Edition) (text : List ℕ) → Partitions (drop (tokens_start text) text) (document_tokens edition text) → without_marks (document_parts edition text) ≡ text
+pub document_is : (edition : Edition) (text : List ℕ)
+    → Partitions (drop (tokens_start text) text) (document_tokens edition text)
+    → without_marks (document_parts edition text) ≡ text
 document_is edition text cut = grind (arith, common_steps, without_marks-parts)
 
 -- and so it is on a page
 pub page_is : (edition : Edition) (text : List ℕ) → without_marks (document_parts edition text) ≡ text
     → unescaped (untagged (marked Html edition text)) ≡ text
 page_is edition text is =
-    ap unescaped (shows (document_parts edition text)) ∙ (unescaped_escaped (without_marks (document_parts edition text)) ∙ is)
+    ap unescaped (shows (document_parts edition text))
+        ∙ (unescaped_escaped (without_marks (document_parts edition text)) ∙ is)
 
 -- ---- the calls that write the tokens
 
 module _ {W : Type 0} (took : W → List ℕ → W → Type 0) where
   -- a token, and then those that are left
-  pub writes_token : (format : Format) (edition : Edition) (w0 w1 w : W) (text rest own : List ℕ) (left others : List Token) (token : Token)
+  pub writes_token : (format : Format) (edition : Edition) (w0 w1 w : W) (text rest own : List ℕ)
+      (left others : List Token) (token : Token)
       → left ≡ token ∷ others → rest ≡ drop token.len text → own ≡ take token.len text
       → WritesInCalls took w0 (with_marks format (token_parts edition token.kind own)) w1
-      → WritesInCalls took w1 (marked_tokens format edition rest others) w → WritesInCalls took w0 (marked_tokens format edition text left) w
-  writes_token format edition w0 w1 w text rest own left others token first past is wrote more = grind (arith, common_steps, writes_parts)
+      → WritesInCalls took w1 (marked_tokens format edition rest others) w
+          → WritesInCalls took w0 (marked_tokens format edition text left) w
+  writes_token format edition w0 w1 w text rest own left others token first past is wrote more =
+      grind (arith, common_steps, writes_parts)
 
   -- a byte order mark, and then a shebang line
   pub writes_start : {T E : Type 0} (r : Result T E) (format : Format) (text mark line : List ℕ) (n : ℕ) (w v u : W)
@@ -56,7 +69,8 @@ module _ {W : Type 0} (took : W → List ℕ → W → Type 0) where
   -- what comes before the first token, and then the tokens
   pub writes_past : (format : Format) (edition : Edition) (w0 w u : W) (text : List ℕ)
       → WritesInCalls took w0 (with_marks format (start_parts (take (tokens_start text) text))) w
-      → WritesInCalls took w (marked_tokens format edition (drop (tokens_start text) text) (document_tokens edition text)) u
+      → WritesInCalls took w
+          (marked_tokens format edition (drop (tokens_start text) text) (document_tokens edition text)) u
       → WritesInCalls took w0 (marked format edition text) u
   writes_past format edition w0 w u text before more =
       writes_parts took format (start_parts (take (tokens_start text) text))

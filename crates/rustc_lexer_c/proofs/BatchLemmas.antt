@@ -1,5 +1,7 @@
 -- A batch, by what `fill` says of the tokens that are left.
-use Rattle.std.proofs.Common.{◌≡◌, ℕ, ◌+◌, ◌-◌, ◌≤◌, List, length, drop, sym, ap, subst, ◌∙◌, arith, length-drop, IsCharBoundary}
+use Rattle.std.proofs.Common.{
+    ◌≡◌, ℕ, ◌+◌, ◌-◌, ◌≤◌, List, length, drop, sym, ap, subst, ◌∙◌, arith, length-drop, IsCharBoundary
+}
 use Rattle.std.proofs.lemmas.{Grind.{common_steps}, Str.{IsCharBoundary-from_rest, IsUtf8-drop}}
 use Rattle.std.proofs.Math.Nat.{min-le_right}
 use Rattle.rustc_lexer.specs.declared.{edition.Edition.{Edition}, token.FrontmatterAllowed.{FrontmatterAllowed}}
@@ -15,13 +17,16 @@ allowed_back : (allowed : FrontmatterAllowed) → allowed_of (allowed_number all
 allowed_back allowed = grind (arith, common_steps)
 
 -- the number of a flag is that of what it asks for, in each edition
-number_of-mode : (allowed : FrontmatterAllowed) (edition : Edition) → allowed_number allowed ≡ mode_number (mode_in allowed edition)
+number_of-mode : (allowed : FrontmatterAllowed) (edition : Edition)
+    → allowed_number allowed ≡ mode_number (mode_in allowed edition)
 number_of-mode allowed edition = grind (arith, common_steps)
 
 mode_of-edition : (allowed : FrontmatterAllowed) (edition : Edition) → mode_edition (mode_in allowed edition) ≡ edition
 mode_of-edition allowed edition = grind (arith, common_steps)
 
-module _ (edition : Edition) (text : List ℕ) (is : IsText text) (place : CPlace) (boundary : IsCharBoundary text place.at) (s t : State) (buffer filled : List CToken) (count : ℕ) (begun : s ≡ state_at edition text place)
+module _ (edition : Edition) (text : List ℕ) (is : IsText text) (place : CPlace)
+    (boundary : IsCharBoundary text place.at) (s t : State) (buffer filled : List CToken) (count : ℕ)
+    (begun : s ≡ state_at edition text place)
     (filling : IsFilled token_numbers (tokens_left s) buffer filled count) (past : t ≡ state_past count s) where
   abbrev cut : List ℕ
   cut = drop place.at text
@@ -30,10 +35,12 @@ module _ (edition : Edition) (text : List ℕ) (is : IsText text) (place : CPlac
   mode = mode_in (allowed_of place.frontmatter_allowed) edition
 
   cut_is : IsText cut
-  cut_is = record { utf8 = IsUtf8-drop text place.at is.utf8 boundary; fits = let f = is.fits in omega (arith, length-drop place.at text) }
+  cut_is = record { utf8 = IsUtf8-drop text place.at is.utf8 boundary; fits = let f = is.fits in
+      omega (arith, length-drop place.at text) }
 
   leaves : Leaves s t (length buffer) count
-  leaves = past_fill s t (length buffer) count (subst IsText (sym (ap (λ (x : State). x.rest) begun)) cut_is) (ap (λ (x : State). x.pending) begun) filling.as_many past
+  leaves = past_fill s t (length buffer) count (subst IsText (sym (ap (λ (x : State). x.rest) begun)) cut_is)
+      (ap (λ (x : State). x.pending) begun) filling.as_many past
 
   here : IsFilled token_numbers (tokens_of mode cut) buffer filled count
   here = subst (λ (x : State). IsFilled token_numbers (tokens_left x) buffer filled count) begun filling
@@ -54,16 +61,19 @@ module _ (edition : Edition) (text : List ℕ) (is : IsText text) (place : CPlac
   left_within = omega (arith, ap (λ (xs : List ℕ). length xs) rest_is, length-drop end cut, length-drop place.at text)
 
   place_is : length text - length t.rest ≡ place.at + end
-  place_is = let long : length t.rest ≡ length (drop end cut) = ap length rest_is in let b = boundary.0 in let i = inside.0 in omega (arith, long, b, i, length-drop end cut, length-drop place.at text)
+  place_is = let long : length t.rest ≡ length (drop end cut) = ap length rest_is in let b = boundary.0 in
+      let i = inside.0 in omega (arith, long, b, i, length-drop end cut, length-drop place.at text)
 
   state_is : state_past count (state_at edition text place) ≡ t
   state_is = ap (state_past count) (sym begun) ∙ sym past
 
   same_edition : mode_edition t.mode ≡ edition
-  same_edition = leaves.edition ∙ (ap (λ (x : State). mode_edition x.mode) begun ∙ mode_of-edition (allowed_of place.frontmatter_allowed) edition)
+  same_edition = leaves.edition
+      ∙ (ap (λ (x : State). mode_edition x.mode) begun ∙ mode_of-edition (allowed_of place.frontmatter_allowed) edition)
 
   pub batch_is : (place' : CPlace) (allowed : FrontmatterAllowed) → place'.at ≡ length text - length t.rest
       → t.mode ≡ mode_in allowed (mode_edition t.mode) → place'.frontmatter_allowed ≡ allowed_number allowed
       → IsBatch text (state_at edition text place) buffer place' filled count
   batch_is place' allowed at held number =
-      grind (arith, common_steps, place_is, rest_is, same_edition, mode_of-edition, here, IsCharBoundary-from_rest, inside, state_is, number_of-mode, allowed_back, leaves)
+      grind (arith, common_steps, place_is, rest_is, same_edition, mode_of-edition, here, IsCharBoundary-from_rest,
+          inside, state_is, number_of-mode, allowed_back, leaves)

@@ -1,5 +1,7 @@
 -- A list that is written into a buffer, one more at a time.
-use Rattle.std.proofs.Common.{◌≡◌, ℕ, ◌+◌, ◌<◌, ◌≤◌, List, [], ◌∷◌, ◌++◌, length, take, drop, min, sym, ap, ◌∙◌, arith, slice_set, take-add}
+use Rattle.std.proofs.Common.{
+    ◌≡◌, ℕ, ◌+◌, ◌<◌, ◌≤◌, List, [], ◌∷◌, ◌++◌, length, take, drop, min, sym, ap, ◌∙◌, arith, slice_set, take-add
+}
 use Rattle.std.proofs.lemmas.{Grind.{common_steps}, List.{drop-drop, length-drop, take-append-drop, take_more_set}}
 use Rattle.std.proofs.Math.Nat.{min-eq_left, min-eq_right}
 
@@ -12,19 +14,25 @@ module _ {X : Type 0} (all left : List X) (count : ℕ) (x : X) (next : drop cou
   few_step = let n = length-drop count all in let m = ap (λ (xs : List X). length xs) next in omega arith
 
   -- the buffer past one more
-  pub front_step : (buffer : List X) → count < length buffer → take count buffer ≡ take count all → take (count + 1) (slice_set buffer count x) ≡ take (count + 1) all
-  front_step buffer fits front = take_more_set buffer count x fits ∙ (ap (λ l. l ++ x ∷ []) front ∙ sym (take-add count 1 all ∙ ap (λ l. take count all ++ take 1 l) next))
+  pub front_step : (buffer : List X) → count < length buffer → take count buffer ≡ take count all
+      → take (count + 1) (slice_set buffer count x) ≡ take (count + 1) all
+  front_step buffer fits front = take_more_set buffer count x fits
+      ∙ (ap (λ l. l ++ x ∷ []) front ∙ sym (take-add count 1 all ∙ ap (λ l. take count all ++ take 1 l) next))
 
-pub back_step : {Y : Type 0} (buffer old : List Y) (count : ℕ) (y : Y) → drop count buffer ≡ drop count old → drop (count + 1) (slice_set buffer count y) ≡ drop (count + 1) old
+pub back_step : {Y : Type 0} (buffer old : List Y) (count : ℕ) (y : Y) → drop count buffer ≡ drop count old
+    → drop (count + 1) (slice_set buffer count y) ≡ drop (count + 1) old
 back_step buffer old count y back = grind (arith, common_steps)
 
 -- what the buffer holds at the end
-pub buffer_filled : {Y : Type 0} (buffer old front : List Y) (count : ℕ) → take count buffer ≡ front → drop count buffer ≡ drop count old → buffer ≡ front ++ drop count old
-buffer_filled buffer old front count is back = sym (take-append-drop count buffer) ∙ (ap (λ l. l ++ drop count buffer) is ∙ ap (λ l. front ++ l) back)
+pub buffer_filled : {Y : Type 0} (buffer old front : List Y) (count : ℕ) → take count buffer ≡ front
+    → drop count buffer ≡ drop count old → buffer ≡ front ++ drop count old
+buffer_filled buffer old front count is back = sym (take-append-drop count buffer)
+    ∙ (ap (λ l. l ++ drop count buffer) is ∙ ap (λ l. front ++ l) back)
 
 -- past all of a list none is left
 pub all_taken : {X : Type 0} (all : List X) (count : ℕ) → drop count all ≡ [] → length all ≤ count
-all_taken {X} all count none = let n = length-drop count all in let m = ap (λ (xs : List X). length xs) none in omega arith
+all_taken {X} all count none = let n = length-drop count all in let m = ap (λ (xs : List X). length xs) none in
+    omega arith
 
 -- the lesser of two counts that it is not above
 pub count_first : (count a b : ℕ) → count ≡ a → count ≤ b → count ≡ min a b

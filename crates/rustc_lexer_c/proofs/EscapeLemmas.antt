@@ -1,5 +1,8 @@
 -- One more unit of a literal.
-use Rattle.std.proofs.Common.{◌≡◌, ℕ, false, true≢false, ◌+◌, ◌≤◌, List, [], ◌∷◌, length, take, drop, min, max, sym, ap, ◌∙◌, arith, Option, Some, None}
+use Rattle.std.proofs.Common.{
+    ◌≡◌, ℕ, false, true≢false, ◌+◌, ◌≤◌, List, [], ◌∷◌, length, take, drop, min, max, sym, ap, ◌∙◌, arith, Option, Some,
+    None
+}
 use Rattle.std.proofs.lemmas.{Bool.{cond_both}, Grind.{common_steps}, List.{drop-drop, length-map, length-set}}
 use Rattle.std.proofs.Math.Nat.{le-max_left, le-max_right}
 use Rattle.std.specs.{Option.{is_some}, Str.{IsUtf8}}
@@ -10,10 +13,13 @@ use Rattle.rustc_lexer.specs.laws.Choice.{by_either}
 use Rattle.marks.specs.LineEnds.{ends_line, file_errors, moved, unix}
 use Rattle.marks.proofs.LineEndLemmas.{utf8-unix}
 use Rattle.rustc_lexer_c.specs.{declared.escapes.CUnit.{CUnit}, Escapes.{IsUnits, units_of, wrong_unit, wrong_units_of}}
-use Rattle.rustc_lexer_c.proofs.BufferLemmas.{all_taken, back_step, buffer_filled, count_second, few_step, front_step, left_step}
+use Rattle.rustc_lexer_c.proofs.BufferLemmas.{
+    all_taken, back_step, buffer_filled, count_second, few_step, front_step, left_step
+}
 
 -- what is left past one more, if there is one
-pub passed_step : {X : Type 0} (all at past : List X) (over : ℕ) (next : Option X) → at ≡ drop over all → TakesFirst at next past → past ≡ drop (over + 1) all
+pub passed_step : {X : Type 0} (all at past : List X) (over : ℕ) (next : Option X) → at ≡ drop over all
+    → TakesFirst at next past → past ≡ drop (over + 1) all
 passed_step all at past over None is taken = taken.1 ∙ (ap (drop 1) (sym taken.0 ∙ is) ∙ drop-drop 1 over all)
 passed_step all at past over (Some x) is taken = left_step all past over x (sym is ∙ taken)
 
@@ -27,11 +33,13 @@ units_done all passed buffer old count front back is = grind (arith, common_step
 pub none_left : (all at past : List CUnit) (over passed : ℕ) (buffer : List CUnit) (next : Option CUnit)
     → at ≡ drop over all → over ≤ passed → is_some next ≡ false → TakesFirst at next past
     → IsUnits all passed buffer buffer 0
-none_left all at past over passed buffer next is low none taken = grind (arith, common_steps, all_taken, units_done, count_second)
+none_left all at past over passed buffer next is low none taken =
+    grind (arith, common_steps, all_taken, units_done, count_second)
 
 unix-shorter : (s : List ℕ) → length (unix s) ≤ length s
 unix-shorter [] = omega arith
-unix-shorter (c ∷ s) = let rest = unix-shorter s in by_either (ends_line c s) (λ e. rw e (omega (arith, rest))) (λ e. rw e (omega (arith, rest)))
+unix-shorter (c ∷ s) = let rest = unix-shorter s in
+    by_either (ends_line c s) (λ e. rw e (omega (arith, rest))) (λ e. rw e (omega (arith, rest)))
 
 -- there are no more of them than bytes, or one
 pub units_few : (mode : Mode) (text : List ℕ) → IsUtf8 text → length (units_of mode text) ≤ max 1 (length text)
@@ -39,6 +47,8 @@ units_few mode text is = grind (arith, common_steps, cond_both, le-max_left, ite
 
 pub errors_few : (mode : Mode) (text : List ℕ) → IsUtf8 text → length (wrong_units_of mode text) ≤ max 1 (length text)
 errors_few mode text is =
-    omega (arith, errors_of-few mode (unix text) (utf8-unix text is), unix-shorter text, length-map {B = Error} (errors_of mode (unix text)) (λ (e : Error). (moved text e.0, e.1)), length-map (file_errors mode text) (λ (e : Error). wrong_unit e.0 e.1))
+    omega (arith, errors_of-few mode (unix text) (utf8-unix text is), unix-shorter text,
+        length-map {B = Error} (errors_of mode (unix text)) (λ (e : Error). (moved text e.0, e.1)),
+        length-map (file_errors mode text) (λ (e : Error). wrong_unit e.0 e.1))
 
 pub ruleset fill_lemmas = (passed_step, few_step, length-set, front_step, back_step)

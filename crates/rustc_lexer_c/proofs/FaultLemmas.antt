@@ -4,7 +4,9 @@ use Rattle.std.proofs.lemmas.Grind.{common_steps}
 use Rattle.rustc_lexer.specs.declared.{edition.{Edition.{Edition, TheVariants.{E2024}}}, token.Token.{Token}}
 use Rattle.rustc_lexer.specs.declared.token.Base.TheVariants.{Binary, Octal, Decimal, Hexadecimal}
 use Rattle.rustc_lexer.specs.declared.token.LiteralKind.{LiteralKind}
-use Rattle.rustc_lexer.specs.declared.token.LiteralKind.TheVariants.{Int, Float, Char, Byte, Str, ByteStr, CStr, RawStr, RawByteStr, RawCStr}
+use Rattle.rustc_lexer.specs.declared.token.LiteralKind.TheVariants.{
+    Int, Float, Char, Byte, Str, ByteStr, CStr, RawStr, RawByteStr, RawCStr
+}
 use Rattle.rustc_lexer.specs.declared.token.TokenKind.{TokenKind, TheVariants.{Literal}}
 use Rattle.rustc_lexer.specs.Kinds.{kind_entry, literal_entry}
 use Rattle.rustc_lexer_c.specs.{declared.token.CToken.{CToken}, Faults.{kind_of}}
@@ -14,9 +16,11 @@ use Rattle.marks.specs.{Class.{class_of}, Fault.{fault_of}}
 abbrev AreKept : TokenKind → ℕ → List ℕ → Edition → Type 0
 AreKept kind len text edition =
     let numbers : CToken = token_numbers record { kind = kind; len = len } in
-    (class_of (kind_of numbers) text edition ≡ class_of kind text edition) × (fault_of (kind_of numbers) text ≡ fault_of kind text)
+    (class_of (kind_of numbers) text edition ≡ class_of kind text edition)
+        × (fault_of (kind_of numbers) text ≡ fault_of kind text)
 
-literal_kept : (kind : LiteralKind) (suffix_start len : ℕ) (text : List ℕ) (edition : Edition) → AreKept (Literal kind suffix_start) len text edition
+literal_kept : (kind : LiteralKind) (suffix_start len : ℕ) (text : List ℕ) (edition : Edition)
+    → AreKept (Literal kind suffix_start) len text edition
 unfolding kind_entry literal_entry token_numbers first_of second_of third_of literal_second literal_third
 literal_kept (Int Binary true) s len text edition = (refl, refl)
 literal_kept (Int Octal true) s len text edition = (refl, refl)
@@ -56,8 +60,12 @@ unfolding kind_entry token_numbers first_of second_of third_of
 are_kept (Literal kind suffix_start) len text edition = literal_kept kind suffix_start len text edition
 are_kept kind len text edition = grind (arith, common_steps, literal_kept)
 
-pub same_class : (it : Token) (token : CToken) (text : List ℕ) (edition : Edition) → token_numbers it ≡ token → class_of (kind_of token) text edition ≡ class_of it.kind text edition
-same_class it token text edition same = ap (λ (t : CToken). class_of (kind_of t) text edition) (sym same) ∙ (are_kept it.kind it.len text edition).0
+pub same_class : (it : Token) (token : CToken) (text : List ℕ) (edition : Edition) → token_numbers it ≡ token
+    → class_of (kind_of token) text edition ≡ class_of it.kind text edition
+same_class it token text edition same = ap (λ (t : CToken). class_of (kind_of t) text edition) (sym same)
+    ∙ (are_kept it.kind it.len text edition).0
 
-pub same_fault : (it : Token) (token : CToken) (text : List ℕ) → token_numbers it ≡ token → fault_of (kind_of token) text ≡ fault_of it.kind text
-same_fault it token text same = ap (λ (t : CToken). fault_of (kind_of t) text) (sym same) ∙ (are_kept it.kind it.len text E2024).1
+pub same_fault : (it : Token) (token : CToken) (text : List ℕ) → token_numbers it ≡ token
+    → fault_of (kind_of token) text ≡ fault_of it.kind text
+same_fault it token text same = ap (λ (t : CToken). fault_of (kind_of t) text) (sym same)
+    ∙ (are_kept it.kind it.len text E2024).1

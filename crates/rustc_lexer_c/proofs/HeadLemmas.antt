@@ -1,5 +1,7 @@
 -- The head of a document as numbers, and back.
-use Rattle.std.proofs.Common.{◌≡◌, ℕ, zero, suc, Bool, true, not, List, drop, nat_eq, refl, sym, ap, ◌∙◌, subst, arith, Option, Some, None}
+use Rattle.std.proofs.Common.{
+    ◌≡◌, ℕ, zero, suc, Bool, true, not, List, drop, nat_eq, refl, sym, ap, ◌∙◌, subst, arith, Option, Some, None
+}
 use Rattle.std.proofs.lemmas.Grind.{common_steps}
 use Rattle.rustc_lexer.specs.declared.{head.Head.{Head}, relex.relexing.Change.{Change}, token.Token.{Token}}
 use Rattle.rustc_lexer.specs.{declared.token.TokenKind.{TokenKind}, Answers.{first_in}, Classes.{IsText}}
@@ -14,17 +16,24 @@ use Rattle.rustc_lexer_c.specs.{Numbers.{bool_number, first_of, second_of, token
 bool-back : (b : Bool) → not (nat_eq (bool_number b) 0) ≡ b
 bool-back b = grind (arith, common_steps)
 
-kind-back : (kind : TokenKind) (len : ℕ) → is_frontmatter kind ≡ true → frontmatter_of (token_numbers (record { kind = kind; len = len })) ≡ record { kind = kind; len = len }
+kind-back : (kind : TokenKind) (len : ℕ) → is_frontmatter kind ≡ true
+    → frontmatter_of (token_numbers (record { kind = kind; len = len })) ≡ record { kind = kind; len = len }
 unfolding token_numbers first_of second_of
 kind-back kind len w2 = grind (arith, common_steps, bool-back)
 
 -- the numbers of a frontmatter tell it, and so those of a head
-back_with : (n end space : ℕ) (front : Option Token) → (front ≡ None → space ≡ 0) → ((t : Token) → front ≡ Some t → is_frontmatter t.kind ≡ true)
-    → head_of (numbers_of_head (record { tokens_start = n; space_len = space; frontmatter = front; body = end })) ≡ record { tokens_start = n; space_len = space; frontmatter = front; body = end }
+back_with : (n end space : ℕ) (front : Option Token) → (front ≡ None → space ≡ 0)
+    → ((t : Token) → front ≡ Some t → is_frontmatter t.kind ≡ true)
+    → head_of (numbers_of_head (record { tokens_start = n; space_len = space; frontmatter = front; body = end })) ≡
+        record { tokens_start = n; space_len = space; frontmatter = front; body = end }
 unfolding token_numbers first_of second_of
 back_with n end space None bare is = rw (bare refl) refl
-back_with n end zero (Some t) bare is = ap (λ (f : Token). let h : Head = record { tokens_start = n; space_len = 0; frontmatter = Some f; body = end } in h) (kind-back t.kind t.len (is t refl))
-back_with n end (suc m) (Some t) bare is = ap (λ (f : Token). let h : Head = record { tokens_start = n; space_len = suc m; frontmatter = Some f; body = end } in h) (kind-back t.kind t.len (is t refl))
+back_with n end zero (Some t) bare is =
+    ap (λ (f : Token). let h : Head = record { tokens_start = n; space_len = 0; frontmatter = Some f; body = end } in
+    h) (kind-back t.kind t.len (is t refl))
+back_with n end (suc m) (Some t) bare is =
+    ap (λ (f : Token). let h : Head = record { tokens_start = n; space_len = suc m; frontmatter = Some f;
+    body = end } in h) (kind-back t.kind t.len (is t refl))
 
 module _ (text : List ℕ) (is : IsText text) where
   -- a head of the text has the numbers of the text
@@ -45,31 +54,40 @@ first = first_in newest
 
 -- what `change_to` promises of each text before
 abbrev pub Changes : CHead → CEdit → Head → Bool → Change → Type 0
-Changes c edit now keeps change = (first : List ℕ → Token) (before insert text : List ℕ) → IsGrammar first → IsEditOf before (change_of edit) insert text → IsHeadOf before (head_of c) → IsHeadOf text now → IsBodyChange first before (change_of edit) insert text keeps change
+Changes c edit now keeps change = (first : List ℕ → Token) (before insert text : List ℕ) → IsGrammar first
+    → IsEditOf before (change_of edit) insert text → IsHeadOf before (head_of c) → IsHeadOf text now
+    → IsBodyChange first before (change_of edit) insert text keeps change
 
 module _ (text : List ℕ) (is : IsText text) (edit : CEdit) (c : CHead) (body : CEdit) (kept : ℕ) where
   -- the old numbers tell the old head
-  of_old : (before insert : List ℕ) → IsEditOf before (change_of edit) insert text → c ≡ head_numbers before → IsHeadOf before (head_of c)
-  of_old before insert e same = subst (λ (n : CHead). IsHeadOf before (head_of n)) (sym same) (head_back before e.is_text)
+  of_old : (before insert : List ℕ) → IsEditOf before (change_of edit) insert text → c ≡ head_numbers before
+      → IsHeadOf before (head_of c)
+  of_old before insert e same =
+      subst (λ (n : CHead). IsHeadOf before (head_of n)) (sym same) (head_back before e.is_text)
 
-  refused_with : ((before insert : List ℕ) → IsEditOf before (change_of edit) insert text → c ≡ head_numbers before → ⊥) → FindsHead text edit c c body body kept kept 6
+  refused_with : ((before insert : List ℕ) → IsEditOf before (change_of edit) insert text → c ≡ head_numbers before → ⊥)
+      → FindsHead text edit c c body body kept kept 6
   refused_with none = grind (arith, common_steps)
 
   pub refused_edit : ¬ (IsChange text (change_of edit)) → FindsHead text edit c c body body kept kept 6
   refused_edit not = refused_with (λ before insert e same. not (made_change e))
 
-  module _ (now : Head) (keeps : Bool) (change : Change) (is_now : IsHeadOf text now) (all : Changes c edit now keeps change) where
+  module _ (now : Head) (keeps : Bool) (change : Change) (is_now : IsHeadOf text now)
+      (all : Changes c edit now keeps change) where
     pub refused_body : ¬ (IsChange (drop now.body text) change) → FindsHead text edit c c body body kept kept 6
     refused_body not = refused_with (λ before insert e same.
         let b = all first before insert text (edition_grammar newest) e (of_old before insert e same) is_now in
         not (subst (λ (n : ℕ). IsChange (drop n text) change) (sym is_now.end_is) (made_change b.made_of.edit_of)))
 
     pub found : IsChange text (change_of edit) → IsChange (drop now.body text) change
-        → FindsHead text edit c (numbers_of_head now) body (record { start = change.start; old_stop = change.old_stop; new_stop = change.new_stop }) kept (bool_number keeps) 0
+        → FindsHead text edit c (numbers_of_head now) body
+            (record { start = change.start; old_stop = change.old_stop; new_stop = change.new_stop }) kept
+            (bool_number keeps) 0
     found fine may = record {
       status_is = grind (arith, common_steps);
       head = λ _. numbers_are text is now is_now;
       may_relex = λ _. subst (λ (n : ℕ). IsChange (drop n text) change) is_now.end_is may;
-      change = λ _ grammar before insert law e same. (keeps, refl, all grammar before insert text law e (of_old before insert e same) is_now);
+      change = λ _ grammar before insert law e same.
+          (keeps, refl, all grammar before insert text law e (of_old before insert e same) is_now);
       refused = λ not. absurd (not refl);
     }

@@ -1,5 +1,8 @@
 -- What many writes into a buffer of a caller's come to.
-use Rattle.std.proofs.Common.{◌≡◌, ◌≤◌, ◌+◌, ◌-◌, ℕ, List, [], ◌∷◌, length, take, drop, ◌++◌, refl, sym, ap, subst, ◌∙◌, arith, append_assoc, append-nil}
+use Rattle.std.proofs.Common.{
+    ◌≡◌, ◌≤◌, ◌+◌, ◌-◌, ℕ, List, [], ◌∷◌, length, take, drop, ◌++◌, refl, sym, ap, subst, ◌∙◌, arith, append_assoc,
+    append-nil
+}
 use Rattle.std.proofs.lemmas.{Grind.{common_steps}, List.{drop-drop, length-take-le}}
 use Rattle.std.proofs.lemmas.Slice.{drop-put_mid, take-put_mid}
 use borrow.Rule.Slice.PartMut.{put_mid}
@@ -27,10 +30,15 @@ drop_later m n xs ys low same =
     rw whole (sym (drop-drop (n - m) m xs) ∙ (ap (drop (n - m)) same ∙ drop-drop (n - m) m ys))
 
 -- some writes are one of all their bytes
-appends_all : (s : Buffer) (parts : List (List ℕ)) (t : Buffer) → s.len ≤ length s.bytes.now → FoldsTo Appends s parts t → Appends s (concat parts) t
-appends_all s [] t low is = subst (Appends s []) is record { same_reference = refl; within = low; more = omega arith; written = sym (append-nil _); rest = refl }
-appends_all s (x ∷ xs) t low p = grind (arith, common_steps, append_assoc, drop_later, appends_all p.0 xs t (p.1).within p.2)
+appends_all : (s : Buffer) (parts : List (List ℕ)) (t : Buffer) → s.len ≤ length s.bytes.now → FoldsTo Appends s parts t
+    → Appends s (concat parts) t
+appends_all s [] t low is =
+    subst (Appends s []) is record { same_reference = refl; within = low; more = omega arith;
+    written = sym (append-nil _); rest = refl }
+appends_all s (x ∷ xs) t low p =
+    grind (arith, common_steps, append_assoc, drop_later, appends_all p.0 xs t (p.1).within p.2)
 
 -- all that is written of a buffer of which nothing was, which stays the same one of the caller's
-pub written_front : (s : Buffer) (bytes : List ℕ) (t : Buffer) → s.len ≡ 0 → WritesInCalls Appends s bytes t → (t.bytes.ghost_name ≡ s.bytes.ghost_name) × IsFront bytes s.bytes.now t.bytes.now t.len
+pub written_front : (s : Buffer) (bytes : List ℕ) (t : Buffer) → s.len ≡ 0 → WritesInCalls Appends s bytes t
+    → (t.bytes.ghost_name ≡ s.bytes.ghost_name) × IsFront bytes s.bytes.now t.bytes.now t.len
 written_front s bytes t none writes = grind (arith, common_steps, appends_all)

@@ -1,6 +1,9 @@
 -- How far a text is relexed, as numbers and back.
 use Rattle.std.specs.Prelude.{IfSome}
-use Rattle.std.proofs.Common.{◌≡◌, ◌≢◌, ℕ, ◌+◌, ◌-◌, ◌<◌, ◌≤◌, true, List, ◌++◌, length, map, take, drop, refl, sym, ap, ◌∙◌, subst, arith, take-add, Option, Some, None}
+use Rattle.std.proofs.Common.{
+    ◌≡◌, ◌≢◌, ℕ, ◌+◌, ◌-◌, ◌<◌, ◌≤◌, true, List, ◌++◌, length, map, take, drop, refl, sym, ap, ◌∙◌, subst, arith,
+    take-add, Option, Some, None
+}
 use Rattle.std.proofs.lemmas.{Grind.{common_steps}, List.{length-map, length-take-le, drop_at, take-map, drop-map}}
 use Rattle.rustc_lexer.specs.declared.{edition.Edition.{Edition}, relex.relexing.Relexed.{Relexed}}
 use Rattle.rustc_lexer.specs.declared.{relex.relexing.Relexing.{Relexing}, token.Token.{Token}}
@@ -9,10 +12,14 @@ use Rattle.rustc_lexer.specs.{Edits.{IsRelexed, part_by}, Relexing.{known}}
 use Rattle.rustc_lexer.specs.Relexing.{IsChange, IsMadeOf, IsUnderWay, IsWhole, MayGoOn, TakesSteps, is_over}
 use Rattle.rustc_lexer.specs.{Classes.{IsText}, LanguageCalls.{edition_of_year}}
 use Rattle.rustc_lexer.specs.{Locality.{IsGrammar}, laws.Edition.{edition_grammar}}
-use Rattle.rustc_lexer.proofs.lemmas.edits.{OneAnswer.{counts_of, relexed_is}, UnderWay.{over_met, few_lexed, counts_met}}
+use Rattle.rustc_lexer.proofs.lemmas.edits.{
+    OneAnswer.{counts_of, relexed_is}, UnderWay.{over_met, few_lexed, counts_met}
+}
 use Rattle.rustc_lexer_c.specs.declared.{relex.{CEdit.{CEdit}, CRelexing.{CRelexing}}, token.CToken.{CToken}}
 use Rattle.rustc_lexer_c.specs.Numbers.{token_numbers}
-use Rattle.rustc_lexer_c.specs.Relex.{IsPassed, IsRelexBatch, MayRelex, Relexes, change_of, front_of, lexed_before, numbers_of, relexing_of, written}
+use Rattle.rustc_lexer_c.specs.Relex.{
+    IsPassed, IsRelexBatch, MayRelex, Relexes, change_of, front_of, lexed_before, numbers_of, relexing_of, written
+}
 
 -- what follows for the value of an `Option`, if there is one
 pub if_some : {X : Type 0} {P Q : X → Type 0} (r : Option X) → IfSome r P → ((x : X) → P x → Q x) → IfSome r Q
@@ -28,7 +35,8 @@ pub none_some : {X : Type 0} {x : X} → Some x ≡ None → ⊥
 none_some e = grind (arith, common_steps)
 
 -- the numbers are those of where it stands
-relex_back : (text : List ℕ) (n : ℕ) (at : Relexing) → at.back.index ≤ n → is_over text at ≡ at.met → relexing_of n (numbers_of text n at) ≡ at
+relex_back : (text : List ℕ) (n : ℕ) (at : Relexing) → at.back.index ≤ n → is_over text at ≡ at.met
+    → relexing_of n (numbers_of text n at) ≡ at
 relex_back text n at few over = grind (arith, common_steps)
 
 -- what this call wrote comes behind what was written
@@ -45,14 +53,16 @@ list_whole : (tokens new : List Token) (at : Relexing) (n : ℕ) (old : List CTo
     → take at.front.index old ++ (written new at.front.index at.lexed ++ drop n old) ≡ map token_numbers new
 list_whole tokens new at n old same e whole = grind (arith, common_steps, take-map, drop-map)
 
-module _ (edition : Edition) (text : List ℕ) (old : List CToken) (change : CEdit) (c : CRelexing) (buffer filled : List CToken) (count : ℕ) (begin at : Relexing) where
+module _ (edition : Edition) (text : List ℕ) (old : List CToken) (change : CEdit) (c : CRelexing)
+    (buffer filled : List CToken) (count : ℕ) (begin at : Relexing) where
   abbrev pub lens : List ℕ
   lens = map (λ (t : CToken). t.len) old
 
   abbrev pub first : List ℕ → Token
   first = first_in edition
 
-  pub over_is : (before insert : List ℕ) → IsMadeOf first before lens (change_of change) insert text → IsUnderWay first before (change_of change) text at → is_over text at ≡ at.met
+  pub over_is : (before insert : List ℕ) → IsMadeOf first before lens (change_of change) insert text
+      → IsUnderWay first before (change_of change) text at → is_over text at ≡ at.met
   over_is before insert is stands =
       let law = edition_grammar edition in grind (arith, common_steps, over_met law is stands)
 
@@ -60,8 +70,13 @@ module _ (edition : Edition) (text : List ℕ) (old : List CToken) (change : CEd
       → filled ≡ map token_numbers (take count (tokens_by first (drop begin.at text))) ++ drop count buffer
       → MayGoOn text (length old) at → (count < length buffer → is_over text at ≡ true) → begin.lexed ≡ lexed_before c
       → (c.stage ≢ 0 → begin.front ≡ front_of c)
-      → ((first : List ℕ → Token) (before insert : List ℕ) → IsGrammar first → IsMadeOf first before lens (change_of change) insert text → IsPassed first before (change_of change) text (length old) c → IsUnderWay first before (change_of change) text begin)
-      → ((before insert : List ℕ) → IsMadeOf first before lens (change_of change) insert text → IsUnderWay first before (change_of change) text begin → IsUnderWay first before (change_of change) text at × (tokens_by first (drop begin.at text) ≡ drop (known begin) (tokens_by first text)))
+      → ((first : List ℕ → Token) (before insert : List ℕ) → IsGrammar first
+          → IsMadeOf first before lens (change_of change) insert text
+          → IsPassed first before (change_of change) text (length old) c
+          → IsUnderWay first before (change_of change) text begin)
+      → ((before insert : List ℕ) → IsMadeOf first before lens (change_of change) insert text
+          → IsUnderWay first before (change_of change) text begin → IsUnderWay first before (change_of change) text at
+          × (tokens_by first (drop begin.at text) ≡ drop (known begin) (tokens_by first text)))
       → IsRelexBatch edition text old change c buffer (numbers_of text (length old) at) filled count
   batch_is within steps tokens may over_of before_lexed begun_front begun stands = record {
     within = within;
@@ -82,9 +97,13 @@ module _ (edition : Edition) (text : List ℕ) (old : List CToken) (change : CEd
         let number = ap (λ b. b.index) steps.front in
         let at_begin : known begin ≡ at.front.index + lexed_before c = omega arith in
         let many : length lens ≡ length old = length-map old (λ (t : CToken). t.len) in
-        let all : length (tokens_by first before) ≡ length old = sym (length-map (tokens_by first before) (λ (t : Token). t.len)) ∙ (ap (λ (ns : List ℕ). length ns) (sym is.lengths_are) ∙ many) in
-        let left : tokens_by first (drop begin.at text) ≡ drop (at.front.index + lexed_before c) (tokens_of (part edition) text) = so.1 ∙ ap (λ n. drop n (tokens_of (part edition) text)) at_begin in
-        let filled_is = tokens ∙ ap (λ (ts : List Token). map token_numbers (take count ts) ++ drop count buffer) left in
+        let all : length (tokens_by first before) ≡ length old =
+            sym (length-map (tokens_by first before) (λ (t : Token). t.len))
+            ∙ (ap (λ (ns : List ℕ). length ns) (sym is.lengths_are) ∙ many) in
+        let left : tokens_by first (drop begin.at text) ≡ drop (at.front.index + lexed_before c)
+            (tokens_of (part edition) text) = so.1 ∙ ap (λ n. drop n (tokens_of (part edition) text)) at_begin in
+        let filled_is = tokens ∙ ap (λ (ts : List Token). map token_numbers (take count ts) ++ drop count buffer)
+            left in
         let back : length old - (length old - at.back.index) ≡ at.back.index = (let few = may.number in omega arith) in
         record {
           passed = record {
@@ -92,10 +111,16 @@ module _ (edition : Edition) (text : List ℕ) (old : List CToken) (change : CEd
             under_way = λ _. subst (IsUnderWay first before (change_of change) text) (sym same) so.0;
           };
           tokens = filled_is;
-          more = written_more (tokens_of (part edition) text) at.front.index (lexed_before c) count at.lexed buffer filled (omega arith) so.0.inside filled_is;
+          more = written_more (tokens_of (part edition) text) at.front.index (lexed_before c) count at.lexed buffer
+              filled (omega arith) so.0.inside filled_is;
           few = (found.0, counted, few_lexed law is so.0 found.0 counted);
-          counts = λ e. subst (λ (n : ℕ). let r : Relexed = record { kept_front = at.front.index; lexed = at.lexed; kept_back = n - at.back.index } in IsRelexed (part_by first) before change.start change.old_stop insert r) all (met (grind (arith, common_steps))).0;
-          list = λ e are. list_whole (tokens_by first before) (tokens_by first text) at (length old - (length old - at.back.index)) old back are (met (grind (arith, common_steps))).1;
+          counts = λ e. subst
+              (λ (n : ℕ). let r : Relexed = record
+              { kept_front = at.front.index; lexed = at.lexed; kept_back = n - at.back.index } in
+              IsRelexed (part_by first) before change.start change.old_stop insert r) all
+              (met (grind (arith, common_steps))).0;
+          list = λ e are. list_whole (tokens_by first before) (tokens_by first text) at
+              (length old - (length old - at.back.index)) old back are (met (grind (arith, common_steps))).1;
         };
   }
 
@@ -106,8 +131,13 @@ module _ (edition : Edition) (text : List ℕ) (old : List CToken) (change : CEd
       → filled ≡ map token_numbers (take count (tokens_by first (drop begin.at text))) ++ drop count buffer
       → MayGoOn text (length old) at → (count < length buffer → is_over text at ≡ true) → begin.lexed ≡ lexed_before c
       → (c.stage ≢ 0 → begin.front ≡ front_of c)
-      → ((first : List ℕ → Token) (before insert : List ℕ) → IsGrammar first → IsMadeOf first before lens (change_of change) insert text → IsPassed first before (change_of change) text (length old) c → IsUnderWay first before (change_of change) text begin)
-      → ((before insert : List ℕ) → IsMadeOf first before lens (change_of change) insert text → IsUnderWay first before (change_of change) text begin → IsUnderWay first before (change_of change) text at × (tokens_by first (drop begin.at text) ≡ drop (known begin) (tokens_by first text)))
+      → ((first : List ℕ → Token) (before insert : List ℕ) → IsGrammar first
+          → IsMadeOf first before lens (change_of change) insert text
+          → IsPassed first before (change_of change) text (length old) c
+          → IsUnderWay first before (change_of change) text begin)
+      → ((before insert : List ℕ) → IsMadeOf first before lens (change_of change) insert text
+          → IsUnderWay first before (change_of change) text begin → IsUnderWay first before (change_of change) text at
+          × (tokens_by first (drop begin.at text) ≡ drop (known begin) (tokens_by first text)))
       → Relexes text old change year c (numbers_of text (length old) at) buffer filled count 0
   relexed is year year_is asked within steps tokens may over_of before_lexed begun_front begun stands = record {
     status_is = record {

@@ -3,7 +3,8 @@ use Rattle.std.proofs.Common.{◌≡◌, ℕ, ◌+◌, ◌-◌, ◌≤◌, List,
 use Rattle.std.proofs.lemmas.List.{drop-take, length-take-le, take-append-le, take-take, Edits.{take-paste}}
 use Rattle.std.proofs.Math.Seq.{drop-append_seam, paste, take-append-add}
 
-module _ {X : Type 0} (xs ys : List X) (front back count : ℕ) (apart : front + back ≤ count) (inside : count ≤ length xs) (room : front + length ys + back ≤ length xs) where
+module _ {X : Type 0} (xs ys : List X) (front back count : ℕ) (apart : front + back ≤ count)
+    (inside : count ≤ length xs) (room : front + length ys + back ≤ length xs) where
   abbrev end : ℕ
   end = front + length ys
 
@@ -15,7 +16,8 @@ module _ {X : Type 0} (xs ys : List X) (front back count : ℕ) (apart : front +
   moved = paste xs end (drop (count - back) xs) back
 
   last_of : drop (count - back) (take count xs) ≡ last
-  last_of = let all : count ≡ count - back + back = omega arith in ap (λ n. drop (count - back) (take n xs)) all ∙ drop-take (count - back) back xs
+  last_of = let all : count ≡ count - back + back = omega arith in
+      ap (λ n. drop (count - back) (take n xs)) all ∙ drop-take (count - back) back xs
 
   many : back ≤ length (drop (count - back) xs)
   many = omega (arith, length-drop (count - back) xs)
@@ -27,10 +29,14 @@ module _ {X : Type 0} (xs ys : List X) (front back count : ℕ) (apart : front +
   end_fits = length-take-le end xs (omega arith)
 
   front_of : take front moved ≡ take front xs
-  front_of = sym (take-take front (end + back) moved (omega arith)) ∙ (ap (λ l. take front l) moved_is ∙ (take-append-le front (take end xs) last (omega (arith, end_fits)) ∙ take-take front end xs (omega arith)))
+  front_of = sym (take-take front (end + back) moved (omega arith))
+      ∙ (ap (λ l. take front l) moved_is
+      ∙ (take-append-le front (take end xs) last (omega (arith, end_fits)) ∙ take-take front end xs (omega arith)))
 
   back_of : take back (drop end moved) ≡ last
-  back_of = sym (drop-take end back moved) ∙ (ap (λ l. drop end l) moved_is ∙ (ap (λ n. drop n (take end xs ++ last)) (sym end_fits) ∙ drop-append_seam (take end xs) last))
+  back_of = sym (drop-take end back moved)
+      ∙ (ap (λ l. drop end l) moved_is
+      ∙ (ap (λ n. drop n (take end xs ++ last)) (sym end_fits) ∙ drop-append_seam (take end xs) last))
 
   front_fits : length (take front moved) ≡ front
   front_fits = ap (λ (l : List X). length l) front_of ∙ length-take-le front xs (omega arith)
@@ -46,5 +52,7 @@ module _ {X : Type 0} (xs ys : List X) (front back count : ℕ) (apart : front +
       ap (λ l. take (end + back) l) (put ∙ ap (λ l. take front l ++ (ys ++ drop end l)) same)
       ∙ (ap (λ n. take n (take front moved ++ rest)) sum
       ∙ (take-append-add (take front moved) rest (length ys + back)
-      ∙ (ap (λ l. take front moved ++ l) (take-append-add ys (drop end moved) back ∙ ap (λ l. ys ++ l) (back_of ∙ sym last_of))
-      ∙ ap (λ l. l ++ (ys ++ drop (count - back) (take count xs))) (front_of ∙ sym (take-take front count xs (omega arith))))))
+      ∙ (ap (λ l. take front moved ++ l)
+          (take-append-add ys (drop end moved) back ∙ ap (λ l. ys ++ l) (back_of ∙ sym last_of))
+      ∙ ap (λ l. l ++ (ys ++ drop (count - back) (take count xs)))
+          (front_of ∙ sym (take-take front count xs (omega arith))))))

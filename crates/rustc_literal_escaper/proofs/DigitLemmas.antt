@@ -1,28 +1,37 @@
 -- The digits between braces, one by one, and the tables of digits and of the escapes of one character.
-use Rattle.std.proofs.Common.{◌≡◌, ℕ, zero-add, add-zero, ◌+◌, ◌*◌, ◌^◌, ◌<◌, ◌≤◌, ◌==◌, ◌||◌, Bool, true, false, if◌then◌else◌, List, [], ◌∷◌, length, fold, filter, refl, sym, ap, ◌∙◌, subst, arith, nat_le, nat_lt, min, get_or}
+use Rattle.std.proofs.Common.{
+    ◌≡◌, ℕ, zero-add, add-zero, ◌+◌, ◌*◌, ◌^◌, ◌<◌, ◌≤◌, ◌==◌, ◌||◌, Bool, true, false, if◌then◌else◌, List, [], ◌∷◌,
+    length, fold, filter, refl, sym, ap, ◌∙◌, subst, arith, nat_le, nat_lt, min, get_or
+}
 use Rattle.std.specs.Char.{digit_value}
 use Rattle.std.proofs.{lemmas.{Bool.{ne_eqb, Decides.{nat_tests}}}, Math.Nat.{pow-le-pow_right}}
 use Rattle.std.proofs.lemmas.{Grind.{common_steps}, List.FromFn.{get_or-map-range_with_len}}
 use Rattle.rustc_literal_escaper.specs.declared.element.Element.{Element, TheVariants.{Unicode, Fault}}
-use Rattle.rustc_literal_escaper.specs.declared.error.EscapeError.TheVariants.{InvalidCharInUnicodeEscape, UnclosedUnicodeEscape, OverlongUnicodeEscape}
+use Rattle.rustc_literal_escaper.specs.declared.error.EscapeError.TheVariants.{
+    InvalidCharInUnicodeEscape, UnclosedUnicodeEscape, OverlongUnicodeEscape
+}
 use Rattle.rustc_literal_escaper.specs.{Grammar.{is_hex, is_digit_or_underscore}, laws.Escape.{digit-runs}}
 use Rattle.rustc_literal_escaper.specs.means.Escape.{closed_at_run, front_run, past_run, short}
 use Rattle.rustc_literal_escaper.specs.declared.escape.TheConstants.{DIGITS, SHORT}
 
 -- one more digit has room in 24 bits
 pub with_room : (v n : ℕ) → v < 16 ^ min n 6 → n < 6 → v < 16 ^ 5
-with_room v n h l = let k : 16 ^ min n 6 ≤ 16 ^ 5 = pow-le-pow_right {n = 16} (omega arith) {i = min n 6} {j = 5} (omega arith) in omega arith
+with_room v n h l = let k : 16 ^ min n 6 ≤ 16 ^ 5 =
+    pow-le-pow_right {n = 16} (omega arith) {i = min n 6} {j = 5} (omega arith) in omega arith
 
 abbrev pub with_digit : ℕ → ℕ → ℕ → ℕ
 with_digit v n d = if nat_lt n 6 then v * 16 + d else v
 
 -- the number whose first `n` digits make `v`, and whose others are these
 abbrev pub number_past : ℕ → ℕ → List ℕ → Element
-number_past v n digits = if nat_le (n + length digits) 6 then Unicode (fold (λ value digit. value * 16 + digit_value digit) v digits) else Fault OverlongUnicodeEscape
+number_past v n digits =
+    if nat_le (n + length digits) 6 then Unicode (fold (λ value digit. value * 16 + digit_value digit) v digits) else
+    Fault OverlongUnicodeEscape
 
 abbrev pub closed_past : (ℕ → Bool) → ℕ → ℕ → List ℕ → List ℕ → Element × List ℕ
 closed_past h v n digits [] = (Fault UnclosedUnicodeEscape, [])
-closed_past h v n digits (c ∷ s) = (if c == 125 then number_past v n (filter h digits) else Fault InvalidCharInUnicodeEscape, s)
+closed_past h v n digits (c ∷ s) =
+    (if c == 125 then number_past v n (filter h digits) else Fault InvalidCharInUnicodeEscape, s)
 
 -- of any two classes: the same
 abbrev pub left_by : (ℕ → Bool) → (ℕ → Bool) → ℕ → ℕ → List ℕ → Element × List ℕ
@@ -44,23 +53,31 @@ pub left_at-underscore : (v n c : ℕ) (s : List ℕ) → c ≡ 95 → left_at v
 unfolding left_at
 left_at-underscore v n c s e = grind (arith, common_steps)
 
-pub left_at-brace : (v n c : ℕ) (s : List ℕ) → c ≡ 125 → left_at v n (c ∷ s) ≡ ((if nat_le n 6 then Unicode v else Fault OverlongUnicodeEscape), s)
+pub left_at-brace : (v n c : ℕ) (s : List ℕ) → c ≡ 125
+    → left_at v n (c ∷ s) ≡ ((if nat_le n 6 then Unicode v else Fault OverlongUnicodeEscape), s)
 unfolding left_at
-left_at-brace v n c s e = subst (λ (d : ℕ). left_at v n (d ∷ s) ≡ ((if nat_le n 6 then Unicode v else Fault OverlongUnicodeEscape), s)) (sym e) (rw (add-zero n) refl)
+left_at-brace v n c s e =
+    subst (λ (d : ℕ). left_at v n (d ∷ s) ≡ ((if nat_le n 6 then Unicode v else Fault OverlongUnicodeEscape), s))
+    (sym e) (rw (add-zero n) refl)
 
-by_digit : (p h : ℕ → Bool) (v n c : ℕ) (s : List ℕ) → p c ≡ true → h c ≡ true → left_by p h v n (c ∷ s) ≡ left_by p h (with_digit v n (digit_value c)) (n + 1) s
+by_digit : (p h : ℕ → Bool) (v n c : ℕ) (s : List ℕ) → p c ≡ true → h c ≡ true
+    → left_by p h v n (c ∷ s) ≡ left_by p h (with_digit v n (digit_value c)) (n + 1) s
 by_digit p h v n c s a b = grind (arith, common_steps, nat_tests)
 
-pub left_at-digit : (v n c : ℕ) (s : List ℕ) → is_hex c ≡ true → left_at v n (c ∷ s) ≡ left_at (with_digit v n (digit_value c)) (n + 1) s
+pub left_at-digit : (v n c : ℕ) (s : List ℕ) → is_hex c ≡ true
+    → left_at v n (c ∷ s) ≡ left_at (with_digit v n (digit_value c)) (n + 1) s
 unfolding left_at
 left_at-digit v n c s e = by_digit is_digit_or_underscore is_hex v n c s (digit-runs c e) e
 
-by_other : (p h : ℕ → Bool) (v n c : ℕ) (s : List ℕ) → p c ≡ false → (c == 125) ≡ false → left_by p h v n (c ∷ s) ≡ (Fault InvalidCharInUnicodeEscape, s)
+by_other : (p h : ℕ → Bool) (v n c : ℕ) (s : List ℕ) → p c ≡ false → (c == 125) ≡ false
+    → left_by p h v n (c ∷ s) ≡ (Fault InvalidCharInUnicodeEscape, s)
 by_other p h v n c s a b = rw a (rw b refl)
 
-pub left_at-other : (v n c : ℕ) (s : List ℕ) → (c ≡ 95 → ⊥) → (c ≡ 125 → ⊥) → is_hex c ≡ false → left_at v n (c ∷ s) ≡ (Fault InvalidCharInUnicodeEscape, s)
+pub left_at-other : (v n c : ℕ) (s : List ℕ) → (c ≡ 95 → ⊥) → (c ≡ 125 → ⊥) → is_hex c ≡ false
+    → left_at v n (c ∷ s) ≡ (Fault InvalidCharInUnicodeEscape, s)
 unfolding left_at
-left_at-other v n c s a b e = by_other is_digit_or_underscore is_hex v n c s (ap (λ x. x || is_hex c) (ne_eqb c 95 a) ∙ e) (ne_eqb c 125 b)
+left_at-other v n c s a b e =
+    by_other is_digit_or_underscore is_hex v n c s (ap (λ x. x || is_hex c) (ne_eqb c 95 a) ∙ e) (ne_eqb c 125 b)
 
 -- what a digit of `to_digit` is, and what is none
 pub hex-yes : (c : ℕ) → digit_value c < 16 → is_hex c ≡ true
@@ -74,15 +91,20 @@ pub left_at-first : (c : ℕ) (s : List ℕ) → is_hex c ≡ true → left_at (
 left_at-first c s e = grind (arith, common_steps, nat_tests, left_at-digit 0 0 c s e, left_at-start (c ∷ s), zero-add)
 
 -- past too many digits, one more changes nothing
-closed-many : (v n : ℕ) (d : ℕ) (run rest : List ℕ) → 6 < n → closed_past is_hex (with_digit v n d) (n + 1) run rest ≡ closed_past is_hex v n run rest
+closed-many : (v n : ℕ) (d : ℕ) (run rest : List ℕ) → 6 < n → closed_past is_hex (with_digit v n d) (n + 1) run rest ≡
+    closed_past is_hex v n run rest
 closed-many v n d run [] many = refl
 closed-many v n d run (c ∷ s) many = grind (arith, common_steps, nat_tests)
 
 pub left_at-many : (v n c : ℕ) (s : List ℕ) → 6 < n → is_hex c ≡ true → left_at v n s ≡ left_at v n (c ∷ s)
 unfolding left_at
-left_at-many v n c s many e = sym (by_digit is_digit_or_underscore is_hex v n c s (digit-runs c e) e ∙ closed-many v n (digit_value c) (front_run is_digit_or_underscore s) (past_run is_digit_or_underscore s) many)
+left_at-many v n c s many e =
+    sym (by_digit is_digit_or_underscore is_hex v n c s (digit-runs c e) e
+    ∙ closed-many v n (digit_value c) (front_run is_digit_or_underscore s) (past_run is_digit_or_underscore s) many)
 
-pub ruleset digit_lemmas = (left_at-start, left_at-end, left_at-underscore, left_at-brace, left_at-digit, left_at-first, left_at-other, left_at-many, hex-yes, hex-no)
+pub ruleset digit_lemmas =
+    (left_at-start, left_at-end, left_at-underscore, left_at-brace, left_at-digit, left_at-first, left_at-other,
+    left_at-many, hex-yes, hex-no)
 
 -- ---- the tables in ASCII; past it there are none
 

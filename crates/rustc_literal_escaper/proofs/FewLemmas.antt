@@ -25,10 +25,13 @@ few : {raw : Bool} {from : ℕ} {s : List ℕ} {items : List Item} → AreItems 
 few g.nothing = omega arith
 few (g.element {next} {w} is other are) = omega (arith, length-append w next, some is, few are)
 few (g.raw_element is are) = omega (arith, few are)
-few (g.line_end {from} {next} {items} space all stops are) = omega (arith, length-append {A = Item}, length-append space next, one (list_any is_newline space) (item from (Fault MultipleSkippedLinesWarning) (92 ∷ 10 ∷ space)), space-few from space next, few are)
+few (g.line_end {from} {next} {items} space all stops are) =
+    omega (arith, length-append {A = Item}, length-append space next, one (list_any is_newline space)
+    (item from (Fault MultipleSkippedLinesWarning) (92 ∷ 10 ∷ space)), space-few from space next, few are)
 
 pub items-few : (raw : Bool) (text : List ℕ) → IsUtf8 text → length (items_of raw text) ≤ length text
-items-few raw text is = omega (arith, few (items-are raw text is), length-le-encodes (chars text), ap length (encodes-chars text is))
+items-few raw text is =
+    omega (arith, few (items-are raw text is), length-le-encodes (chars text), ap length (encodes-chars text is))
 
 pub errors-few : (mode : Mode) (items : List Item) → length (errors_in mode items) ≤ length items
 errors-few mode [] = omega arith
@@ -39,4 +42,5 @@ alone-few error = grind (arith, common_steps)
 
 -- between single quotes there is at most one error
 pub errors_of-few : (mode : Mode) (text : List ℕ) → IsUtf8 text → length (errors_of mode text) ≤ max 1 (length text)
-errors_of-few mode text is = grind (arith, common_steps, errors_of-read, alone-few, le-max_left, errors-few, items-few, le-max_right)
+errors_of-few mode text is =
+    grind (arith, common_steps, errors_of-read, alone-few, le-max_left, errors-few, items-few, le-max_right)

@@ -15,15 +15,18 @@ pub record Passing (newline : Bool) (line left : List ℕ) : Type 0 where
   pub seen : newline_ahead line ≡ (newline || newline_ahead left)
   pub past : past_run is_passed_over line ≡ past_run is_passed_over left
 
-pub passing-step : (newline : Bool) (line left s : List ℕ) (c : ℕ) → Passing newline line left → left ≡ c ∷ s → is_passed_over c ≡ true → Passing (newline || (c == 10)) line s
+pub passing-step : (newline : Bool) (line left s : List ℕ) (c : ℕ) → Passing newline line left → left ≡ c ∷ s
+    → is_passed_over c ≡ true → Passing (newline || (c == 10)) line s
 unfolding newline_ahead
 passing-step newline line left s c at e is = grind (arith, common_steps, cond-true, or_assoc)
 
 -- where none stands next, all of it is seen
 abbrev pub Passed : Bool → List ℕ → List ℕ → Type 0
-Passed newline line left = (newline ≡ list_any is_newline (front_run is_passed_over line)) × (left ≡ past_run is_passed_over line)
+Passed newline line left = (newline ≡ list_any is_newline (front_run is_passed_over line))
+    × (left ≡ past_run is_passed_over line)
 
-pub passing-end : (newline : Bool) (line left : List ℕ) → Passing newline line left → front_run is_passed_over left ≡ [] → Passed newline line left
+pub passing-end : (newline : Bool) (line left : List ℕ) → Passing newline line left → front_run is_passed_over left ≡ []
+    → Passed newline line left
 unfolding newline_ahead
 passing-end newline line left at none = grind (arith, common_steps, run-cut is_passed_over left, or-false)
 

@@ -1,5 +1,8 @@
 -- Runs of simple characters, passed over.
-use Rattle.std.proofs.Common.{◌≡◌, ℕ, ◌≤◌, ◌==◌, nat_lt, not, Bool, true, List, ◌++◌, length, take, drop, None, arith, sym, ap, ◌∙◌, [], ◌∷◌, refl}
+use Rattle.std.proofs.Common.{
+    ◌≡◌, ℕ, ◌≤◌, ◌==◌, nat_lt, not, Bool, true, List, ◌++◌, length, take, drop, None, arith, sym, ap, ◌∙◌, [], ◌∷◌,
+    refl
+}
 use Rattle.std.specs.{Char.{is_ascii}, List.{list_all, prefix_len}}
 use Rattle.std.specs.Str.{chars, IsAscii, IsCharBoundary, IsUtf8}
 use Rattle.std.proofs.lemmas.{Bool.{and_parts, not-true}, List.{take-append-drop}}
@@ -12,40 +15,53 @@ use Rattle.rustc_literal_escaper.proofs.{LaneLemmas.{run_front}, WrittenLemmas.{
 use Rattle.rustc_literal_escaper.specs.means.Elements.{front_by, items_from}
 use Rattle.rustc_literal_escaper.proofs.ItemLemmas.{items-plain}
 
-pub simple-parts : (raw : Bool) (c : ℕ) → is_simple raw c ≡ true → (nat_lt c 128 ≡ true) × (not (c == 0) ≡ true) × (is_plain raw c ≡ true)
+pub simple-parts : (raw : Bool) (c : ℕ) → is_simple raw c ≡ true → (nat_lt c 128 ≡ true) × (not (c == 0) ≡ true)
+    × (is_plain raw c ≡ true)
 simple-parts raw c e = grind (arith, common_steps, and_parts)
 
 -- nothing is wrong with a simple character
-pub simple-fine : (mode : Mode) (raw : Bool) (c : ℕ) → is_simple raw c ≡ true → (is_plain raw c ≡ true) × (error_of mode (Plain c) ≡ None)
+pub simple-fine : (mode : Mode) (raw : Bool) (c : ℕ) → is_simple raw c ≡ true → (is_plain raw c ≡ true)
+    × (error_of mode (Plain c) ≡ None)
 simple-fine mode raw c e = grind (arith, common_steps, simple-parts, not-true)
 
 -- simple characters are bytes, and what follows them begins with a character
 pub simple-ascii : (raw : Bool) (bs : List ℕ) → list_all (is_simple raw) bs ≡ true → IsAscii bs
 simple-ascii raw bs e = is-ascii bs (all-weaker (is_simple raw) is_ascii (λ c f. (simple-parts raw c f).0) bs e)
 
-pub chars-simple : (raw : Bool) (run left : List ℕ) → list_all (is_simple raw) run ≡ true → chars (run ++ left) ≡ run ++ chars left
+pub chars-simple : (raw : Bool) (run left : List ℕ) → list_all (is_simple raw) run ≡ true
+    → chars (run ++ left) ≡ run ++ chars left
 chars-simple raw run left e =
     grind (arith, common_steps, simple-ascii raw run e, chars-append run left, IsUtf8-from_ascii run, chars-IsAscii run)
 
-pub passes-simple : (raw : Bool) (bs : List ℕ) (n : ℕ) → n ≤ prefix_len (is_simple raw) bs → Passes (is_simple raw) (chars bs) (chars (drop n bs))
+pub passes-simple : (raw : Bool) (bs : List ℕ) (n : ℕ) → n ≤ prefix_len (is_simple raw) bs
+    → Passes (is_simple raw) (chars bs) (chars (drop n bs))
 passes-simple raw bs n run =
     let all = run_front (is_simple raw) bs n run in
-    record { passed = take n bs; all = all; whole = ap chars (sym (take-append-drop n bs)) ∙ chars-simple raw (take n bs) (drop n bs) all }
+    record { passed = take n bs; all = all; whole = ap chars (sym (take-append-drop n bs))
+        ∙ chars-simple raw (take n bs) (drop n bs) all }
 
 pub passes-none : (raw : Bool) (s : List ℕ) → Passes (is_simple raw) s s
 passes-none raw s = record { passed = []; all = refl; whole = refl }
 
 -- so a text may be cut there
-pub cut-simple : (raw : Bool) (bs : List ℕ) (n : ℕ) → IsUtf8 bs → n ≤ length bs → n ≤ prefix_len (is_simple raw) bs → IsCharBoundary bs n
-cut-simple raw bs n is within run = IsCharBoundary-from_take bs n is within (IsUtf8-from_ascii (take n bs) (simple-ascii raw (take n bs) (run_front (is_simple raw) bs n run)))
+pub cut-simple : (raw : Bool) (bs : List ℕ) (n : ℕ) → IsUtf8 bs → n ≤ length bs → n ≤ prefix_len (is_simple raw) bs
+    → IsCharBoundary bs n
+cut-simple raw bs n is within run =
+    IsCharBoundary-from_take bs n is within
+    (IsUtf8-from_ascii (take n bs) (simple-ascii raw (take n bs) (run_front (is_simple raw) bs n run)))
 
 -- past them the errors are the same
 module _ (mode : Mode) (raw : Bool) (total : ℕ) where
-  errors-past : (passed left : List ℕ) → list_all (is_simple raw) passed ≡ true → errors_in mode (items_from (front_by raw) total left) ≡ errors_in mode (items_from (front_by raw) total (passed ++ left))
+  errors-past : (passed left : List ℕ) → list_all (is_simple raw) passed ≡ true
+      → errors_in mode (items_from (front_by raw) total left) ≡
+      errors_in mode (items_from (front_by raw) total (passed ++ left))
   errors-past [] left e = refl
-  errors-past (c ∷ cs) left e = grind (arith, common_steps, and_parts, items-plain, simple-fine mode raw c, errors-past cs left)
+  errors-past (c ∷ cs) left e =
+      grind (arith, common_steps, and_parts, items-plain, simple-fine mode raw c, errors-past cs left)
 
-  pub simple_same : (s left : List ℕ) → Passes (is_simple raw) s left → errors_in mode (items_from (front_by raw) total left) ≡ errors_in mode (items_from (front_by raw) total s)
-  simple_same s left p = errors-past p.passed left p.all ∙ ap (λ (t : List ℕ). errors_in mode (items_from (front_by raw) total t)) (sym p.whole)
+  pub simple_same : (s left : List ℕ) → Passes (is_simple raw) s left
+      → errors_in mode (items_from (front_by raw) total left) ≡ errors_in mode (items_from (front_by raw) total s)
+  simple_same s left p = errors-past p.passed left p.all
+      ∙ ap (λ (t : List ℕ). errors_in mode (items_from (front_by raw) total t)) (sym p.whole)
 
 pub ruleset simple_lemmas = (passes-none, passes-simple)

@@ -1,15 +1,22 @@
 -- What takes items, one after another.
-use Rattle.std.proofs.Common.{◌≡◌, ℕ, Bool, true, false, List, [], ◌∷◌, ◌++◌, map, true≢false, Option, Some, None, MatchOption, ◌<◌, length, if◌then◌else◌, refl, sym, ap, subst, ◌∙◌, arith, append_assoc}
+use Rattle.std.proofs.Common.{
+    ◌≡◌, ℕ, Bool, true, false, List, [], ◌∷◌, ◌++◌, map, true≢false, Option, Some, None, MatchOption, ◌<◌, length,
+    if◌then◌else◌, refl, sym, ap, subst, ◌∙◌, arith, append_assoc
+}
 use Rattle.rustc_literal_escaper.specs.declared.element.Element.{Element, TheVariants.{Fault}}
 use Rattle.rustc_literal_escaper.specs.declared.error.EscapeError.TheVariants.{MultipleSkippedLinesWarning}
 use Rattle.std.specs.List.{FoldsTo, list_any}
 use Rattle.std.proofs.lemmas.{Grind.{common_steps}, List.{map-append}}
 use Rattle.rustc_literal_escaper.specs.Grammar.{is_newline, is_passed_over}
 use Rattle.rustc_literal_escaper.specs.means.Escape.{escape, front_run, past_run}
-use Rattle.rustc_literal_escaper.specs.{Grammar.{Error, Item}, Items.{TakesFirst}, Meaning.{error_of, errors_in, put}, means.Sinks.{Runs, Takes}}
+use Rattle.rustc_literal_escaper.specs.{
+    Grammar.{Error, Item}, Items.{TakesFirst}, Meaning.{error_of, errors_in, put}, means.Sinks.{Runs, Takes}
+}
 use Rattle.rustc_literal_escaper.specs.means.Sinks as sinks
 use Rattle.rustc_literal_escaper.specs.declared.{error.EscapeError.{EscapeError}, mode.Mode.{Mode}}
-use Rattle.rustc_literal_escaper.specs.means.Elements.{begins_line, front_by, item_by, items_by, front, line_end, more_space, one, raw_element, raw_front, unescaped}
+use Rattle.rustc_literal_escaper.specs.means.Elements.{
+    begins_line, front_by, item_by, items_by, front, line_end, more_space, one, raw_element, raw_front, unescaped
+}
 use Rattle.rustc_literal_escaper.specs.laws.Elements.{items-cons, items-one, left-shorter, nothing}
 
 -- what the first character begins
@@ -21,7 +28,8 @@ pub plain_reads : (c : ℕ) (s : List ℕ) → (c ≡ 92 → ⊥) → front c s 
 unfolding front
 plain_reads c s other = grind (arith, common_steps)
 
-pub escape_reads : (c : ℕ) (s left : List ℕ) (e : Element) → c ≡ 92 → begins_line s ≡ false → (e, left) ≡ escape s → front c s ≡ one (e, left)
+pub escape_reads : (c : ℕ) (s left : List ℕ) (e : Element) → c ≡ 92 → begins_line s ≡ false → (e, left) ≡ escape s
+    → front c s ≡ one (e, left)
 unfolding front
 escape_reads c [] left e slash other read = grind (arith, common_steps)
 escape_reads c (d ∷ s) left e slash other read = grind (arith, common_steps)
@@ -31,12 +39,16 @@ unfolding front
 line_reads c s t slash line = rw (slash, line) refl
 
 -- the items of a line end, and those after it
-pub items_line : (offset : List ℕ → ℕ) (start c : ℕ) (xs ys zs left : List ℕ) (newline : Bool) → xs ≡ c ∷ ys → c ≡ 92 → ys ≡ 10 ∷ zs → start ≡ offset xs
+pub items_line : (offset : List ℕ → ℕ) (start c : ℕ) (xs ys zs left : List ℕ) (newline : Bool) → xs ≡ c ∷ ys → c ≡ 92
+    → ys ≡ 10 ∷ zs → start ≡ offset xs
     → newline ≡ list_any is_newline (front_run is_passed_over zs) → left ≡ past_run is_passed_over zs
-    → items_by front offset xs ≡ map (item_by offset start) (if newline then (Fault MultipleSkippedLinesWarning, left) ∷ [] else []) ++ (map (item_by offset start) (more_space left) ++ items_by front offset left)
+    → items_by front offset xs ≡
+        map (item_by offset start) (if newline then (Fault MultipleSkippedLinesWarning, left) ∷ [] else [])
+        ++ (map (item_by offset start) (more_space left) ++ items_by front offset left)
 items_line offset start c xs ys zs left newline is slash line begins lines past =
     let here : offset (c ∷ ys) ≡ start = sym (begins ∙ ap offset is) in
-    grind (arith, common_steps, items-cons false offset c ys, line_reads c ys zs slash line, map-append (item_by offset start), append_assoc {A = Item})
+    grind (arith, common_steps, items-cons false offset c ys, line_reads c ys zs slash line,
+        map-append (item_by offset start), append_assoc {A = Item})
 
 -- an offset in what has the same offsets
 pub at_same : {f h : List ℕ → ℕ} {n : ℕ} (xs : List ℕ) → n ≡ f xs → f ≡ h → n ≡ h xs
@@ -55,10 +67,12 @@ module _ {S : Type 0} (took : S → Item → Bool → S → Type 0) where
   taken true s u t i items left took_one more enough = sinks.more took_one (more refl)
   taken false s u t i items left took_one more enough =
       let e = enough refl in
-      subst (λ (v : S). Runs took s (i ∷ items) v left) e.0 (subst (λ (is : List Item). Runs took s (i ∷ items) u is) e.1 (sinks.enough took_one))
+      subst (λ (v : S). Runs took s (i ∷ items) v left) e.0
+          (subst (λ (is : List Item). Runs took s (i ∷ items) u is) e.1 (sinks.enough took_one))
 
   -- a warning
-  pub warning_taken : (more : Bool) (s u : S) (offset : List ℕ → ℕ) (start end : ℕ) (found : List (Element × List ℕ)) (ys : List ℕ) (e : Element)
+  pub warning_taken : (more : Bool) (s u : S) (offset : List ℕ → ℕ) (start end : ℕ) (found : List (Element × List ℕ))
+      (ys : List ℕ) (e : Element)
       → found ≡ (e, ys) ∷ [] → end ≡ offset ys → took s (record { start = start; end = end }, e) more u
       → Takes took s (map (item_by offset start) found) more u
   warning_taken more s u offset start end found ys e is at took_one = λ t items left on enough.
@@ -74,31 +88,42 @@ module _ {S : Type 0} (took : S → Item → Bool → S → Type 0) where
   at_end s raw offset xs ys a b = rw (a, b, nothing (front_by raw) offset) sinks.all
 
   -- an element is taken
-  module _ (raw : Bool) (offset : List ℕ → ℕ) (more : Bool) (s u : S) (start end : ℕ) (xs ys zs : List ℕ) (c : ℕ) (e : Element)
-      (is : xs ≡ c ∷ ys) (reads : front_by raw c ys ≡ one (e, zs)) (begins : start ≡ offset xs) (ends : end ≡ offset zs) (took_one : took s (record { start = start; end = end }, e) more u) where
-    one_taken : (t : S) (left : List Item) → (more ≡ true → Runs took u (items_by (front_by raw) offset zs) t left) → (more ≡ false → (u ≡ t) × (items_by (front_by raw) offset zs ≡ left)) → Runs took s (items_by (front_by raw) offset xs) t left
+  module _ (raw : Bool) (offset : List ℕ → ℕ) (more : Bool) (s u : S) (start end : ℕ) (xs ys zs : List ℕ) (c : ℕ)
+      (e : Element)
+      (is : xs ≡ c ∷ ys) (reads : front_by raw c ys ≡ one (e, zs)) (begins : start ≡ offset xs) (ends : end ≡ offset zs)
+          (took_one : took s (record { start = start; end = end }, e) more u) where
+    one_taken : (t : S) (left : List Item) → (more ≡ true → Runs took u (items_by (front_by raw) offset zs) t left)
+        → (more ≡ false → (u ≡ t) × (items_by (front_by raw) offset zs ≡ left))
+        → Runs took s (items_by (front_by raw) offset xs) t left
     one_taken t left on enough =
         let here : offset (c ∷ ys) ≡ start = sym (begins ∙ ap offset is) in
         rw (is, items-one raw offset c ys zs e reads, here, ← ends) (taken more s u t _ _ left took_one on enough)
 
-    pub one_more : more ≡ true → (t : S) (left : List Item) → Runs took u (items_by (front_by raw) offset zs) t left → Runs took s (items_by (front_by raw) offset xs) t left
+    pub one_more : more ≡ true → (t : S) (left : List Item) → Runs took u (items_by (front_by raw) offset zs) t left
+        → Runs took s (items_by (front_by raw) offset xs) t left
     one_more on t left runs = one_taken t left (λ e. runs) (λ off. absurd (true≢false (sym on ∙ off)))
 
-    pub one_enough : more ≡ false → Runs took s (items_by (front_by raw) offset xs) u (items_by (front_by raw) offset zs)
+    pub one_enough : more ≡ false
+        → Runs took s (items_by (front_by raw) offset xs) u (items_by (front_by raw) offset zs)
     one_enough off = one_taken u _ (λ on. absurd (true≢false (sym on ∙ off))) (λ e. (refl, refl))
 
   -- the first of some items are taken, and no more
-  pub takes_enough : (on : Bool) (s u : S) (found items : List Item) → Takes took s found on u → on ≡ false → Runs took s (found ++ items) u items
-  takes_enough on s u found items takes off = takes u items items (λ e. absurd (true≢false (sym e ∙ off))) (λ e. (refl, refl))
+  pub takes_enough : (on : Bool) (s u : S) (found items : List Item) → Takes took s found on u → on ≡ false
+      → Runs took s (found ++ items) u items
+  takes_enough on s u found items takes off =
+      takes u items items (λ e. absurd (true≢false (sym e ∙ off))) (λ e. (refl, refl))
 
-  pub takes_more : (on : Bool) (s u t : S) (found items left : List Item) → Takes took s found on u → on ≡ true → Runs took u items t left → Runs took s (found ++ items) t left
-  takes_more on s u t found items left takes e runs = takes t items left (λ also. runs) (λ off. absurd (true≢false (sym e ∙ off)))
+  pub takes_more : (on : Bool) (s u t : S) (found items left : List Item) → Takes took s found on u → on ≡ true
+      → Runs took u items t left → Runs took s (found ++ items) t left
+  takes_more on s u t found items left takes e runs =
+      takes t items left (λ also. runs) (λ off. absurd (true≢false (sym e ∙ off)))
 
 -- ---- what some sinks have taken
 
 module _ {S P : Type 0} (took : S → Item → Bool → S → Type 0) (inner : S → P) where
   -- one that takes each item
-  pub folds_items : (R : P → Item → P → Type 0) → ((s t : S) (i : Item) (more : Bool) → took s i more t → (more ≡ true) × R (inner s) i (inner t))
+  pub folds_items : (R : P → Item → P → Type 0)
+      → ((s t : S) (i : Item) (more : Bool) → took s i more t → (more ≡ true) × R (inner s) i (inner t))
       → {s t : S} {items left : List Item} → Runs took s items t left → FoldsTo R (inner s) items (inner t)
   folds_items R each sinks.all = refl
   folds_items R each (sinks.more {u} took_one runs) = (inner u, (each _ _ _ _ took_one).1, folds_items R each runs)
@@ -106,14 +131,20 @@ module _ {S P : Type 0} (took : S → Item → Bool → S → Type 0) (inner : S
 
   -- one that takes the errors
   pub folds_errors : (mode_of : S → Mode) (R : P → Error → P → Type 0)
-      → ((s t : S) (i : Item) (more : Bool) → took s i more t → (more ≡ true) × (mode_of t ≡ mode_of s) × MatchOption (error_of (mode_of s) i.1) (inner t ≡ inner s) (λ error. R (inner s) (i.0, error) (inner t)))
-      → {s t : S} {items left : List Item} → Runs took s items t left → FoldsTo R (inner s) (errors_in (mode_of s) items) (inner t)
+      → ((s t : S) (i : Item) (more : Bool) → took s i more t → (more ≡ true) × (mode_of t ≡ mode_of s)
+          × MatchOption (error_of (mode_of s) i.1) (inner t ≡ inner s) (λ error. R (inner s) (i.0, error) (inner t)))
+      → {s t : S} {items left : List Item} → Runs took s items t left
+          → FoldsTo R (inner s) (errors_in (mode_of s) items) (inner t)
   folds_errors mode_of R each sinks.all = refl
   folds_errors mode_of R each (sinks.more {s} {u} {t} {item} {items} took_one runs) =
       let is = each _ _ _ _ took_one in
-      put-folds (error_of (mode_of s) item.1) is.2 (subst (λ (mode : Mode). FoldsTo R (inner u) (errors_in mode items) (inner t)) is.1 (folds_errors mode_of R each runs))
+      put-folds (error_of (mode_of s) item.1) is.2
+          (subst (λ (mode : Mode). FoldsTo R (inner u) (errors_in mode items) (inner t)) is.1
+          (folds_errors mode_of R each runs))
     where
-      put-folds : (wrong : Option EscapeError) → MatchOption wrong (inner u ≡ inner s) (λ error. R (inner s) (item.0, error) (inner u)) → FoldsTo R (inner u) (errors_in (mode_of s) items) (inner t)
+      put-folds : (wrong : Option EscapeError)
+          → MatchOption wrong (inner u ≡ inner s) (λ error. R (inner s) (item.0, error) (inner u))
+          → FoldsTo R (inner u) (errors_in (mode_of s) items) (inner t)
           → FoldsTo R (inner s) (put item.0 wrong (errors_in (mode_of s) items)) (inner t)
       put-folds None same rest = subst (λ (p : P). FoldsTo R p (errors_in (mode_of s) items) (inner t)) same rest
       put-folds (Some error) step rest = (inner u, step, rest)
@@ -121,7 +152,8 @@ module _ {S P : Type 0} (took : S → Item → Bool → S → Type 0) (inner : S
 
 module _ {S : Type 0} (took : S → Item → Bool → S → Type 0) where
   -- one that takes one item
-  pub takes_item : (found : S → Option Item) → ((s t : S) (i : Item) (more : Bool) → took s i more t → (more ≡ false) × (found t ≡ Some i))
+  pub takes_item : (found : S → Option Item)
+      → ((s t : S) (i : Item) (more : Bool) → took s i more t → (more ≡ false) × (found t ≡ Some i))
       → {s t : S} {items left : List Item} → found s ≡ None → Runs took s items t left → TakesFirst items (found t) left
   takes_item found each none sinks.all = rw none (refl, refl)
   takes_item found each none (sinks.more took_one runs) = absurd (true≢false (each _ _ _ _ took_one).0)
@@ -129,19 +161,28 @@ module _ {S : Type 0} (took : S → Item → Bool → S → Type 0) where
 
   -- one that takes one error
   pub takes_error : (mode_of : S → Mode) (found : S → Option Error)
-      → ((s t : S) (i : Item) (more : Bool) → took s i more t → MatchOption (error_of (mode_of s) i.1) ((more ≡ true) × (t ≡ s)) (λ error. (more ≡ false) × (found t ≡ Some (i.0, error))))
-      → {s t : S} {items left : List Item} → found s ≡ None → Runs took s items t left → TakesFirst (errors_in (mode_of s) items) (found t) (errors_in (mode_of s) left)
+      → ((s t : S) (i : Item) (more : Bool) → took s i more t
+          → MatchOption (error_of (mode_of s) i.1) ((more ≡ true) × (t ≡ s))
+          (λ error. (more ≡ false) × (found t ≡ Some (i.0, error))))
+      → {s t : S} {items left : List Item} → found s ≡ None → Runs took s items t left
+          → TakesFirst (errors_in (mode_of s) items) (found t) (errors_in (mode_of s) left)
   takes_error mode_of found each none sinks.all = rw none (refl, refl)
-  takes_error mode_of found each none (sinks.more {s} {u} {t} {item} {items} {left} took_one runs) = by_error (error_of (mode_of s) item.1) (each _ _ _ _ took_one) (λ no. takes_error mode_of found each no runs)
+  takes_error mode_of found each none (sinks.more {s} {u} {t} {item} {items} {left} took_one runs) =
+      by_error (error_of (mode_of s) item.1) (each _ _ _ _ took_one) (λ no. takes_error mode_of found each no runs)
     where
-      by_error : (wrong : Option EscapeError) → MatchOption wrong ((true ≡ true) × (u ≡ s)) (λ error. (true ≡ false) × (found u ≡ Some (item.0, error)))
+      by_error : (wrong : Option EscapeError)
+          → MatchOption wrong ((true ≡ true) × (u ≡ s)) (λ error. (true ≡ false) × (found u ≡ Some (item.0, error)))
           → (found u ≡ None → TakesFirst (errors_in (mode_of u) items) (found t) (errors_in (mode_of u) left))
           → TakesFirst (put item.0 wrong (errors_in (mode_of s) items)) (found t) (errors_in (mode_of s) left)
-      by_error None same rest = subst (λ (mode : Mode). TakesFirst (errors_in mode items) (found t) (errors_in mode left)) (ap mode_of same.1) (rest (ap found same.1 ∙ none))
+      by_error None same rest =
+          subst (λ (mode : Mode). TakesFirst (errors_in mode items) (found t) (errors_in mode left)) (ap mode_of same.1)
+          (rest (ap found same.1 ∙ none))
       by_error (Some error) wrong rest = absurd (true≢false wrong.0)
-  takes_error mode_of found each none (sinks.enough {s} {t} {item} {items} took_one) = by_error (error_of (mode_of s) item.1) (each _ _ _ _ took_one)
+  takes_error mode_of found each none (sinks.enough {s} {t} {item} {items} took_one) =
+      by_error (error_of (mode_of s) item.1) (each _ _ _ _ took_one)
     where
-      by_error : (wrong : Option EscapeError) → MatchOption wrong ((false ≡ true) × (t ≡ s)) (λ error. (false ≡ false) × (found t ≡ Some (item.0, error)))
+      by_error : (wrong : Option EscapeError)
+          → MatchOption wrong ((false ≡ true) × (t ≡ s)) (λ error. (false ≡ false) × (found t ≡ Some (item.0, error)))
           → TakesFirst (put item.0 wrong (errors_in (mode_of s) items)) (found t) (errors_in (mode_of s) items)
       by_error None same = absurd (true≢false (sym same.0))
       by_error (Some error) wrong = rw wrong.1 refl

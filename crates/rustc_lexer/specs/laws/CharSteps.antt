@@ -9,4 +9,6 @@ pub bytes_of-suc : (n c : ℕ) (cs : List ℕ) → bytes_of (suc n) (c ∷ cs) �
 bytes_of-suc n c cs = length-append (encode_utf8 c) (encode_utf8_all (take n cs))
 
 pub bytes_of-add : (k m : ℕ) (s : List ℕ) → bytes_of (k + m) s ≡ bytes_of k s + bytes_of m (drop k s)
-bytes_of-add k m s = ap (λ (t : List ℕ). length (encode_utf8_all t)) (take-add k m s) ∙ (ap length (encodes-append (take k s) (take m (drop k s))) ∙ length-append (encode_utf8_all (take k s)) (encode_utf8_all (take m (drop k s))))
+bytes_of-add k m s = ap (λ (t : List ℕ). length (encode_utf8_all t)) (take-add k m s)
+    ∙ (ap length (encodes-append (take k s) (take m (drop k s)))
+    ∙ length-append (encode_utf8_all (take k s)) (encode_utf8_all (take m (drop k s))))

@@ -7,7 +7,8 @@ use Rattle.rustc_lexer.specs.{TokenKind, Unknown}
 use Rattle.rustc_lexer.specs.Tables.{kind_among}
 
 -- a choice by a test
-pub by_test : {A : Type 0} (P : A → Type 0) (b : Bool) (x y : A) → (b ≡ true → P x) → (b ≡ false → P y) → P (if b then x else y)
+pub by_test : {A : Type 0} (P : A → Type 0) (b : Bool) (x y : A) → (b ≡ true → P x) → (b ≡ false → P y)
+    → P (if b then x else y)
 by_test P b x y w4 w5 = grind (arith, common_steps)
 
 -- a proof by whether a test passes
@@ -21,6 +22,9 @@ by_found (Some x) found lost = found x refl
 by_found None found lost = lost refl
 
 -- of each symbol in a list, at each character, and of a character that is none of them
-pub by_symbol : (p : TokenKind → Bool) (ss : List (ℕ × TokenKind)) (c : ℕ) → list_all (λ (s : ℕ × TokenKind). p s.1) ss ≡ true → p Unknown ≡ true → p (kind_among ss c) ≡ true
+pub by_symbol : (p : TokenKind → Bool) (ss : List (ℕ × TokenKind)) (c : ℕ)
+    → list_all (λ (s : ℕ × TokenKind). p s.1) ss ≡ true → p Unknown ≡ true → p (kind_among ss c) ≡ true
 by_symbol p [] c all unknown = unknown
-by_symbol p (s ∷ ss) c all unknown = grind (arith, common_steps, and_parts, by_test, by_symbol p ss c (and_parts (p s.1) (list_all (λ (s : ℕ × TokenKind). p s.1) ss) all).1 unknown)
+by_symbol p (s ∷ ss) c all unknown =
+    grind (arith, common_steps, and_parts, by_test,
+    by_symbol p ss c (and_parts (p s.1) (list_all (λ (s : ℕ × TokenKind). p s.1) ss) all).1 unknown)

@@ -20,16 +20,19 @@ use Rattle.rustc_lexer.specs.means.Lexeme.{first_token}
 reach-two : (kind : TokenKind) (w : List ℕ) → reach kind w ≤ 2
 reach-two kind w = grind (arith, common_steps)
 
-two-alike : {next w : List ℕ} {kind : TokenKind} → IsTokenBefore next kind w → (other : List ℕ) → take 2 other ≡ take 2 next → IsTokenBefore other kind w
+two-alike : {next w : List ℕ} {kind : TokenKind} → IsTokenBefore next kind w → (other : List ℕ)
+    → take 2 other ≡ take 2 next → IsTokenBefore other kind w
 two-alike {next} {w} {kind} p other e = token-alike p other (cut (reach kind w) 2 other next (reach-two kind w) e)
 
 -- a token of an edition stays one before a text that begins alike
-in-alike : {edition : Edition} {next w : List ℕ} {kind : TokenKind} → IsTokenIn edition next kind w → (other : List ℕ) → take 2 other ≡ take 2 next → IsTokenIn edition other kind w
+in-alike : {edition : Edition} {next w : List ℕ} {kind : TokenKind} → IsTokenIn edition next kind w → (other : List ℕ)
+    → take 2 other ≡ take 2 next → IsTokenIn edition other kind w
 in-alike (kept le p) other e = kept le (two-alike p other e)
 in-alike (pound lt) other e = pound lt
 in-alike (ident lt p) other e = ident lt (two-alike p other e)
 in-alike (lifetime lt p) other e = lifetime lt (two-alike p other e)
-in-alike {next = next} (lifetime_r lt goes) other e = lifetime_r lt (decided_same 2 2 begins_hash_ident other next begins_hash_ident-decided (omega arith) e ∙ goes)
+in-alike {next = next} (lifetime_r lt goes) other e =
+    lifetime_r lt (decided_same 2 2 begins_hash_ident other next begins_hash_ident-decided (omega arith) e ∙ goes)
 
 module _ (edition : Edition) where
   -- a text is its first token, and the rest
@@ -41,19 +44,24 @@ module _ (edition : Edition) where
   parts : (text : List ℕ) → IsText text → 0 < length text → Parts text
   parts text is some =
       let at = first-front edition text (chars text) is some refl in
-      record { at = at; len = ap (λ (t : Token). t.len) at.same; pieces = split text (at.c ∷ at.w) at.next is (sym at.whole) }
+      record { at = at; len = ap (λ (t : Token). t.len) at.same; pieces = split text (at.c ∷ at.w) at.next is
+          (sym at.whole) }
 
-  same_token : (text other : List ℕ) → Parts text → AgreePast (first_token_in edition text).len text other → first_token_in edition other ≡ first_token_in edition text
+  same_token : (text other : List ℕ) → Parts text → AgreePast (first_token_in edition text).len text other
+      → first_token_in edition other ≡ first_token_in edition text
   same_token text other p agree =
       let n : ℕ = bytes (p.at.c ∷ p.at.w) in
       let here : AgreePast n text other = subst (λ (k : ℕ). AgreePast k text other) p.len agree in
-      let past : take 2 (chars (drop n other)) ≡ take 2 p.at.next = sym here.past ∙ ap (take 2) (ap chars p.pieces.left ∙ p.pieces.again) in
-      token-read-in (in-alike p.at.is (chars (drop n other)) past) other (split-same other p.pieces here.below) ∙ sym p.at.same
+      let past : take 2 (chars (drop n other)) ≡ take 2 p.at.next =
+          sym here.past ∙ ap (take 2) (ap chars p.pieces.left ∙ p.pieces.again) in
+      token-read-in (in-alike p.at.is (chars (drop n other)) past) other (split-same other p.pieces here.below)
+          ∙ sym p.at.same
 
   pub edition_grammar : IsGrammar (first_token_in edition)
   edition_grammar = record {
     not_empty = λ text is some. let p = parts text is some in omega (arith, p.len, length-le-encodes (p.at.c ∷ p.at.w));
-    boundary = λ text is some. let p = parts text is some in subst (IsCharBoundary text) (sym p.len) (split-boundary is p.pieces);
+    boundary = λ text is some. let p = parts text is some in
+        subst (IsCharBoundary text) (sym p.len) (split-boundary is p.pieces);
     local = λ text other is of some agree. same_token text other (parts text is some) agree;
   }
 

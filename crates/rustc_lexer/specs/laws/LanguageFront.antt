@@ -1,8 +1,14 @@
 -- Texts and their characters, and the token of the grammar at the front of a text.
-use Rattle.std.proofs.Common.{◌≡◌, ℕ, ◌<◌, ◌≤◌, List, [], ◌∷◌, ◌++◌, length, take, drop, refl, sym, ap, ◌∙◌, subst, arith, take_at, drop_at, take-append-drop, length-append}
+use Rattle.std.proofs.Common.{
+    ◌≡◌, ℕ, ◌<◌, ◌≤◌, List, [], ◌∷◌, ◌++◌, length, take, drop, refl, sym, ap, ◌∙◌, subst, arith, take_at, drop_at,
+    take-append-drop, length-append
+}
 use lib.Utf8.{scalars}
 use Rattle.std.proofs.Math.Seq.{take-append_seam, drop-append_seam}
-use Rattle.std.proofs.lemmas.Str.{chars-append, chars-encodes, encodes-append, encodes-chars, length-le-encodes, scalars-chars, IsCharBoundary-from_take}
+use Rattle.std.proofs.lemmas.Str.{
+    chars-append, chars-encodes, encodes-append, encodes-chars, length-le-encodes, scalars-chars,
+    IsCharBoundary-from_take
+}
 use Rattle.std.specs.Str.{chars, encode_utf8_all, IsCharBoundary, IsUtf8}
 use Rattle.std.proofs.lemmas.Grind.{common_steps}
 use Rattle.rustc_lexer.specs.{TokenKind}
@@ -29,24 +35,34 @@ pub record Split (text w next : List ℕ) : Type 0 where
 
 pub split : (text w next : List ℕ) → IsText text → chars text ≡ w ++ next → Split text w next
 split text w next is e =
-    let whole : text ≡ encode_utf8_all w ++ encode_utf8_all next = sym (encodes-chars text is.utf8) ∙ (ap encode_utf8_all e ∙ encodes-append w next) in
+    let whole : text ≡ encode_utf8_all w ++ encode_utf8_all next = sym (encodes-chars text is.utf8)
+        ∙ (ap encode_utf8_all e ∙ encodes-append w next) in
     record {
       left = ap (drop (bytes w)) whole ∙ drop_at (encode_utf8_all w) (encode_utf8_all next) _ refl;
       front = ap (take (bytes w)) whole ∙ take_at (encode_utf8_all w) (encode_utf8_all next) _ refl;
-      again_front = chars-encodes w (ap scalars (sym (take-append_seam w next) ∙ ap (take (length w)) (sym e)) ∙ scalars-take (length w) (chars text) (scalars-chars text is.utf8));
+      again_front = chars-encodes w (ap scalars (sym (take-append_seam w next) ∙ ap (take (length w)) (sym e))
+          ∙ scalars-take (length w) (chars text) (scalars-chars text is.utf8));
       inside = omega (arith, ap length whole, length-append (encode_utf8_all w) (encode_utf8_all next));
-      front_utf8 = (w, (ap scalars (sym (take-append_seam w next) ∙ ap (take (length w)) (sym e)) ∙ scalars-take (length w) (chars text) (scalars-chars text is.utf8), refl));
-      some = λ lt. omega (arith, ap length whole, length-append (encode_utf8_all w) (encode_utf8_all next), length-le-encodes w);
-      again = chars-encodes next (ap scalars (sym (drop-append_seam w next) ∙ ap (drop (length w)) (sym e)) ∙ scalars-drop (length w) (chars text) (scalars-chars text is.utf8));
+      front_utf8 =
+          (w, (ap scalars (sym (take-append_seam w next) ∙ ap (take (length w)) (sym e))
+          ∙ scalars-take (length w) (chars text) (scalars-chars text is.utf8), refl));
+      some = λ lt. omega (arith, ap length whole, length-append (encode_utf8_all w) (encode_utf8_all next),
+          length-le-encodes w);
+      again = chars-encodes next (ap scalars (sym (drop-append_seam w next) ∙ ap (drop (length w)) (sym e))
+          ∙ scalars-drop (length w) (chars text) (scalars-chars text is.utf8));
     }
 
 -- where the front ends
 pub split-boundary : {text w next : List ℕ} → IsText text → Split text w next → IsCharBoundary text (bytes w)
-split-boundary {text} {w} is cut = IsCharBoundary-from_take text (bytes w) is.utf8 cut.inside (subst IsUtf8 (sym cut.front) cut.front_utf8)
+split-boundary {text} {w} is cut =
+    IsCharBoundary-from_take text (bytes w) is.utf8 cut.inside (subst IsUtf8 (sym cut.front) cut.front_utf8)
 
 -- a text that begins with the same bytes begins with the same characters
-pub split-same : {text w next : List ℕ} (other : List ℕ) → Split text w next → take (bytes w) text ≡ take (bytes w) other → chars other ≡ w ++ chars (drop (bytes w) other)
-split-same {w = w} other cut same = grind (arith, common_steps, same, cut.front, take-append-drop (bytes w) other, chars-append, (sym same ∙ cut.front), cut.again_front)
+pub split-same : {text w next : List ℕ} (other : List ℕ) → Split text w next
+    → take (bytes w) text ≡ take (bytes w) other → chars other ≡ w ++ chars (drop (bytes w) other)
+split-same {w = w} other cut same =
+    grind (arith, common_steps, same, cut.front, take-append-drop (bytes w) other, chars-append, (sym same ∙ cut.front),
+    cut.again_front)
 
 -- ---- the token at the front
 

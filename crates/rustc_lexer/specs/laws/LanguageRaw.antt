@@ -1,7 +1,12 @@
 -- Raw strings are in their language, and what is there is read so.
-use Rattle.std.proofs.Common.{◌≡◌, ℕ, zero, suc, ◌+◌, ◌≤◌, ◌==◌, nat_le, true, false, true≢false, List, [], ◌∷◌, ◌++◌, length, take, drop, codes, refl, sym, ap, ◌∙◌, subst, arith, append_assoc, length-append, Option, Some, None, Err}
+use Rattle.std.proofs.Common.{
+    ◌≡◌, ℕ, zero, suc, ◌+◌, ◌≤◌, ◌==◌, nat_le, true, false, true≢false, List, [], ◌∷◌, ◌++◌, length, take, drop, codes,
+    refl, sym, ap, ◌∙◌, subst, arith, append_assoc, length-append, Option, Some, None, Err
+}
 use Rattle.std.proofs.Math.Seq.{drop-append_seam}
-use Rattle.std.proofs.lemmas.Bool.{and_parts, eqb-true, or_parts, or_from, leb-true, leb-false, le-leb, lt-leb, false_from_ne_true}
+use Rattle.std.proofs.lemmas.Bool.{
+    and_parts, eqb-true, or_parts, or_from, leb-true, leb-false, le-leb, lt-leb, false_from_ne_true
+}
 use Rattle.std.proofs.lemmas.{List.{append-nil}, Grind.{common_steps}}
 use Rattle.rustc_lexer.specs.Classes.{is_among, NextIs, NextIsNot}
 use Rattle.rustc_lexer.specs.laws.Choice.{by_either}
@@ -12,7 +17,10 @@ use Rattle.rustc_lexer.specs.LiteralGrammar as lit
 use Rattle.rustc_lexer.specs.LiteralGrammar.{hashes, NoQuoteWith, IsRaw}
 use Rattle.rustc_lexer.specs.means.Least.{one_more}
 use Rattle.rustc_lexer.specs.means.Lexeme.{opens_raw}
-use Rattle.rustc_lexer.specs.means.Raw.{is_hash, is_quote, hash_run, closes, close, most_hashes, best_quote, quote_end, hash_count, raw_starter, raw_read, accepted}
+use Rattle.rustc_lexer.specs.means.Raw.{
+    is_hash, is_quote, hash_run, closes, close, most_hashes, best_quote, quote_end, hash_count, raw_starter, raw_read,
+    accepted
+}
 
 -- ---- hashes
 
@@ -49,19 +57,22 @@ closes-here : (n : ℕ) (v : List ℕ) → closes n (34 ∷ hashes n ++ v) ≡ t
 closes-here n v = le-leb n (hash_run (hashes n ++ v)) (omega (arith, hash_run-hashes n v))
 
 pub closes-quote : (n c : ℕ) (s : List ℕ) → closes n (c ∷ s) ≡ true → (c ≡ 34) × (n ≤ hash_run s)
-closes-quote n c s e = let parts = and_parts (is_quote c) (nat_le n (hash_run s)) e in (eqb-true c 34 parts.0, leb-true n (hash_run s) parts.1)
+closes-quote n c s e = let parts = and_parts (is_quote c) (nat_le n (hash_run s)) e in
+    (eqb-true c 34 parts.0, leb-true n (hash_run s) parts.1)
 
 pub lacks-rest : (n c : ℕ) (w : List ℕ) → NoQuoteWith n (c ∷ w) → NoQuoteWith n w
 lacks-rest n c w lacks u v e = lacks (c ∷ u) v (ap (λ (xs : List ℕ). c ∷ xs) e)
 
 pub lacks-front : (n c : ℕ) (w : List ℕ) → NoQuoteWith n (c ∷ w) → n ≤ hash_run w → c ≡ 34 → ⊥
-lacks-front n c w lacks le e = lacks [] (drop n w) (ap (λ (x : ℕ). x ∷ w) e ∙ ap (λ (xs : List ℕ). 34 ∷ xs) (split-hashes n w le))
+lacks-front n c w lacks le e =
+    lacks [] (drop n w) (ap (λ (x : ℕ). x ∷ w) e ∙ ap (λ (xs : List ℕ). 34 ∷ xs) (split-hashes n w le))
 
 -- the first quote with its hashes
 pub close-read : (n : ℕ) (w next : List ℕ) → NoQuoteWith n w → close n (w ++ (34 ∷ hashes n ++ next)) ≡ Some (length w)
 close-read n [] next lacks = rw (closes-here n next) refl
 close-read n (c ∷ w) next lacks =
-    let open_here : closes n (c ∷ w ++ (34 ∷ hashes n ++ next)) ≡ false = false_from_ne_true (closes n (c ∷ w ++ (34 ∷ hashes n ++ next))) (λ e.
+    let open_here : closes n (c ∷ w ++ (34 ∷ hashes n ++ next)) ≡ false =
+        false_from_ne_true (closes n (c ∷ w ++ (34 ∷ hashes n ++ next))) (λ e.
     let parts = closes-quote n c (w ++ (34 ∷ hashes n ++ next)) e in
     lacks-front n c w lacks (omega (arith, parts.1, hash_run-before w (hashes n ++ next))) parts.0) in
     rw open_here (ap one_more (close-read n w next (lacks-rest n c w lacks)))
@@ -80,10 +91,12 @@ pub data Closing (n : ℕ) : List ℕ → Type 0 where
   lost : {u : List ℕ} → NoQuoteWith n u → Closing n u
 
 pub nothing-lacks : (n : ℕ) → NoQuoteWith n []
-nothing-lacks n u v e = absurd (let no : 0 ≡ length (u ++ (34 ∷ hashes n ++ v)) = ap length e in omega (arith, length-append u (34 ∷ hashes n ++ v)))
+nothing-lacks n u v e = absurd (let no : 0 ≡ length (u ++ (34 ∷ hashes n ++ v)) = ap length e in
+    omega (arith, length-append u (34 ∷ hashes n ++ v)))
 
 -- a character more in front, where no quote with its hashes stands
-lacks-more : (n c : ℕ) (w u rest : List ℕ) → w ++ rest ≡ u → closes n (c ∷ u) ≡ false → NoQuoteWith n w → NoQuoteWith n (c ∷ w)
+lacks-more : (n c : ℕ) (w u rest : List ℕ) → w ++ rest ≡ u → closes n (c ∷ u) ≡ false → NoQuoteWith n w
+    → NoQuoteWith n (c ∷ w)
 lacks-more n c w u rest whole open_here lacks [] v e = grind (arith, common_steps, append_assoc, closes-here)
 lacks-more n c w u rest whole open_here lacks (x ∷ a) v e = lacks a v (cc)
 
@@ -92,7 +105,8 @@ closing n [] = lost (nothing-lacks n)
 closing n (c ∷ u) = by_either (closes n (c ∷ u))
     (λ e.
     let parts = closes-quote n c u e in
-    let text : 34 ∷ hashes n ++ drop n u ≡ c ∷ u = ap (λ (xs : List ℕ). 34 ∷ xs) (sym (split-hashes n u parts.1)) ∙ ap (λ (x : ℕ). x ∷ u) (sym parts.0) in
+    let text : 34 ∷ hashes n ++ drop n u ≡ c ∷ u = ap (λ (xs : List ℕ). 34 ∷ xs) (sym (split-hashes n u parts.1))
+        ∙ ap (λ (x : ℕ). x ∷ u) (sym parts.0) in
     subst (Closing n) text (found [] (drop n u) (nothing-lacks n)))
     (λ e. more e (closing n u))
   where
@@ -103,20 +117,25 @@ closing n (c ∷ u) = by_either (closes n (c ∷ u))
 -- ---- what is read past the `r`
 
 -- past hashes that no more of them follow
-past-hashes : (p n : ℕ) (v : List ℕ) → NextIsNot is_hash v → raw_read p (hashes n ++ v) ≡ ((raw_starter p n v).0, n + (raw_starter p n v).1)
+past-hashes : (p n : ℕ) (v : List ℕ) → NextIsNot is_hash v
+    → raw_read p (hashes n ++ v) ≡ ((raw_starter p n v).0, n + (raw_starter p n v).1)
 past-hashes p n v stop = grind (arith, common_steps, guard-length, drop-append_seam, guard-hashes)
 
 pub closed-read : (p n : ℕ) (w next : List ℕ) → NoQuoteWith n w
     → raw_read p (hashes n ++ (34 ∷ w ++ (34 ∷ hashes n ++ next))) ≡ (hash_count n, n + suc (suc (length w) + n))
-closed-read p n w next lacks = past-hashes p n (34 ∷ w ++ (34 ∷ hashes n ++ next)) refl ∙ rw (close-read n w next lacks) refl
+closed-read p n w next lacks = past-hashes p n (34 ∷ w ++ (34 ∷ hashes n ++ next)) refl
+    ∙ rw (close-read n w next lacks) refl
 
 pub open-read : (p n : ℕ) (w : List ℕ) → NoQuoteWith n w
-    → raw_read p (hashes n ++ 34 ∷ w) ≡ (Err (NoTerminator n (most_hashes w) (quote_end (p + suc n) w (best_quote w))), n + suc (length w))
+    → raw_read p (hashes n ++ 34 ∷ w) ≡
+        (Err (NoTerminator n (most_hashes w) (quote_end (p + suc n) w (best_quote w))), n + suc (length w))
 open-read p n w lacks = past-hashes p n (34 ∷ w) refl ∙ rw (unclosed-read n w lacks) refl
 
-pub no_quote-read : (p n c : ℕ) (next : List ℕ) → is_among (codes "\"#") c ≡ false → raw_read p (hashes n ++ c ∷ next) ≡ (Err (InvalidStarter c), n + 1)
+pub no_quote-read : (p n c : ℕ) (next : List ℕ) → is_among (codes "\"#") c ≡ false → raw_read p (hashes n ++ c ∷ next) ≡
+    (Err (InvalidStarter c), n + 1)
 no_quote-read p n c next out =
-    let parts = or_parts (c == 34) _ out in past-hashes p n (c ∷ next) (or_parts (c == 35) false parts.1).0 ∙ rw parts.0 refl
+    let parts = or_parts (c == 34) _ out in
+    past-hashes p n (c ∷ next) (or_parts (c == 35) false parts.1).0 ∙ rw parts.0 refl
 
 pub no_more-read : (p n : ℕ) → raw_read p (hashes n) ≡ (Err (InvalidStarter 0), n + 0)
 no_more-read p n = ap (raw_read p) (sym (append-nil (hashes n))) ∙ past-hashes p n [] refl
@@ -126,15 +145,20 @@ abbrev pub raw_seen : List ℕ → Option ℕ × ℕ
 raw_seen s = (accepted (raw_read 0 s).0, (raw_read 0 s).1)
 
 -- a closed one, before what follows it
-pub whole-text : (n : ℕ) (w next : List ℕ) → (hashes n ++ (34 ∷ w ++ 34 ∷ hashes n)) ++ next ≡ hashes n ++ (34 ∷ w ++ (34 ∷ hashes n ++ next))
-whole-text n w next = append_assoc (hashes n) (34 ∷ w ++ 34 ∷ hashes n) next ∙ ap (λ (xs : List ℕ). hashes n ++ 34 ∷ xs) (append_assoc w (34 ∷ hashes n) next)
+pub whole-text : (n : ℕ) (w next : List ℕ) → (hashes n ++ (34 ∷ w ++ 34 ∷ hashes n)) ++ next ≡
+    hashes n ++ (34 ∷ w ++ (34 ∷ hashes n ++ next))
+whole-text n w next = append_assoc (hashes n) (34 ∷ w ++ 34 ∷ hashes n) next
+    ∙ ap (λ (xs : List ℕ). hashes n ++ 34 ∷ xs) (append_assoc w (34 ∷ hashes n) next)
 
 pub raw-read : {next : List ℕ} {o : Option ℕ} {w : List ℕ} → IsRaw next o w → raw_seen (w ++ next) ≡ (o, length w)
-raw-read {next} (lit.closed n w le lacks) = grind (arith, common_steps, whole-text n w next, closed-read 0 n w next lacks, le-leb, length-append, guard-length)
+raw-read {next} (lit.closed n w le lacks) =
+    grind (arith, common_steps, whole-text n w next, closed-read 0 n w next lacks, le-leb, length-append, guard-length)
 raw-read {next} (lit.too_many n w lt lacks) =
     grind (arith, common_steps, whole-text n w next, closed-read 0 n w next lacks, lt-leb, length-append, guard-length)
-raw-read {next} (lit.unclosed n w none lacks) = grind (arith, common_steps, append-nil, open-read 0 n w lacks, length-append, guard-length)
-raw-read {next} (lit.no_quote n c out) = grind (arith, common_steps, append_assoc, no_quote-read 0 (suc n) c next out, length-append, guard-length)
+raw-read {next} (lit.unclosed n w none lacks) =
+    grind (arith, common_steps, append-nil, open-read 0 n w lacks, length-append, guard-length)
+raw-read {next} (lit.no_quote n c out) =
+    grind (arith, common_steps, append_assoc, no_quote-read 0 (suc n) c next out, length-append, guard-length)
 raw-read {next} (lit.no_more n none) = grind (arith, common_steps, append-nil, no_more-read 0 (suc n), guard-length)
 
 -- ---- and what is read is one of these
@@ -147,7 +171,9 @@ pub record Guarded (s : List ℕ) : Type 0 where
   pub stops : NextIsNot is_hash left
 
 pub guarded : (s : List ℕ) → Guarded s
-guarded s = record { count = hash_run s; left = drop (hash_run s) s; whole = sym (split-hashes (hash_run s) s (omega arith)); stops = run-stops is_hash s }
+guarded s = record
+    { count = hash_run s; left = drop (hash_run s) s; whole = sym (split-hashes (hash_run s) s (omega arith));
+    stops = run-stops is_hash s }
 
 -- what stands past the `r`
 pub data Shape : List ℕ → Type 0 where
@@ -184,6 +210,7 @@ raw-sound s opens = by_shape (shape s) opens
         (λ e. read-by (lit.too_many n w (leb-false n 255 e) lacks) (whole-text n w next))
     by_shape (unclosed n w lacks) opens = read-by (lit.unclosed n w refl lacks) (append-nil (hashes n ++ 34 ∷ w))
     by_shape (no_quote zero c next out) opens = absurd (grind (arith, common_steps, or_parts))
-    by_shape (no_quote (suc n) c next out) opens = read-by (lit.no_quote n c out) (append_assoc (hashes (suc n)) (c ∷ []) next)
+    by_shape (no_quote (suc n) c next out) opens =
+        read-by (lit.no_quote n c out) (append_assoc (hashes (suc n)) (c ∷ []) next)
     by_shape (no_more zero) opens = absurd (true≢false (sym opens))
     by_shape (no_more (suc n)) opens = read-by (lit.no_more n refl) (append-nil (hashes (suc n)))

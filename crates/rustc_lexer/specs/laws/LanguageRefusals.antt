@@ -1,5 +1,8 @@
 -- Why a raw string is refused is what the language says, and nothing else is.
-use Rattle.std.proofs.Common.{◌≡◌, ◌↔◌, ℕ, zero, suc, ◌+◌, ◌<◌, ◌≤◌, ◌==◌, nat_le, Bool, true, false, if◌then◌else◌, List, [], ◌∷◌, ◌++◌, length, take, drop, refl, sym, ap, ◌∙◌, subst, arith, append_assoc, length-append, Option, Some, None, Result, Ok, Err}
+use Rattle.std.proofs.Common.{
+    ◌≡◌, ◌↔◌, ℕ, zero, suc, ◌+◌, ◌<◌, ◌≤◌, ◌==◌, nat_le, Bool, true, false, if◌then◌else◌, List, [], ◌∷◌, ◌++◌, length,
+    take, drop, refl, sym, ap, ◌∙◌, subst, arith, append_assoc, length-append, Option, Some, None, Result, Ok, Err
+}
 use Rattle.std.proofs.Math.{Nat.{le-max_left, le-max_right, max-le}, Seq.{take-append_seam}}
 use Rattle.std.proofs.lemmas.Bool.{eqb-true, leb-true, leb-false, le-leb, lt-leb, false_from_ne_true, eq-eqb}
 use Rattle.std.specs.Str.{chars}
@@ -10,11 +13,16 @@ use Rattle.rustc_lexer.specs.LiteralGrammar.{hashes, NoQuoteWith}
 use Rattle.rustc_lexer.specs.LanguageCalls as the
 use Rattle.rustc_lexer.specs.LanguageCalls.{IsLikelyEnd, IsRawAnswer}
 use Rattle.rustc_lexer.specs.means.Least.{one_more}
-use Rattle.rustc_lexer.specs.means.Raw.{hash_run, most_hashes, quote_hashes, quote_with, best_quote, quote_if, quote_end, raw_read, checked, check_raw}
+use Rattle.rustc_lexer.specs.means.Raw.{
+    hash_run, most_hashes, quote_hashes, quote_with, best_quote, quote_if, quote_end, raw_read, checked, check_raw
+}
 use Rattle.rustc_lexer.specs.means.Scan.{bytes_of}
 use Rattle.rustc_lexer.specs.Classes.{bytes}
 use Rattle.rustc_lexer.specs.laws.Choice.{by_either}
-use Rattle.rustc_lexer.specs.laws.LanguageRaw.{hash_run-hashes, hash_run-before, lacks-rest, lacks-front, Closing, found, lost, closing, whole-text, closed-read, open-read, no_quote-read, no_more-read, Shape, closed, unclosed, no_quote, no_more, shape}
+use Rattle.rustc_lexer.specs.laws.LanguageRaw.{
+    hash_run-hashes, hash_run-before, lacks-rest, lacks-front, Closing, found, lost, closing, whole-text, closed-read,
+    open-read, no_quote-read, no_more-read, Shape, closed, unclosed, no_quote, no_more, shape
+}
 
 -- ---- the most hashes behind a quote
 
@@ -27,25 +35,32 @@ most-few m (c ∷ w) lacks = max-le (few-here m c w lacks) (most-few m w (lacks-
 
 most-many : (u v : List ℕ) → hash_run v ≤ most_hashes (u ++ 34 ∷ v)
 most-many [] v = omega (arith, le-max_left (hash_run v) (most_hashes v))
-most-many (c ∷ u) v = omega (arith, most-many u v, le-max_right (quote_hashes (c ∷ u ++ 34 ∷ v)) (most_hashes (u ++ 34 ∷ v)))
+most-many (c ∷ u) v =
+    omega (arith, most-many u v, le-max_right (quote_hashes (c ∷ u ++ 34 ∷ v)) (most_hashes (u ++ 34 ∷ v)))
 
 lacks-past : (m : ℕ) (w : List ℕ) → most_hashes w < m → NoQuoteWith m w
 lacks-past m w lt u v e = absurd (omega (arith, lt, ap most_hashes e, most-many u (hashes m ++ v), hash_run-hashes m v))
 
 -- the first quote with so many
-quote-first : (m : ℕ) (u v : List ℕ) → 0 < m → NoQuoteWith m u → hash_run (hashes m ++ v) ≡ m → quote_with m (u ++ (34 ∷ hashes m ++ v)) ≡ Some (length u)
-quote-first m [] v some lacks e = let here : (hash_run (hashes m ++ v) == m) ≡ true = eq-eqb (hash_run (hashes m ++ v)) m e in rw here refl
+quote-first : (m : ℕ) (u v : List ℕ) → 0 < m → NoQuoteWith m u → hash_run (hashes m ++ v) ≡ m
+    → quote_with m (u ++ (34 ∷ hashes m ++ v)) ≡ Some (length u)
+quote-first m [] v some lacks e = let here : (hash_run (hashes m ++ v) == m) ≡ true =
+    eq-eqb (hash_run (hashes m ++ v)) m e in rw here refl
 quote-first m (c ∷ u) v some lacks e =
     let other : (quote_hashes (c ∷ u ++ (34 ∷ hashes m ++ v)) == m) ≡ false =
     grind (arith, common_steps, hash_run-before u (hashes m ++ v), lacks-front m c u lacks, eqb-true) in
     rw other (ap one_more (quote-first m u v some (lacks-rest m c u lacks) e))
 
 -- where it ends
-end-at : (start m : ℕ) (u v : List ℕ) → start + bytes_of (suc (length u)) (u ++ (34 ∷ hashes m ++ v)) ≡ start + bytes (u ++ 34 ∷ [])
+end-at : (start m : ℕ) (u v : List ℕ) → start + bytes_of (suc (length u)) (u ++ (34 ∷ hashes m ++ v)) ≡
+    start + bytes (u ++ 34 ∷ [])
 end-at start m u v =
-    let text : u ++ (34 ∷ hashes m ++ v) ≡ (u ++ 34 ∷ []) ++ (hashes m ++ v) = sym (append_assoc u (34 ∷ []) (hashes m ++ v)) in
+    let text : u ++ (34 ∷ hashes m ++ v) ≡ (u ++ 34 ∷ []) ++ (hashes m ++ v) =
+        sym (append_assoc u (34 ∷ []) (hashes m ++ v)) in
     let size : suc (length u) ≡ length (u ++ 34 ∷ []) = omega (arith, length-append u (34 ∷ [])) in
-    let here : take (suc (length u)) (u ++ (34 ∷ hashes m ++ v)) ≡ u ++ 34 ∷ [] = ap (take (suc (length u))) text ∙ (ap (λ (k : ℕ). take k ((u ++ 34 ∷ []) ++ (hashes m ++ v))) size ∙ take-append_seam (u ++ 34 ∷ []) (hashes m ++ v)) in
+    let here : take (suc (length u)) (u ++ (34 ∷ hashes m ++ v)) ≡ u ++ 34 ∷ [] = ap (take (suc (length u))) text
+        ∙ (ap (λ (k : ℕ). take k ((u ++ 34 ∷ []) ++ (hashes m ++ v))) size
+        ∙ take-append_seam (u ++ 34 ∷ []) (hashes m ++ v)) in
     ap (λ (k : ℕ). start + k) (ap bytes here)
 
 record BestIs (start m : ℕ) (w : List ℕ) (end : Option ℕ) : Type 0 where
@@ -55,10 +70,12 @@ record BestIs (start m : ℕ) (w : List ℕ) (end : Option ℕ) : Type 0 where
 best-read : (start : ℕ) {w : List ℕ} {m : ℕ} {end : Option ℕ} → IsLikelyEnd start w m end → BestIs start m w end
 best-read start {w} (the.none lacks) = grind (arith, common_steps, most-few 0 w lacks)
 best-read start {w} (the.best {n = m} u v some whole lacks most_so) =
-    let many : hash_run (hashes m ++ v) ≤ most_hashes w = omega (arith, ap most_hashes whole, most-many u (hashes m ++ v)) in
+    let many : hash_run (hashes m ++ v) ≤ most_hashes w =
+        omega (arith, ap most_hashes whole, most-many u (hashes m ++ v)) in
     let most : most_hashes w ≡ m = omega (arith, most-few m w most_so, many, hash_run-hashes m v) in
     let exact : hash_run (hashes m ++ v) ≡ m = omega (arith, hash_run-hashes m v, many, most) in
-    let has : (m == 0) ≡ false = false_from_ne_true (m == 0) (λ z. absurd (let none : m ≡ 0 = eqb-true m 0 z in omega (arith, none, some))) in
+    let has : (m == 0) ≡ false =
+        false_from_ne_true (m == 0) (λ z. absurd (let none : m ≡ 0 = eqb-true m 0 z in omega (arith, none, some))) in
     record {
       most = most;
       at =
@@ -80,7 +97,8 @@ has-best start w = by_most (most_hashes w) refl
   where
     some-best : (m : ℕ) {v : List ℕ} → most_hashes v ≡ suc m → Closing (suc m) v → HasBest start v
     some-best m e (found u z lacks) =
-        record { count = suc m; end = _; is = the.best u z (omega arith) refl lacks (lacks-past (suc (suc m)) _ (omega (arith, e))) }
+        record { count = suc m; end = _; is = the.best u z (omega arith) refl lacks
+            (lacks-past (suc (suc m)) _ (omega (arith, e))) }
     some-best m e (lost {u} lacks) = absurd (omega (arith, most-few m u lacks, e))
 
     by_most : (m : ℕ) → most_hashes w ≡ m → HasBest start w
@@ -90,9 +108,11 @@ has-best start w = by_most (most_hashes w) refl
 -- ---- the answer
 
 answer-read : {p : ℕ} {s : List ℕ} {r : Result Unit RawStrError} → IsRawAnswer p s r → r ≡ checked (raw_read p s).0
-answer-read {p} (the.good {next = next} (lit.closed n w le lacks)) = grind (arith, common_steps, whole-text, closed-read, le-leb)
+answer-read {p} (the.good {next = next} (lit.closed n w le lacks)) =
+    grind (arith, common_steps, whole-text, closed-read, le-leb)
 answer-read {p} (the.too_many n w next lt lacks) = grind (arith, common_steps, closed-read, lt-leb)
-answer-read {p} (the.unclosed n w lacks is_best) = let b = best-read (p + suc n) is_best in grind (arith, common_steps, open-read, b.most, b.at)
+answer-read {p} (the.unclosed n w lacks is_best) = let b = best-read (p + suc n) is_best in
+    grind (arith, common_steps, open-read, b.most, b.at)
 answer-read {p} (the.no_quote n c next out) = grind (arith, common_steps, no_quote-read)
 answer-read {p} (the.no_more n) = grind (arith, common_steps, no_more-read)
 
@@ -112,11 +132,14 @@ has-answer p s = by_shape (shape s)
               (the.good (lit.closed n w (leb-true n 255 e) lacks));
         })
         (λ e. record { answer = Err (TooManyDelimiters n); is = the.too_many n w next (leb-false n 255 e) lacks })
-    by_shape (unclosed n w lacks) = let b = has-best (p + suc n) w in record { answer = Err (NoTerminator n b.count b.end); is = the.unclosed n w lacks b.is }
+    by_shape (unclosed n w lacks) = let b = has-best (p + suc n) w in
+        record { answer = Err (NoTerminator n b.count b.end); is = the.unclosed n w lacks b.is }
     by_shape (no_quote n c next out) = record { answer = Err (InvalidStarter c); is = the.no_quote n c next out }
     by_shape (no_more n) = record { answer = Err (InvalidStarter 0); is = the.no_more n }
 
 -- this one and no other
-pub raw-answer : (text : List ℕ) (p : ℕ) (other : Result Unit RawStrError) → IsRawAnswer p (drop p (chars text)) other ↔ (other ≡ check_raw text p)
+pub raw-answer : (text : List ℕ) (p : ℕ) (other : Result Unit RawStrError) → IsRawAnswer p (drop p (chars text)) other
+    ↔ (other ≡ check_raw text p)
 unfolding check_raw
-raw-answer text p other = (λ is. answer-read is, λ e. let h = has-answer p (drop p (chars text)) in subst (IsRawAnswer p (drop p (chars text))) (answer-read h.is ∙ sym e) h.is)
+raw-answer text p other = (λ is. answer-read is, λ e. let h = has-answer p (drop p (chars text)) in
+    subst (IsRawAnswer p (drop p (chars text))) (answer-read h.is ∙ sym e) h.is)

@@ -1,14 +1,24 @@
 -- What the language says of runs, and which family the first character of a text chooses.
-use Rattle.std.proofs.Common.{◌≡◌, ℕ, suc, ◌≤◌, ◌<◌, ◌==◌, ◌&&◌, ◌||◌, inl, inr, nat_le, not, Bool, true, false, true≢false, List, [], ◌∷◌, ◌++◌, length, take, drop, codes, refl, sym, ap, ◌∙◌, arith, take_all}
+use Rattle.std.proofs.Common.{
+    ◌≡◌, ℕ, suc, ◌≤◌, ◌<◌, ◌==◌, ◌&&◌, ◌||◌, inl, inr, nat_le, not, Bool, true, false, true≢false, List, [], ◌∷◌, ◌++◌,
+    length, take, drop, codes, refl, sym, ap, ◌∙◌, arith, take_all
+}
 use Rattle.std.proofs.Math.Seq.{take-append_seam, drop-append_seam}
-use Rattle.std.proofs.lemmas.Bool.{agree_below_at, and_parts, eqb-true, leb-true, ne_eqb, or_cases, or_parts, or_left, or_right, not-true, false_from_ne_true}
+use Rattle.std.proofs.lemmas.Bool.{
+    agree_below_at, and_parts, eqb-true, leb-true, ne_eqb, or_cases, or_parts, or_left, or_right, not-true,
+    false_from_ne_true
+}
 use Rattle.std.specs.{Char.{is_ascii_digit}, List.{list_all}}
 use Rattle.std.proofs.lemmas.Grind.{common_steps}
 use Rattle.unicode_ident.proofs.Computing.{unicode_ident}
 use Rattle.rustc_lexer.specs.declared.lexemes.family.Family.{Family}
-use Rattle.rustc_lexer.specs.declared.lexemes.family.Family.TheVariants.{Slash, Space, Word, Number, Quote, Str, Emoji, Hash, Symbol}
+use Rattle.rustc_lexer.specs.declared.lexemes.family.Family.TheVariants.{
+    Slash, Space, Word, Number, Quote, Str, Emoji, Hash, Symbol
+}
 use Rattle.rustc_lexer.specs.{TokenKind}
-use Rattle.rustc_lexer.specs.Classes.{is_among, is_whitespace, is_id_start, is_word_continue, is_word_start, AreAll, NextIs, NextIsNot, ends_prefix}
+use Rattle.rustc_lexer.specs.Classes.{
+    is_among, is_whitespace, is_id_start, is_word_continue, is_word_start, AreAll, NextIs, NextIsNot, ends_prefix
+}
 use Rattle.rustc_lexer.specs.Tables.{is_emoji, emoji_ranges}
 use Rattle.rustc_lexer.specs.laws.Choice.{by_test}
 use Rattle.rustc_lexer.specs.laws.Reach.{IsDecidedBy, decided_same, run_len-in, run_len-out}
@@ -22,12 +32,15 @@ use Rattle.rustc_lexer.specs.means.Scan.{after, next_is, begins, run_len}
 pub run_len-here : (p : ℕ → Bool) (w next : List ℕ) → AreAll p w → NextIsNot p next → run_len p (w ++ next) ≡ length w
 run_len-here p [] [] all stop = refl
 run_len-here p [] (c ∷ next) all stop = run_len-out p c next stop
-run_len-here p (c ∷ w) next all stop = grind (arith, common_steps, and_parts, run_len-in, run_len-here p w next (and_parts (p c) (list_all p w) all).1 stop)
+run_len-here p (c ∷ w) next all stop =
+    grind (arith, common_steps, and_parts, run_len-in,
+    run_len-here p w next (and_parts (p c) (list_all p w) all).1 stop)
 
 -- what follows a run stops it
 pub run-stops : (p : ℕ → Bool) (s : List ℕ) → NextIsNot p (drop (run_len p s) s)
 run-stops p [] = refl
-run-stops p (c ∷ s) = by_test (λ n. NextIsNot p (drop n (c ∷ s))) (p c) (suc (run_len p s)) 0 (λ e. run-stops p s) (λ e. e)
+run-stops p (c ∷ s) = by_test (λ n. NextIsNot p (drop n (c ∷ s))) (p c) (suc (run_len p s)) 0 (λ e. run-stops p s)
+    (λ e. e)
 
 -- no character of one class is in the other
 pub apart : (p q : ℕ → Bool) (s : List ℕ) → ((c : ℕ) → p c ≡ true → q c ≡ false) → NextIs p s → NextIsNot q s
@@ -40,9 +53,12 @@ other_than p k d out in_class = ne_eqb d k (λ e. true≢false (sym in_class ∙
 -- what holds of each character in a list
 pub among : (f : ℕ → Bool) (ds : List ℕ) → list_all f ds ≡ true → (c : ℕ) → is_among ds c ≡ true → f c ≡ true
 among f [] all c e = absurd (true≢false (sym e))
-among f (d ∷ ds) all c e = let parts = and_parts (f d) (list_all f ds) all in elim (or_cases (c == d) (is_among ds c) e) [ inl a ↦ ap f (eqb-true c d a) ∙ parts.0 | inr g ↦ among f ds parts.1 c g ]
+among f (d ∷ ds) all c e = let parts = and_parts (f d) (list_all f ds) all in
+    elim (or_cases (c == d) (is_among ds c) e) [ inl a ↦ ap f (eqb-true c d a)
+    ∙ parts.0 | inr g ↦ among f ds parts.1 c g ]
 
-pub none-among : (f : ℕ → Bool) (ds : List ℕ) → list_all (λ d. not (f d)) ds ≡ true → (c : ℕ) → is_among ds c ≡ true → f c ≡ false
+pub none-among : (f : ℕ → Bool) (ds : List ℕ) → list_all (λ d. not (f d)) ds ≡ true → (c : ℕ) → is_among ds c ≡ true
+    → f c ≡ false
 none-among f ds all c e = not-true (f c) (among (λ d. not (f d)) ds all c e)
 
 -- no white space is in the class
@@ -65,18 +81,25 @@ unfolding unicode_ident is_emoji emoji_ranges
 space-no_word_start = solid-by is_word_start refl
 
 pub word_start-no_space : (c : ℕ) → is_word_start c ≡ true → is_whitespace c ≡ false
-word_start-no_space c e = false_from_ne_true (is_whitespace c) (λ s. either-way (is_word_start c) e (space-no_word_start c s))
+word_start-no_space c e =
+    false_from_ne_true (is_whitespace c) (λ s. either-way (is_word_start c) e (space-no_word_start c s))
 
 pub digit-small : (d : ℕ) → is_ascii_digit d ≡ true → d < 128
 digit-small d t = let le : d ≤ 57 = leb-true d 57 (and_parts (nat_le 48 d) (nat_le d 57) t).1 in omega arith
 
 -- a digit is no white space, begins no word and ends no prefix
-pub digit-other : (d : ℕ) → is_ascii_digit d ≡ true → (is_whitespace d || (is_word_start d || ((d == 47) || ends_prefix d))) ≡ false
+pub digit-other : (d : ℕ) → is_ascii_digit d ≡ true
+    → (is_whitespace d || (is_word_start d || ((d == 47) || ends_prefix d))) ≡ false
 unfolding unicode_ident is_emoji emoji_ranges
-digit-other d t = sym (ap (λ b. b && (is_whitespace d || (is_word_start d || ((d == 47) || ends_prefix d)))) t) ∙ agree_below_at (λ b. is_ascii_digit b && (is_whitespace b || (is_word_start b || ((b == 47) || ends_prefix b)))) (λ b. false) 128 d refl (digit-small d t)
+digit-other d t = sym (ap (λ b. b && (is_whitespace d || (is_word_start d || ((d == 47) || ends_prefix d)))) t)
+    ∙ agree_below_at (λ b. is_ascii_digit b && (is_whitespace b || (is_word_start b || ((b == 47) || ends_prefix b))))
+    (λ b. false) 128 d refl (digit-small d t)
 
 pub word_start-no_digit : (c : ℕ) → is_word_start c ≡ true → is_ascii_digit c ≡ false
-word_start-no_digit c e = false_from_ne_true (is_ascii_digit c) (λ d. either-way (is_word_start c) e (or_parts (is_word_start c) _ (or_parts (is_whitespace c) _ (digit-other c d)).1).0)
+word_start-no_digit c e =
+    false_from_ne_true (is_ascii_digit c)
+    (λ d. either-way (is_word_start c) e
+    (or_parts (is_word_start c) _ (or_parts (is_whitespace c) _ (digit-other c d)).1).0)
 
 -- what ends a prefix is in no word
 prefix_end-no_word : (c : ℕ) → ends_prefix c ≡ true → is_word_continue c ≡ false
@@ -84,7 +107,8 @@ unfolding unicode_ident is_emoji emoji_ranges
 prefix_end-no_word c e = none-among is_word_continue (codes "#\"'") refl c e
 
 pub word-no_prefix_end : (c : ℕ) → is_word_continue c ≡ true → ends_prefix c ≡ false
-word-no_prefix_end c e = false_from_ne_true (ends_prefix c) (λ m. either-way (is_word_continue c) e (prefix_end-no_word c m))
+word-no_prefix_end c e =
+    false_from_ne_true (ends_prefix c) (λ m. either-way (is_word_continue c) e (prefix_end-no_word c m))
 
 pub prefix_end-stops : (s : List ℕ) → NextIs ends_prefix s → NextIsNot is_word_continue s
 prefix_end-stops s = apart ends_prefix is_word_continue s prefix_end-no_word
@@ -93,7 +117,8 @@ pub start-word_start : (c : ℕ) → is_id_start c ≡ true → is_word_start c 
 start-word_start c e = or_left (is_id_start c) (is_emoji c) e
 
 -- letters that more than a word may begin with
-pub letters-start : (is_id_start 114 ≡ true) × (is_id_start 107 ≡ true) × (is_id_start 98 ≡ true) × (is_id_start 99 ≡ true)
+pub letters-start : (is_id_start 114 ≡ true) × (is_id_start 107 ≡ true) × (is_id_start 98 ≡ true)
+    × (is_id_start 99 ≡ true)
 unfolding unicode_ident
 letters-start = (refl, refl, refl, refl)
 
@@ -142,7 +167,8 @@ unfolding unicode_ident is_emoji emoji_ranges
 prefix_end-no_word_start c e = none-among is_word_start (codes "#\"'") refl c e
 
 word_start-no_prefix_end : (c : ℕ) → is_word_start c ≡ true → ends_prefix c ≡ false
-word_start-no_prefix_end c e = false_from_ne_true (ends_prefix c) (λ m. either-way (is_word_start c) e (prefix_end-no_word_start c m))
+word_start-no_prefix_end c e =
+    false_from_ne_true (ends_prefix c) (λ m. either-way (is_word_start c) e (prefix_end-no_word_start c m))
 
 pub chooses-emoji : (c : ℕ) → is_id_start c ≡ false → is_emoji c ≡ true → past_first c ≡ read_by Emoji c
 chooses-emoji c f e =
@@ -150,7 +176,8 @@ chooses-emoji c f e =
     let m = or_parts (c == 35) _ (word_start-no_prefix_end c w) in
     let n = or_parts (c == 34) _ m.1 in
     let o = or_parts (c == 39) _ n.1 in
-    chooses c Emoji (rw (other_than is_word_start 47 c slash-no_start w, word_start-no_space c w, f, word_start-no_digit c w, o.0, n.0, e) refl)
+    chooses c Emoji (rw (other_than is_word_start 47 c slash-no_start w, word_start-no_space c w, f,
+        word_start-no_digit c w, o.0, n.0, e) refl)
 
 pub chooses-symbol : (c : ℕ) → has_rule c ≡ false → past_first c ≡ read_by Symbol c
 chooses-symbol c e = grind (arith, common_steps, or_parts, chooses)
@@ -168,20 +195,26 @@ Read kind n s = lexeme s ≡ (kind, n)
 pub pair : {A : Type 0} (a b : A) (m n : ℕ) → a ≡ b → m ≡ n → ◌≡◌ {A = A × ℕ} (a, m) (b, n)
 pair {A} a b m n e f = ap (λ (x : A). let r : A × ℕ = (x, m) in r) e ∙ ap (λ (k : ℕ). let r : A × ℕ = (b, k) in r) f
 
-pub read-first : (c : ℕ) (scan : List ℕ → TokenKind × ℕ) (s : List ℕ) (kind : TokenKind) (n m : ℕ) → past_first c ≡ scan → scan s ≡ (kind, n) → suc n ≡ m → Read kind m (c ∷ s)
+pub read-first : (c : ℕ) (scan : List ℕ → TokenKind × ℕ) (s : List ℕ) (kind : TokenKind) (n m : ℕ) → past_first c ≡ scan
+    → scan s ≡ (kind, n) → suc n ≡ m → Read kind m (c ∷ s)
 read-first c scan s kind n m e f g = grind (arith, common_steps)
 
 -- past one character more
-pub sound-after : (c d : ℕ) (s : List ℕ) (scan : List ℕ → TokenKind × ℕ) → IsTokenBefore (drop (scan s).1 s) (scan s).0 (c ∷ d ∷ take (scan s).1 s) → Sound c (d ∷ s) (after 1 scan (d ∷ s))
+pub sound-after : (c d : ℕ) (s : List ℕ) (scan : List ℕ → TokenKind × ℕ)
+    → IsTokenBefore (drop (scan s).1 s) (scan s).0 (c ∷ d ∷ take (scan s).1 s) → Sound c (d ∷ s) (after 1 scan (d ∷ s))
 sound-after c d s scan is = grind (arith, common_steps)
 
 -- what is decided by the first characters is decided by a front that has them
-pub decided-front : {B : Type 0} (j : ℕ) (f : List ℕ → B) → IsDecidedBy j f → (w next : List ℕ) → j ≤ length w → f (w ++ next) ≡ f w
-decided-front j f decided w next le = decided_same j (length w) f (w ++ next) w decided le (take-append_seam w next ∙ sym (take_all (length w) w (omega arith)))
+pub decided-front : {B : Type 0} (j : ℕ) (f : List ℕ → B) → IsDecidedBy j f → (w next : List ℕ) → j ≤ length w
+    → f (w ++ next) ≡ f w
+decided-front j f decided w next le =
+    decided_same j (length w) f (w ++ next) w decided le
+    (take-append_seam w next ∙ sym (take_all (length w) w (omega arith)))
 
 pub begins-next : (d : ℕ) (s : List ℕ) → begins (d ∷ []) s ≡ next_is (is_among (d ∷ [])) s
 begins-next d w1 = grind (arith, common_steps)
 
 -- what is read, of a text in two parts
-pub parted : {A : Type 0} (Is : List ℕ → A → List ℕ → Type 0) (v next s : List ℕ) (a : A) (r : A × ℕ) → v ++ next ≡ s → r ≡ (a, length v) → Is next a v → Is (drop r.1 s) r.0 (take r.1 s)
+pub parted : {A : Type 0} (Is : List ℕ → A → List ℕ → Type 0) (v next s : List ℕ) (a : A) (r : A × ℕ) → v ++ next ≡ s
+    → r ≡ (a, length v) → Is next a v → Is (drop r.1 s) r.0 (take r.1 s)
 parted {A} w1 v next s a r e f is = grind (arith, common_steps, take-append_seam, drop-append_seam)

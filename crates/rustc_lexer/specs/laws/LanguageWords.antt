@@ -1,26 +1,41 @@
 -- Words are in their languages, and what is there is read so.
-use Rattle.std.proofs.Common.{◌≡◌, ℕ, suc, ◌+◌, ◌==◌, ◌&&◌, Bool, true, false, true≢false, if◌then◌else◌, List, [], ◌∷◌, ◌++◌, length, take, drop, codes, refl, sym, ap, ◌∙◌, arith, take-append-drop}
+use Rattle.std.proofs.Common.{
+    ◌≡◌, ℕ, suc, ◌+◌, ◌==◌, ◌&&◌, Bool, true, false, true≢false, if◌then◌else◌, List, [], ◌∷◌, ◌++◌, length, take, drop,
+    codes, refl, sym, ap, ◌∙◌, arith, take-append-drop
+}
 use Rattle.std.proofs.Math.Seq.{take-append_seam, drop-append_seam}
 use Rattle.std.proofs.lemmas.Bool.{and_parts, eqb-true, or_parts, or_from, false_from_ne_true}
 use Rattle.std.specs.List.{list_all}
 use Rattle.std.proofs.lemmas.Grind.{common_steps}
 use Rattle.unicode_ident.proofs.Computing.{unicode_ident}
 use Rattle.rustc_lexer.specs.{TokenKind, Ident, InvalidIdent, RawIdent, ForcedKeywordIdent, UnknownPrefix}
-use Rattle.rustc_lexer.specs.Classes.{is_id_start, is_id_continue, is_ident, is_word_continue, is_word_start, begins_ident_after, AreAll, NextIs, NextIsNot, ends_prefix}
+use Rattle.rustc_lexer.specs.Classes.{
+    is_id_start, is_id_continue, is_ident, is_word_continue, is_word_start, begins_ident_after, AreAll, NextIs,
+    NextIsNot, ends_prefix
+}
 use Rattle.rustc_lexer.specs.Tables.{is_emoji, emoji_ranges}
-use Rattle.rustc_lexer.specs.means.Ident.{ident_kind, ident_or_unknown_prefix, invalid_ident, begins_hash_ident, hash_ident_or}
-use Rattle.rustc_lexer.specs.laws.LanguageRuns.{run_len-here, run-stops, Sound, Read, read-first, begins-next, chooses-word, chooses-emoji, word-no_prefix_end, prefix_end-stops, start-word_start, letters-start}
+use Rattle.rustc_lexer.specs.means.Ident.{
+    ident_kind, ident_or_unknown_prefix, invalid_ident, begins_hash_ident, hash_ident_or
+}
+use Rattle.rustc_lexer.specs.laws.LanguageRuns.{
+    run_len-here, run-stops, Sound, Read, read-first, begins-next, chooses-word, chooses-emoji, word-no_prefix_end,
+    prefix_end-stops, start-word_start, letters-start
+}
 use Rattle.rustc_lexer.specs.laws.Reach.{run_all}
 use Rattle.rustc_lexer.specs.Language as the
 use Rattle.rustc_lexer.specs.Language.{IsTokenBefore, begins_prefixed}
-use Rattle.rustc_lexer.specs.means.Lexeme.{letter_r, letter_k, letter_b, letter_c, raw_or_ident, word, opens_raw, begins_raw}
+use Rattle.rustc_lexer.specs.means.Lexeme.{
+    letter_r, letter_k, letter_b, letter_c, raw_or_ident, word, opens_raw, begins_raw
+}
 use Rattle.rustc_lexer.specs.means.Scan.{after, begins, next_is, run, run_len}
 
 -- ---- a choice by letters
 
 -- of what follows each letter that may be more than the start of an identifier, and of what follows any other start
-pub by_letter : (P : ℕ → (List ℕ → TokenKind × ℕ) → Type 0) (c : ℕ) → P 114 letter_r → P 107 letter_k → P 98 letter_b → P 99 letter_c
-    → ((c == 114) ≡ false → (c == 107) ≡ false → (c == 98) ≡ false → (c == 99) ≡ false → P c ident_or_unknown_prefix) → P c (word c)
+pub by_letter : (P : ℕ → (List ℕ → TokenKind × ℕ) → Type 0) (c : ℕ) → P 114 letter_r → P 107 letter_k → P 98 letter_b
+    → P 99 letter_c
+    → ((c == 114) ≡ false → (c == 107) ≡ false → (c == 98) ≡ false → (c == 99) ≡ false → P c ident_or_unknown_prefix)
+        → P c (word c)
 by_letter w0 c of_r of_k of_b of_c other = grind (arith, common_steps)
 
 -- ---- what begins no identifier
@@ -45,7 +60,8 @@ no-opening s n = grind (arith, common_steps, or_from)
 opens_raw-stops : (s : List ℕ) → begins (codes "\"") s ≡ false → begins (codes "#") s ≡ false → NextIsNot opens_raw s
 opens_raw-stops s w1 w2 = grind (arith, common_steps, or_from, or_parts, begins-next)
 
-pub opens_raw-none : (s : List ℕ) → NextIsNot opens_raw s → (begins (codes "\"") s ≡ false) × (begins (codes "#") s ≡ false)
+pub opens_raw-none : (s : List ℕ) → NextIsNot opens_raw s → (begins (codes "\"") s ≡ false)
+    × (begins (codes "#") s ≡ false)
 opens_raw-none w0 e = grind (arith, common_steps, or_parts, begins-next, or_from)
 
 pub none-raw : (s : List ℕ) → begins_raw s ≡ false → (begins (codes "r\"") s ≡ false) × (begins (codes "r#") s ≡ false)
@@ -67,17 +83,22 @@ whole-word : (f : List ℕ) (m : ℕ) (w next : List ℕ) → ends_prefix m ≡ 
     → AreAll is_word_continue w → NextIsNot is_word_continue next → begins (f ++ m ∷ []) (w ++ next) ≡ true
     → IsWholeWord f w next
 whole-word [] m [] [] is_end fs ws stop e = absurd (true≢false (sym e))
-whole-word [] m [] (d ∷ next) is_end fs ws stop e = record { same = refl; at_prefix_end = ap ends_prefix (eqb-true d m (and_parts (d == m) true e).0) ∙ is_end }
+whole-word [] m [] (d ∷ next) is_end fs ws stop e =
+    record { same = refl; at_prefix_end = ap ends_prefix (eqb-true d m (and_parts (d == m) true e).0) ∙ is_end }
 whole-word [] m (d ∷ w) next is_end fs ws stop e = grind (arith, common_steps, eqb-true, and_parts, word-no_prefix_end)
 whole-word (x ∷ f) m [] [] is_end fs ws stop e = absurd (true≢false (sym e))
 whole-word (x ∷ f) m [] (d ∷ next) is_end fs ws stop e = grind (arith, common_steps, eqb-true, and_parts)
 whole-word (x ∷ f) m (d ∷ w) next is_end fs ws stop e =
     let parts = and_parts (d == x) _ e in
-    let more = whole-word f m w next is_end (and_parts (is_word_continue x) (list_all is_word_continue f) fs).1 (and_parts (is_word_continue d) (list_all is_word_continue w) ws).1 stop parts.1 in
-    record { same = ap (λ (y : ℕ). y ∷ w) (eqb-true d x parts.0) ∙ ap (λ (ys : List ℕ). x ∷ ys) more.same; at_prefix_end = more.at_prefix_end }
+    let more = whole-word f m w next is_end (and_parts (is_word_continue x) (list_all is_word_continue f) fs).1
+        (and_parts (is_word_continue d) (list_all is_word_continue w) ws).1 stop parts.1 in
+    record { same = ap (λ (y : ℕ). y ∷ w) (eqb-true d x parts.0) ∙ ap (λ (ys : List ℕ). x ∷ ys) more.same;
+        at_prefix_end = more.at_prefix_end }
 
-module _ (c : ℕ) (w next : List ℕ) (ws : AreAll is_word_continue w) (stop : NextIsNot is_word_continue next) (right : NextIs ends_prefix next → is_ident (c ∷ w) ≡ false) where
-  no-front : (x : ℕ) (f : List ℕ) (m : ℕ) → ends_prefix m ≡ true → AreAll is_word_continue f → is_ident (x ∷ f) ≡ true → begins (x ∷ f ++ m ∷ []) (c ∷ w ++ next) ≡ false
+module _ (c : ℕ) (w next : List ℕ) (ws : AreAll is_word_continue w) (stop : NextIsNot is_word_continue next)
+    (right : NextIs ends_prefix next → is_ident (c ∷ w) ≡ false) where
+  no-front : (x : ℕ) (f : List ℕ) (m : ℕ) → ends_prefix m ≡ true → AreAll is_word_continue f → is_ident (x ∷ f) ≡ true
+      → begins (x ∷ f ++ m ∷ []) (c ∷ w ++ next) ≡ false
   no-front x f m is_end fs is = grind (arith, common_steps, false_from_ne_true, and_parts, whole-word, eqb-true)
 
   -- a word that nothing follows that ends a prefix, or that is no identifier, begins nothing else
@@ -103,37 +124,48 @@ module _ (c : ℕ) (w next : List ℕ) (ws : AreAll is_word_continue w) (stop : 
 
 pub continue-word : (w : List ℕ) → AreAll is_id_continue w → AreAll is_word_continue w
 continue-word [] all = refl
-continue-word (c ∷ w) all = let parts = and_parts (is_id_continue c) (list_all is_id_continue w) all in rw parts.0 (continue-word w parts.1)
+continue-word (c ∷ w) all = let parts = and_parts (is_id_continue c) (list_all is_id_continue w) all in
+    rw parts.0 (continue-word w parts.1)
 
 plain-read : (c : ℕ) (w next : List ℕ) (kind : TokenKind) → is_id_start c ≡ true → AreAll is_word_continue w
     → NextIsNot is_word_continue next → begins_prefixed (c ∷ w ++ next) ≡ false → ident_kind w next ≡ kind
     → Read kind (suc (length w)) (c ∷ w ++ next)
-plain-read c w next kind start all stop free is = grind (arith, common_steps, read-first, chooses-word, word-plain, run_len-here, take-append_seam, drop-append_seam)
+plain-read c w next kind start all stop free is =
+    grind (arith, common_steps, read-first, chooses-word, word-plain, run_len-here, take-append_seam, drop-append_seam)
 
-pub ident-is_read : (w next : List ℕ) → is_ident w ≡ true → NextIsNot is_word_continue next → NextIsNot ends_prefix next → Read Ident (length w) (w ++ next)
+pub ident-is_read : (w next : List ℕ) → is_ident w ≡ true → NextIsNot is_word_continue next → NextIsNot ends_prefix next
+    → Read Ident (length w) (w ++ next)
 ident-is_read w0 next is stop none = grind (arith, common_steps, and_parts, continue-word, plain-read, word-no_opening)
 
-pub prefix-read : (w next : List ℕ) → is_ident w ≡ true → NextIs ends_prefix next → begins_prefixed (w ++ next) ≡ false → Read UnknownPrefix (length w) (w ++ next)
+pub prefix-read : (w next : List ℕ) → is_ident w ≡ true → NextIs ends_prefix next → begins_prefixed (w ++ next) ≡ false
+    → Read UnknownPrefix (length w) (w ++ next)
 prefix-read w0 next is goes free = grind (arith, common_steps, and_parts, plain-read, continue-word, prefix_end-stops)
 
 pub invalid-read : (c : ℕ) (w next : List ℕ) → is_word_start c ≡ true → AreAll is_word_continue w
     → is_ident (c ∷ w) ≡ false → NextIsNot is_word_continue next → Read InvalidIdent (suc (length w)) (c ∷ w ++ next)
-invalid-read c w next start all wrong stop = grind (arith, plain-read, word-no_opening, read-first, chooses-emoji, run_len-here)
+invalid-read c w next start all wrong stop =
+    grind (arith, plain-read, word-no_opening, read-first, chooses-emoji, run_len-here)
 
 -- past a hash
 hash_ident-read : (kind : TokenKind) (other : List ℕ → TokenKind × ℕ) (w next : List ℕ) → is_ident w ≡ true
     → NextIsNot is_id_continue next → hash_ident_or kind other (35 ∷ w ++ next) ≡ (kind, suc (length w))
 hash_ident-read kind other w2 next is stop = grind (arith, common_steps, and_parts, run_len-here)
 
-pub raw_ident-read : (w next : List ℕ) → is_ident w ≡ true → NextIsNot is_id_continue next → Read RawIdent (suc (suc (length w))) (114 ∷ 35 ∷ w ++ next)
-raw_ident-read w next is stop = read-first 114 (word 114) (35 ∷ w ++ next) RawIdent (suc (length w)) _ (chooses-word 114 letters-start.0) (hash_ident-read RawIdent raw_or_ident w next is stop) refl
+pub raw_ident-read : (w next : List ℕ) → is_ident w ≡ true → NextIsNot is_id_continue next
+    → Read RawIdent (suc (suc (length w))) (114 ∷ 35 ∷ w ++ next)
+raw_ident-read w next is stop =
+    read-first 114 (word 114) (35 ∷ w ++ next) RawIdent (suc (length w)) _ (chooses-word 114 letters-start.0)
+    (hash_ident-read RawIdent raw_or_ident w next is stop) refl
 
-pub keyword-read : (w next : List ℕ) → is_ident w ≡ true → NextIsNot is_id_continue next → Read ForcedKeywordIdent (suc (suc (length w))) (107 ∷ 35 ∷ w ++ next)
-keyword-read w next is stop = read-first 107 (word 107) (35 ∷ w ++ next) ForcedKeywordIdent (suc (length w)) _ (chooses-word 107 letters-start.1) (hash_ident-read ForcedKeywordIdent ident_or_unknown_prefix w next is stop) refl
+pub keyword-read : (w next : List ℕ) → is_ident w ≡ true → NextIsNot is_id_continue next
+    → Read ForcedKeywordIdent (suc (suc (length w))) (107 ∷ 35 ∷ w ++ next)
+keyword-read w next is stop = read-first 107 (word 107) (35 ∷ w ++ next) ForcedKeywordIdent (suc (length w)) _
+    (chooses-word 107 letters-start.1) (hash_ident-read ForcedKeywordIdent ident_or_unknown_prefix w next is stop) refl
 
 -- ---- and what is read is one of these
 
-pub ident-sound : (c : ℕ) → is_id_start c ≡ true → (s : List ℕ) → begins_prefixed (c ∷ s) ≡ false → Sound c s (ident_or_unknown_prefix s)
+pub ident-sound : (c : ℕ) → is_id_start c ≡ true → (s : List ℕ) → begins_prefixed (c ∷ s) ≡ false
+    → Sound c s (ident_or_unknown_prefix s)
 ident-sound c start s free = by_kind (list_all is_id_continue (take n s)) (next_is ends_prefix (drop n s)) refl refl
   where
     n : ℕ
@@ -144,21 +176,29 @@ ident-sound c start s free = by_kind (list_all is_id_continue (take n s)) (next_
 
     by_kind : (plain at_prefix_end : Bool) → list_all is_id_continue (take n s) ≡ plain
         → next_is ends_prefix (drop n s) ≡ at_prefix_end
-        → IsTokenBefore (drop n s) (if plain then (if at_prefix_end then UnknownPrefix else Ident) else InvalidIdent) (c ∷ take n s)
+        → IsTokenBefore (drop n s) (if plain then (if at_prefix_end then UnknownPrefix else Ident) else InvalidIdent)
+            (c ∷ take n s)
     by_kind true true e f = the.unknown_prefix (rw (start, e) refl) f (ap begins_prefixed whole ∙ free)
     by_kind true false e f = the.ident (rw (start, e) refl) (run-stops is_word_continue s) f
-    by_kind false at_prefix_end e f = the.invalid_ident (start-word_start c start) (run_all is_word_continue s) (rw (start, e) refl) (run-stops is_word_continue s)
+    by_kind false at_prefix_end e f = the.invalid_ident (start-word_start c start) (run_all is_word_continue s)
+        (rw (start, e) refl) (run-stops is_word_continue s)
 
 pub invalid-sound : (c : ℕ) → is_id_start c ≡ false → is_emoji c ≡ true → (s : List ℕ) → Sound c s (invalid_ident s)
-invalid-sound c no_start emoji s = the.invalid_ident (rw (no_start, emoji) refl) (run_all is_word_continue s) (rw no_start refl) (run-stops is_word_continue s)
+invalid-sound c no_start emoji s = the.invalid_ident (rw (no_start, emoji) refl) (run_all is_word_continue s)
+    (rw no_start refl) (run-stops is_word_continue s)
 
 -- past a hash, where this is so of what may stand there
-pub hash_ident-sound : (P : List ℕ → List ℕ → Type 0) → ((w next : List ℕ) → is_ident w ≡ true → NextIsNot is_id_continue next → P next (35 ∷ w)) → (s : List ℕ) → begins_hash_ident s ≡ true
+pub hash_ident-sound : (P : List ℕ → List ℕ → Type 0)
+    → ((w next : List ℕ) → is_ident w ≡ true → NextIsNot is_id_continue next → P next (35 ∷ w)) → (s : List ℕ)
+    → begins_hash_ident s ≡ true
     → P (drop (2 + run_len is_id_continue (drop 2 s)) s) (take (2 + run_len is_id_continue (drop 2 s)) s)
 hash_ident-sound w0 is w2 e = grind (arith, common_steps, and_parts, eqb-true, run_all, run-stops)
 
 pub raw_ident-sound : (s : List ℕ) → begins_hash_ident s ≡ true → Sound 114 s (after 2 (run RawIdent is_id_continue) s)
-raw_ident-sound = hash_ident-sound (λ next w. IsTokenBefore next RawIdent (114 ∷ w)) (λ w next is stop. the.raw_ident is stop)
+raw_ident-sound =
+    hash_ident-sound (λ next w. IsTokenBefore next RawIdent (114 ∷ w)) (λ w next is stop. the.raw_ident is stop)
 
-pub keyword-sound : (s : List ℕ) → begins_hash_ident s ≡ true → Sound 107 s (after 2 (run ForcedKeywordIdent is_id_continue) s)
-keyword-sound = hash_ident-sound (λ next w. IsTokenBefore next ForcedKeywordIdent (107 ∷ w)) (λ w next is stop. the.forced_keyword is stop)
+pub keyword-sound : (s : List ℕ) → begins_hash_ident s ≡ true
+    → Sound 107 s (after 2 (run ForcedKeywordIdent is_id_continue) s)
+keyword-sound = hash_ident-sound (λ next w. IsTokenBefore next ForcedKeywordIdent (107 ∷ w))
+    (λ w next is stop. the.forced_keyword is stop)

@@ -9,7 +9,8 @@ module _ (test : List ℕ → Bool) where
   pub offset-here : (c : ℕ) (s : List ℕ) → test (c ∷ s) ≡ true → least_offset test (c ∷ s) ≡ Some 0
   offset-here c s e = rw e refl
 
-  pub offset-on : (c : ℕ) (s : List ℕ) → test (c ∷ s) ≡ false → least_offset test (c ∷ s) ≡ one_more (least_offset test s)
+  pub offset-on : (c : ℕ) (s : List ℕ) → test (c ∷ s) ≡ false
+      → least_offset test (c ∷ s) ≡ one_more (least_offset test s)
   offset-on c s e = rw e refl
 
 pub more-zero : (o : Option ℕ) → o ≡ more 0 o

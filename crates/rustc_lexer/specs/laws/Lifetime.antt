@@ -7,7 +7,9 @@ use Rattle.rustc_lexer.specs.means.Scan.{after, begins, gives, run, run_as}
 
 -- what a name is that no quote follows, and one that a quote follows
 abbrev pub unquoted_name : ℕ → List ℕ → List ℕ → TokenKind × ℕ
-unquoted_name c name s = gives (if begins (codes "#") s && not (is_ascii_digit c) then UnknownPrefixLifetime else Lifetime (is_bad_name (c ∷ name))) s
+unquoted_name c name s =
+    gives (if begins (codes "#") s && not (is_ascii_digit c) then UnknownPrefixLifetime else Lifetime
+    (is_bad_name (c ∷ name))) s
 
 abbrev pub quoted_name : ℕ → List ℕ → List ℕ → TokenKind × ℕ
 quoted_name c name s = (Literal (Char true) (2 + length (encode_utf8_all (c ∷ name))), 1)

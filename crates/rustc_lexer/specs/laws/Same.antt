@@ -1,5 +1,8 @@
 -- What `==` of two tokens, or of two heads, tells: that they are the same.
-use Rattle.std.proofs.Common.{rules, ◌≡◌, ◌↔◌, IsTrue, Bool, true, false, true≢false, refl, sym, ap, ◌∙◌, ◌==◌, List, [], ◌∷◌, Option, ◌&&◌, inl, inr, arith}
+use Rattle.std.proofs.Common.{
+    rules, ◌≡◌, ◌↔◌, IsTrue, Bool, true, false, true≢false, refl, sym, ap, ◌∙◌, ◌==◌, List, [], ◌∷◌, Option, ◌&&◌, inl,
+    inr, arith
+}
 use Rattle.std.specs.{Cmp.Derive.{of_values}, Option.{option_eq}}
 use Rattle.std.proofs.lemmas.{Bool.{and_parts, eqb-true}, Grind.{common_steps}}
 use denote.Enum.Bare.{same_true}
@@ -30,8 +33,10 @@ record Tells {K : Type 0} (E : K → K → Bool) : Type 0 where
 one : {K : Type 0} {E : K → K → Bool} → Tells E → Tells (λ (x y : K × Unit {0}). E x.0 y.0)
 one t = record { tells = λ x y e i. (t.tells x.0 y.0 e i, tt) }
 
-two : {J K : Type 0} {D : J → J → Bool} {E : K → K → Bool} → Tells D → Tells E → Tells (λ (x y : J × (K × Unit {0})). D x.0 y.0 && E x.1.0 y.1.0)
-two {J} {K} {D} {E} t u = record { tells = λ x y e. let both = and_parts (D x.0 y.0) (E x.1.0 y.1.0) e in λ i. (t.tells x.0 y.0 both.0 i, (u.tells x.1.0 y.1.0 both.1 i, tt)) }
+two : {J K : Type 0} {D : J → J → Bool} {E : K → K → Bool} → Tells D → Tells E
+    → Tells (λ (x y : J × (K × Unit {0})). D x.0 y.0 && E x.1.0 y.1.0)
+two {J} {K} {D} {E} t u = record { tells = λ x y e. let both = and_parts (D x.0 y.0) (E x.1.0 y.1.0) e in
+    λ i. (t.tells x.0 y.0 both.0 i, (u.tells x.1.0 y.1.0 both.1 i, tt)) }
 
 flag : Tells beq
 flag = record { tells = λ x y e. grind (arith, common_steps) }
@@ -52,7 +57,8 @@ AllTell [] es = Unit {0}
 AllTell ([] ∷ Fss) es = AllTell Fss es.1
 AllTell ((F ∷ Fs) ∷ Fss) es = Tells es.0 × AllTell Fss es.1
 
-choices : (Fss : List (List Field)) (es : Each Bool Fss) → AllTell Fss es → (c d : Choice Fss) → by false false Fss es c d ≡ true → c ≡ d
+choices : (Fss : List (List Field)) (es : Each Bool Fss) → AllTell Fss es → (c d : Choice Fss)
+    → by false false Fss es c d ≡ true → c ≡ d
 choices [] es all c d e = absurd c
 choices ([] ∷ Fss) es all (inl x) (inl y) e = refl
 choices ([] ∷ Fss) es all (inr c) (inr d) e = ap inr (choices Fss es.1 all c d e)
@@ -61,7 +67,8 @@ choices ((F ∷ Fs) ∷ Fss) es all (inr c) (inr d) e = ap inr (choices Fss es.1
 choices (Fs ∷ Fss) es all c d e = absurd (true≢false (sym e))
 
 of_enum : (N : Record) (es : Each Bool N.parts) → AllTell N.parts es → Tells (of_values N false false es)
-of_enum N es all = record { tells = λ a b e. values_one N a b (choices N.parts es all (N.as_values a) (N.as_values b) e) }
+of_enum N es all =
+    record { tells = λ a b e. values_one N a b (choices N.parts es all (N.as_values a) (N.as_values b) e) }
 
 -- ---- tokens
 
@@ -83,7 +90,8 @@ decided_same answer a b decided = (λ t. same_token a b (sym decided ∙ t), λ 
 -- ---- heads
 
 heads_by : (E : Option Token → Option Token → Bool) → ((x y : Option Token) → E x y ≡ true → x ≡ y) → (a b : Head)
-    → (a.tokens_start == b.tokens_start && (a.space_len == b.space_len && (E a.frontmatter b.frontmatter && a.body == b.body))) ≡ true
+    → (a.tokens_start == b.tokens_start &&
+        (a.space_len == b.space_len && (E a.frontmatter b.frontmatter && a.body == b.body))) ≡ true
     → a ≡ b
 heads_by E tells a b e = grind (arith, common_steps, and_parts, eqb-true)
 
@@ -92,4 +100,5 @@ is_same_head a b = head.ghosts.eq a b
 
 pub decided_head : (answer : Bool) (a b : Head) → answer ≡ is_same_head a b → IsTrue answer ↔ (a ≡ b)
 decided_head answer a b decided =
-    (λ t. heads_by (option_eq is_same) (option-tells is_same (record { tells = same_token })) a b (sym decided ∙ t), λ e. decided ∙ (ap (head.ghosts.eq a) (sym e) ∙ equal.laws-law.refl a))
+    (λ t. heads_by (option_eq is_same) (option-tells is_same (record { tells = same_token })) a b (sym decided ∙ t),
+        λ e. decided ∙ (ap (head.ghosts.eq a) (sym e) ∙ equal.laws-law.refl a))

@@ -16,8 +16,10 @@ StandsAt text offset s = IsCharBoundary text offset × (drop offset text ≡ s.r
 abbrev pub past_token : List ℕ → Mode → Token → State
 past_token rest mode token = state 0 (drop token.len rest) (mode_after mode token.kind)
 
-pub past_token-is : (rest cut : List ℕ) (mode next : Mode) (token : Token) → cut ≡ drop token.len rest → next ≡ mode_after mode token.kind → state 0 cut next ≡ past_token rest mode token
-past_token-is rest cut mode next token e f = ap (λ xs. state 0 xs next) e ∙ ap (λ (m : Mode). state 0 (drop token.len rest) m) f
+pub past_token-is : (rest cut : List ℕ) (mode next : Mode) (token : Token) → cut ≡ drop token.len rest
+    → next ≡ mode_after mode token.kind → state 0 cut next ≡ past_token rest mode token
+past_token-is rest cut mode next token e f = ap (λ xs. state 0 xs next) e
+    ∙ ap (λ (m : Mode). state 0 (drop token.len rest) m) f
 
 -- a token leaves the edition as it is
 pub edition-after : (mode : Mode) (kind : TokenKind) → mode_edition (mode_after mode kind) ≡ mode_edition mode
@@ -28,7 +30,8 @@ module _ (pending : ℕ) (rest : List ℕ) (mode : Mode) (s : State) (e : state 
   unfolding take_next
   advance-end none = grind (arith, common_steps, eqb-true)
 
-  pub advance-some : (length rest == 0) ≡ false → take_next s ≡ (token_past pending (token_at mode rest), past_token rest mode (token_at mode rest))
+  pub advance-some : (length rest == 0) ≡ false
+      → take_next s ≡ (token_past pending (token_at mode rest), past_token rest mode (token_at mode rest))
   unfolding take_next
   advance-some some = grind (arith, common_steps)
 

@@ -1,16 +1,21 @@
 -- What follows from the agreement of two texts, and from the parts of one.
-use Rattle.std.proofs.Common.{◌≡◌, ℕ, zero, suc, ◌≤◌, true, List, [], ◌∷◌, length, take, drop, refl, ap, arith, length-drop, length-take, IsUtf8}
+use Rattle.std.proofs.Common.{
+    ◌≡◌, ℕ, zero, suc, ◌≤◌, true, List, [], ◌∷◌, length, take, drop, refl, ap, arith, length-drop, length-take, IsUtf8
+}
 use lib.Utf8.{scalars, scalar}
 use Rattle.std.proofs.lemmas.{Str.{IsCharBoundary-from_take, IsUtf8-drop}, Bool.{and_parts}, Grind.{common_steps}}
 use Rattle.rustc_lexer.specs.Classes.{IsText}
 use Rattle.rustc_lexer.specs.Locality.{AgreePast}
 
 -- an offset inside one of them is inside the other
-pub agree_inside : (offset : ℕ) (text other : List ℕ) → offset ≤ length text → AgreePast offset text other → offset ≤ length other
-agree_inside offset text other inside agree = let same = ap length agree.below in omega (arith, same, length-take offset text, length-take offset other)
+pub agree_inside : (offset : ℕ) (text other : List ℕ) → offset ≤ length text → AgreePast offset text other
+    → offset ≤ length other
+agree_inside offset text other inside agree = let same = ap length agree.below in
+    omega (arith, same, length-take offset text, length-take offset other)
 
 -- what is left of a text past a front that may be cut off
-pub left_text : (other : List ℕ) (n : ℕ) → IsText other → n ≤ length other → IsUtf8 (take n other) → IsText (drop n other)
+pub left_text : (other : List ℕ) (n : ℕ) → IsText other → n ≤ length other → IsUtf8 (take n other)
+    → IsText (drop n other)
 left_text other n is inside front = grind (arith, common_steps, IsUtf8-drop, IsCharBoundary-from_take, length-drop)
 
 pub scalars-take : (n : ℕ) (cs : List ℕ) → scalars cs ≡ true → scalars (take n cs) ≡ true

@@ -1,6 +1,8 @@
 -- How each answer of the grammar is found, and that it is the only one.
 use Rattle.std.proofs.lemmas.Grind.{common_steps}
-use Rattle.std.proofs.Common.{◌≡◌, ℕ, ◌<◌, ◌==◌, true, false, List, [], ◌∷◌, length, drop, refl, arith, sym, ap, ◌∙◌, subst, pos_of_ne-zero}
+use Rattle.std.proofs.Common.{
+    ◌≡◌, ℕ, ◌<◌, ◌==◌, true, false, List, [], ◌∷◌, length, drop, refl, arith, sym, ap, ◌∙◌, subst, pos_of_ne-zero
+}
 use Rattle.std.proofs.lemmas.Bool.{eqb-true, eqb-false}
 use Rattle.std.specs.Str.{chars}
 use Rattle.std.proofs.lemmas.List.{nil_from_length}
@@ -35,14 +37,18 @@ first_of none (token ∷ tokens) = token
 
 module _ (mode : Mode) (text : List ℕ) (is : IsText text) (some : 0 < length text) where
   -- where the language allows a list of tokens, it begins with the one that is read
-  pub first-read : (token : Token) (tokens : List Token) → AreTokens mode (chars text) (token ∷ tokens) → token ≡ token_at mode text
+  pub first-read : (token : Token) (tokens : List Token) → AreTokens mode (chars text) (token ∷ tokens)
+      → token ≡ token_at mode text
   first-read token tokens are = ap (first_of token) (sym (tokens-read are text is refl) ∙ tokens-cons mode text is some)
 
   -- and it allows one that does
-  pub first-are : AreTokens mode (chars text) (token_at mode text ∷ means_tokens.read_tokens (mode_after mode (token_at mode text).kind) (drop (token_at mode text).len text))
+  pub first-are : AreTokens mode (chars text)
+      (token_at mode text ∷ means_tokens.read_tokens (mode_after mode (token_at mode text).kind)
+      (drop (token_at mode text).len text))
   first-are = subst (AreTokens mode (chars text)) (tokens-cons mode text is some) (tokens-are text mode is)
 
-abbrev pub the_first : (edition : Edition) (text : List ℕ) → TheOnly (IsText text × (0 < length text)) (IsFirst edition text)
+abbrev pub the_first : (edition : Edition) (text : List ℕ)
+    → TheOnly (IsText text × (0 < length text)) (IsFirst edition text)
 the_first edition text = record {
   answer = first_token_in edition text;
   only = λ is other. (
@@ -63,11 +69,15 @@ module _ (s : State) (is : IsText s.rest) where
   at_end : (length s.rest == 0) ≡ true → means_taking.take_next s ≡ (record { kind = Eof; len = 0 }, s)
   at_end none = advance-end s.pending s.rest s.mode s refl none
 
-  at_token : (length s.rest == 0) ≡ false → means_taking.take_next s ≡ (token_past s.pending (token_at s.mode s.rest), past_token s.rest s.mode (token_at s.mode s.rest))
+  at_token : (length s.rest == 0) ≡ false
+      → means_taking.take_next s ≡
+      (token_past s.pending (token_at s.mode s.rest), past_token s.rest s.mode (token_at s.mode s.rest))
   at_token some = advance-some s.pending s.rest s.mode s refl some
 
-  no_token : (token : Token) (tokens : List Token) → (length s.rest == 0) ≡ true → AreTokens s.mode (chars s.rest) (token ∷ tokens) → ⊥
-  no_token token tokens none are = let e : [] ≡ token ∷ tokens = sym (ap (means_tokens.read_tokens s.mode) (empty none) ∙ tokens-nil s.mode)
+  no_token : (token : Token) (tokens : List Token) → (length s.rest == 0) ≡ true
+      → AreTokens s.mode (chars s.rest) (token ∷ tokens) → ⊥
+  no_token token tokens none are = let e : [] ≡ token ∷ tokens =
+      sym (ap (means_tokens.read_tokens s.mode) (empty none) ∙ tokens-nil s.mode)
       ∙ tokens-read are s.rest is refl in cc
 
   pub next-read : (other : Token × State) → TakesNext s other → other ≡ means_taking.take_next s

@@ -1,5 +1,8 @@
 -- Means, by how it is read: the head of a document, and what an edit keeps of the document by it.
-use Rattle.std.specs.Prelude.{ℕ, ◌+◌, ◌-◌, ◌≤◌, ◌≡◌, if◌then◌else◌, List, length, take, drop, max, None, Result, Ok, Err, Bool, true, false, IsCharBoundary}
+use Rattle.std.specs.Prelude.{
+    ℕ, ◌+◌, ◌-◌, ◌≤◌, ◌≡◌, if◌then◌else◌, List, length, take, drop, max, None, Result, Ok, Err, Bool, true, false,
+    IsCharBoundary
+}
 use Rattle.rustc_lexer.specs.declared.relex.checkpoints.Checkpoints.{Checkpoints}
 use Rattle.rustc_lexer.specs.declared.head.Head.{Head}
 use Rattle.rustc_lexer.specs.declared.relex.relexing.{Change.Change, Relexed.Relexed}
@@ -44,7 +47,8 @@ edit_change start stop insert =
     record { start = start; old_stop = stop; new_stop = start + length insert }
 
 -- the text is `made` by a valid edit, and what is kept with it is still that of the text `before`
-pub record IsPut (layout : (List ℕ → Token) → List ℕ → Layout) (first : List ℕ → Token) (before insert : List ℕ) (edit : Change)
+pub record IsPut (layout : (List ℕ → Token) → List ℕ → Layout) (first : List ℕ → Token) (before insert : List ℕ)
+    (edit : Change)
     (made : List ℕ) (tokens : List Token) (head : Head) (checkpoints : Checkpoints) : Type 0 where
   pub kept : AreKeptOf layout first before tokens head checkpoints
   pub edit_of : IsEditOf before edit insert made

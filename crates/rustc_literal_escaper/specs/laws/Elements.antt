@@ -1,15 +1,29 @@
 -- The items that are read between double quotes are those that the grammar has there.
-use Rattle.std.proofs.Common.{◌≡◌, ℕ, zero, suc, ◌+◌, ◌≤◌, ◌==◌, Bool, true, false, true≢false, if◌then◌else◌, List, [], ◌∷◌, ◌++◌, length, length-append, append_assoc, map, refl, sym, ap, subst, ◌∙◌, arith}
+use Rattle.std.proofs.Common.{
+    ◌≡◌, ℕ, zero, suc, ◌+◌, ◌≤◌, ◌==◌, Bool, true, false, true≢false, if◌then◌else◌, List, [], ◌∷◌, ◌++◌, length,
+    length-append, append_assoc, map, refl, sym, ap, subst, ◌∙◌, arith
+}
 use Rattle.std.specs.{List.{list_all}, Str.{encode_utf8_all}}
 use Rattle.std.proofs.lemmas.{Bool.{cond_both, eqb-true, or_parts}, List.{append_cancel_right, map-append}}
 use Rattle.std.proofs.lemmas.{Str.{encodes-append}, Bool.Decides.{nat_tests}, Grind.{common_steps}}
 use Rattle.rustc_literal_escaper.specs.declared.element.Element.{Element}
 use Rattle.rustc_literal_escaper.specs.declared.element.Element.TheVariants.{Fault, Plain}
-use Rattle.rustc_literal_escaper.specs.declared.error.EscapeError.TheVariants.{BareCarriageReturn, BareCarriageReturnInRawString, EscapeOnlyChar, MultipleSkippedLinesWarning, UnskippedWhitespaceWarning}
+use Rattle.rustc_literal_escaper.specs.declared.error.EscapeError.TheVariants.{
+    BareCarriageReturn, BareCarriageReturnInRawString, EscapeOnlyChar, MultipleSkippedLinesWarning,
+    UnskippedWhitespaceWarning
+}
 use Rattle.rustc_literal_escaper.specs.Grammar as g
-use Rattle.rustc_literal_escaper.specs.Grammar.{AreItems, IsElementBefore, IsRawElement, Item, bytes, is_among, is_newline, is_passed_over, item, lines_warning, next_is, space_warning}
-use Rattle.rustc_literal_escaper.specs.laws.Escape.{Reads, at-char, by_either, element-is, element-reads, escape-is, run-all, run-cut, run-is, run-stops}
-use Rattle.rustc_literal_escaper.specs.means.Elements.{Front, front, front_by, raw_element, raw_front, item_at, item_by, items_by, items_from, items_in, line_end, more_lines, more_space, one, past_backslash, place, unescaped}
+use Rattle.rustc_literal_escaper.specs.Grammar.{
+    AreItems, IsElementBefore, IsRawElement, Item, bytes, is_among, is_newline, is_passed_over, item, lines_warning,
+    next_is, space_warning
+}
+use Rattle.rustc_literal_escaper.specs.laws.Escape.{
+    Reads, at-char, by_either, element-is, element-reads, escape-is, run-all, run-cut, run-is, run-stops
+}
+use Rattle.rustc_literal_escaper.specs.means.Elements.{
+    Front, front, front_by, raw_element, raw_front, item_at, item_by, items_by, items_from, items_in, line_end,
+    more_lines, more_space, one, past_backslash, place, unescaped
+}
 use Rattle.rustc_literal_escaper.specs.means.Escape.{escape, front_run, past_run}
 
 pub either : {A : Type 0} (P : A → Type 0) (b : Bool) (x y : A) → P x → P y → P (if b then x else y)
@@ -19,14 +33,16 @@ either P b x y p q = grind (arith, common_steps)
 
 past_run-shorter : (p : ℕ → Bool) (s : List ℕ) → length (past_run p s) ≤ length s
 past_run-shorter p [] = omega arith
-past_run-shorter p (c ∷ s) = either (λ (left : List ℕ). length left ≤ suc (length s)) (p c) (past_run p s) (c ∷ s) (let l = past_run-shorter p s in omega arith) (omega arith)
+past_run-shorter p (c ∷ s) = either (λ (left : List ℕ). length left ≤ suc (length s)) (p c) (past_run p s) (c ∷ s)
+    (let l = past_run-shorter p s in omega arith) (omega arith)
 
 escape-shorter : (s : List ℕ) → length (escape s).1 ≤ length s
 escape-shorter s = let is = escape-is s in omega (arith, ap length is.1, length-append is.0 (escape s).1)
 
 past_backslash-shorter : (s : List ℕ) → length (past_backslash s).left ≤ length s
 past_backslash-shorter [] = escape-shorter []
-past_backslash-shorter (c ∷ s) = either (λ (f : Front). length f.left ≤ suc (length s)) (is_newline c) (line_end s) (one (escape (c ∷ s)))
+past_backslash-shorter (c ∷ s) = either (λ (f : Front). length f.left ≤ suc (length s)) (is_newline c) (line_end s)
+    (one (escape (c ∷ s)))
     (let l = past_run-shorter is_passed_over s in omega arith) (escape-shorter (c ∷ s))
 
 pub left-shorter : (raw : Bool) (c : ℕ) (s : List ℕ) → length (front_by raw c s).left ≤ length s
@@ -47,13 +63,16 @@ module _ (raw : Bool) (offset : List ℕ → ℕ) where
   enough (suc m) (suc n) (c ∷ s) a b = grind (arith, common_steps, left-shorter, enough m n)
   enough m n (c ∷ s) a b = absurd (omega arith)
 
-  pub items-cons : (c : ℕ) (s : List ℕ) → items_by at offset (c ∷ s) ≡ map (item_by offset (offset (c ∷ s))) (at c s).found ++ items_by at offset (at c s).left
+  pub items-cons : (c : ℕ) (s : List ℕ) → items_by at offset (c ∷ s) ≡ map (item_by offset (offset (c ∷ s)))
+      (at c s).found ++ items_by at offset (at c s).left
   unfolding items_by
   items-cons c s = grind (arith, common_steps, left-shorter, enough)
 
   -- one element
-  pub items-one : (c : ℕ) (s left : List ℕ) (e : Element) → at c s ≡ one (e, left) → items_by at offset (c ∷ s) ≡ item_by offset (offset (c ∷ s)) (e, left) ∷ items_by at offset left
-  items-one c s left e is = items-cons c s ∙ ap (λ (f : Front). map (item_by offset (offset (c ∷ s))) f.found ++ items_by at offset f.left) is
+  pub items-one : (c : ℕ) (s left : List ℕ) (e : Element) → at c s ≡ one (e, left)
+      → items_by at offset (c ∷ s) ≡ item_by offset (offset (c ∷ s)) (e, left) ∷ items_by at offset left
+  items-one c s left e is =
+      items-cons c s ∙ ap (λ (f : Front). map (item_by offset (offset (c ∷ s))) f.found ++ items_by at offset f.left) is
 
 -- no items are in nothing
 pub nothing : (at : ℕ → List ℕ → Front) (offset : List ℕ → ℕ) → items_by at offset [] ≡ []
@@ -67,15 +86,18 @@ pub bytes-append : (w s : List ℕ) → bytes (w ++ s) ≡ bytes w + bytes s
 bytes-append w s = ap length (encodes-append w s) ∙ length-append (encode_utf8_all w) (encode_utf8_all s)
 
 -- the item of the front of a text
-item-at : (total from : ℕ) (w next : List ℕ) (e : Element) → from + bytes (w ++ next) ≡ total → item_at total (place total (w ++ next)) (e, next) ≡ item from e w
+item-at : (total from : ℕ) (w next : List ℕ) (e : Element) → from + bytes (w ++ next) ≡ total
+    → item_at total (place total (w ++ next)) (e, next) ≡ item from e w
 item-at total from w next e ends = let sizes = bytes-append w next in grind (arith, common_steps)
 
 -- elements between double quotes
 unescaped-is : (c : ℕ) (s : List ℕ) → (c == 92) ≡ false → IsElementBefore (34 ∷ []) s (unescaped c) (c ∷ [])
 unescaped-is c s slash =
-    cond_both (c == 34) (Fault EscapeOnlyChar) _ (λ (e : Element). IsElementBefore (34 ∷ []) s e (c ∷ [])) (λ a. g.unescaped (rw a refl)) (λ a.
+    cond_both (c == 34) (Fault EscapeOnlyChar) _ (λ (e : Element). IsElementBefore (34 ∷ []) s e (c ∷ []))
+        (λ a. g.unescaped (rw a refl)) (λ a.
     cond_both (c == 13) (Fault BareCarriageReturn) (Plain c) (λ (e : Element). IsElementBefore (34 ∷ []) s e (c ∷ []))
-    (at-char (λ x. IsElementBefore (34 ∷ []) s (Fault BareCarriageReturn) (x ∷ [])) c 13 g.bare) (λ b. g.plain (rw (slash, b, a) refl)))
+    (at-char (λ x. IsElementBefore (34 ∷ []) s (Fault BareCarriageReturn) (x ∷ [])) c 13 g.bare)
+        (λ b. g.plain (rw (slash, b, a) refl)))
 
 unescaped-plain : (c : ℕ) → is_among (92 ∷ 13 ∷ 34 ∷ []) c ≡ false → unescaped c ≡ Plain c
 unescaped-plain c out = grind (arith, common_steps, or_parts)
@@ -90,7 +112,8 @@ double-reads : {next : List ℕ} {e : Element} {w : List ℕ} → IsElementBefor
 double-reads = element-reads (34 ∷ []) unescaped unescaped-plain unescaped-special refl unescaped-is
 
 -- a backslash that no newline follows is an element
-past_backslash-one : (v next : List ℕ) (e : Element) → escape (v ++ next) ≡ (e, next) → (v ≡ 10 ∷ [] → ⊥) → past_backslash (v ++ next) ≡ one (e, next)
+past_backslash-one : (v next : List ℕ) (e : Element) → escape (v ++ next) ≡ (e, next) → (v ≡ 10 ∷ [] → ⊥)
+    → past_backslash (v ++ next) ≡ one (e, next)
 past_backslash-one v next e read other = by_text (v ++ next) refl
   where
     by_text : (s : List ℕ) → v ++ next ≡ s → past_backslash s ≡ one (e, next)
@@ -102,14 +125,20 @@ past_backslash-one v next e read other = by_text (v ++ next) refl
         absurd (other (append_cancel_right v (10 ∷ []) next (line ∙ ap (λ xs. 10 ∷ xs) same))))
         (λ n. rw n (ap one (sym (ap escape text) ∙ read)))
 
-element-front : {next : List ℕ} {e : Element} {w : List ℕ} → (r : ReadsDouble next e w) → (w ≡ 92 ∷ 10 ∷ [] → ⊥) → front r.first (r.others ++ next) ≡ one (e, next)
+element-front : {next : List ℕ} {e : Element} {w : List ℕ} → (r : ReadsDouble next e w) → (w ≡ 92 ∷ 10 ∷ [] → ⊥)
+    → front r.first (r.others ++ next) ≡ one (e, next)
 unfolding front
 element-front {next} {e} {w} r other = by_either (r.first == 92)
     (λ slash.
-    let read : escape (r.others ++ next) ≡ (e, next) = subst (λ (b : Bool). (if b then escape (r.others ++ next) else (unescaped r.first, r.others ++ next)) ≡ (e, next)) slash r.read in
+    let read : escape (r.others ++ next) ≡ (e, next) =
+        subst (λ (b : Bool). (if b then escape (r.others ++ next) else (unescaped r.first, r.others ++ next)) ≡
+        (e, next)) slash r.read in
     let same : r.first ≡ 92 = eqb-true r.first 92 slash in
-    rw slash (past_backslash-one r.others next e read (λ (n : r.others ≡ 10 ∷ []). other (r.whole ∙ (ap (λ x. x ∷ r.others) same ∙ ap (λ xs. 92 ∷ xs) n)))))
-    (λ none. rw none (ap one (subst (λ (b : Bool). (if b then escape (r.others ++ next) else (unescaped r.first, r.others ++ next)) ≡ (e, next)) none r.read)))
+    rw slash (past_backslash-one r.others next e read
+        (λ (n : r.others ≡ 10 ∷ []). other (r.whole ∙ (ap (λ x. x ∷ r.others) same ∙ ap (λ xs. 92 ∷ xs) n)))))
+    (λ none. rw none
+        (ap one (subst (λ (b : Bool). (if b then escape (r.others ++ next) else (unescaped r.first, r.others ++ next)) ≡
+        (e, next)) none r.read)))
 
 raw-reads : {e : Element} {c : ℕ} → IsRawElement e c → (next : List ℕ) → raw_front c next ≡ one (e, next)
 unfolding raw_front
@@ -118,13 +147,15 @@ raw-reads is next = grind (arith, common_steps, nat_tests)
 -- the warnings past a line end
 lines-found : (total from : ℕ) (space next : List ℕ) → from + bytes (92 ∷ 10 ∷ space ++ next) ≡ total
     → map (item_at total (place total (92 ∷ 10 ∷ space ++ next))) (more_lines space next) ≡ lines_warning from space
-lines-found total from space next ends = grind (arith, common_steps, item-at total from (92 ∷ 10 ∷ space) next (Fault MultipleSkippedLinesWarning) ends)
+lines-found total from space next ends =
+    grind (arith, common_steps, item-at total from (92 ∷ 10 ∷ space) next (Fault MultipleSkippedLinesWarning) ends)
 
 space-found : (total from : ℕ) (space next : List ℕ) → from + bytes (92 ∷ 10 ∷ space ++ next) ≡ total
     → map (item_at total (place total (92 ∷ 10 ∷ space ++ next))) (more_space next) ≡ space_warning from space next
 space-found total from space [] ends = refl
 space-found total from space (c ∷ next) ends =
-    grind (arith, common_steps, append_assoc space (c ∷ []) next, item-at total from (92 ∷ 10 ∷ (space ++ c ∷ [])) next (Fault UnskippedWhitespaceWarning) (rw (append_assoc space (c ∷ []) next) ends))
+    grind (arith, common_steps, append_assoc space (c ∷ []) next, item-at total from (92 ∷ 10 ∷ (space ++ c ∷ [])) next
+        (Fault UnskippedWhitespaceWarning) (rw (append_assoc space (c ∷ []) next) ends))
 
 line-read : (space next : List ℕ) → list_all is_passed_over space ≡ true → next_is is_passed_over next ≡ false
     → front 92 (10 ∷ space ++ next) ≡ record { found = more_lines space next ++ more_space next; left = next }
@@ -135,16 +166,23 @@ line-read space next all stops = let run = run-is is_passed_over space next all 
 past-ends : (total from : ℕ) (w next : List ℕ) → from + bytes (w ++ next) ≡ total → from + bytes w + bytes next ≡ total
 past-ends total from w next ends = let sizes = bytes-append w next in omega arith
 
-pub items-read : {raw : Bool} {from : ℕ} {s : List ℕ} {items : List Item} → AreItems raw from s items → (total : ℕ) → from + bytes s ≡ total → items_from (front_by raw) total s ≡ items
+pub items-read : {raw : Bool} {from : ℕ} {s : List ℕ} {items : List Item} → AreItems raw from s items → (total : ℕ)
+    → from + bytes s ≡ total → items_from (front_by raw) total s ≡ items
 items-read {raw} g.nothing total ends = nothing (front_by raw) (place total)
 items-read (g.element {from} {next} {element = e} {w} {items} is other are) total ends =
     let r = double-reads is in
-    grind (arith, common_steps, r.whole, items-one false (place total) r.first (r.others ++ next) next e (element-front r other), item-at total from w next e ends, items-read are total (past-ends total from w next ends))
+    grind (arith, common_steps, r.whole, items-one false (place total) r.first (r.others ++ next) next e
+        (element-front r other), item-at total from w next e ends,
+        items-read are total (past-ends total from w next ends))
 items-read (g.line_end {from} {next} {items} space all stops are) total ends =
     items-cons false (place total) 92 (10 ∷ space ++ next)
-    ∙ rw (line-read space next all stops, map-append (item_at total (place total (92 ∷ 10 ∷ space ++ next))) (more_lines space next) (more_space next), lines-found total from space next ends, space-found total from space next ends, items-read are total (past-ends total from (92 ∷ 10 ∷ space) next ends)) refl
+    ∙ rw (line-read space next all stops, map-append (item_at total (place total (92 ∷ 10 ∷ space ++ next)))
+        (more_lines space next) (more_space next), lines-found total from space next ends,
+        space-found total from space next ends, items-read are total (past-ends total from (92 ∷ 10 ∷ space) next ends))
+        refl
 items-read (g.raw_element {from} {c} {next} {element = e} {items} is are) total ends =
-    grind (arith, common_steps, items-one true (place total) c next next e (raw-reads is next), item-at total from (c ∷ []) next e ends, items-read are total (past-ends total from (c ∷ []) next ends))
+    grind (arith, common_steps, items-one true (place total) c next next e (raw-reads is next),
+        item-at total from (c ∷ []) next e ends, items-read are total (past-ends total from (c ∷ []) next ends))
 
 -- ---- each text has items
 
@@ -155,32 +193,44 @@ raw-has : (c : ℕ) → IsRawElement (raw_element c) c
 raw-has c = cond_both (c == 13) (Fault BareCarriageReturnInRawString) (Plain c) (λ (e : Element). IsRawElement e c)
     (at-char (λ x. IsRawElement (Fault BareCarriageReturnInRawString) x) c 13 g.bare) (λ e. g.plain e)
 
-line-has : (from : ℕ) (t : List ℕ) → ((at : ℕ) → HasItems false at (past_run is_passed_over t)) → HasItems false from (92 ∷ 10 ∷ t)
+line-has : (from : ℕ) (t : List ℕ) → ((at : ℕ) → HasItems false at (past_run is_passed_over t))
+    → HasItems false from (92 ∷ 10 ∷ t)
 line-has from t rest =
     let space : List ℕ = front_run is_passed_over t in
     let next : List ℕ = past_run is_passed_over t in
     let items = rest (from + bytes (92 ∷ 10 ∷ space)) in
     subst (HasItems false from) (ap (λ xs. 92 ∷ 10 ∷ xs) (sym (run-cut is_passed_over t)))
-    (lines_warning from space ++ space_warning from space next ++ items.0, g.line_end space (run-all is_passed_over t) (run-stops is_passed_over t) items.1)
+    (lines_warning from space ++ space_warning from space next ++ items.0, g.line_end space (run-all is_passed_over t)
+        (run-stops is_passed_over t) items.1)
 
-element-has : (from c : ℕ) (s : List ℕ) → (c ≡ 92 → (t : List ℕ) → s ≡ 10 ∷ t → ⊥) → ((at : ℕ) (left : List ℕ) → length left ≤ length s → HasItems false at left) → HasItems false from (c ∷ s)
+element-has : (from c : ℕ) (s : List ℕ) → (c ≡ 92 → (t : List ℕ) → s ≡ 10 ∷ t → ⊥)
+    → ((at : ℕ) (left : List ℕ) → length left ≤ length s → HasItems false at left) → HasItems false from (c ∷ s)
 element-has from c s other rest =
     let has = element-is (34 ∷ []) unescaped unescaped-plain unescaped-special refl unescaped-is c s in
     let left : List ℕ = (if c == 92 then escape s else (unescaped c, s)).1 in
-    let items = rest (from + bytes (c ∷ has.others)) left (omega (arith, ap length has.whole, length-append has.others left)) in
+    let items = rest (from + bytes (c ∷ has.others)) left
+        (omega (arith, ap length has.whole, length-append has.others left)) in
     subst (HasItems false from) (ap (λ xs. c ∷ xs) (sym has.whole))
-    (_, g.element has.is (λ (e : c ∷ has.others ≡ 92 ∷ 10 ∷ []). let line : has.others ≡ 10 ∷ [] = cc in other (cc) left (has.whole ∙ ap (λ xs. xs ++ left) line)) items.1)
+    (_, g.element has.is (λ (e : c ∷ has.others ≡ 92 ∷ 10 ∷ []). let line : has.others ≡ 10 ∷ [] = cc in
+        other (cc) left (has.whole ∙ ap (λ xs. xs ++ left) line)) items.1)
 
-double-has : (from c : ℕ) (s : List ℕ) → ((at : ℕ) (left : List ℕ) → length left ≤ length s → HasItems false at left) → HasItems false from (c ∷ s)
+double-has : (from c : ℕ) (s : List ℕ) → ((at : ℕ) (left : List ℕ) → length left ≤ length s → HasItems false at left)
+    → HasItems false from (c ∷ s)
 double-has from c [] rest = element-has from c [] (λ e t f. absurd (cc)) rest
 double-has from c (d ∷ t) rest = by_either (c == 92)
     (λ slash. by_either (d == 10)
-    (λ line. at-char (λ x. HasItems false from (x ∷ d ∷ t)) c 92 (at-char (λ y. HasItems false from (92 ∷ y ∷ t)) d 10 (line-has from t (λ at. rest at (past_run is_passed_over t) (let short = past_run-shorter is_passed_over t in omega arith))) line) slash)
-    (λ none. element-has from c (d ∷ t) (λ e u f. let line : d ≡ 10 = cc in absurd (true≢false (sym (ap (λ (x : ℕ). x == 10) line) ∙ none))) rest))
+    (λ line. at-char (λ x. HasItems false from (x ∷ d ∷ t)) c 92
+        (at-char (λ y. HasItems false from (92 ∷ y ∷ t)) d 10
+        (line-has from t (λ at. rest at (past_run is_passed_over t) (let short = past_run-shorter is_passed_over t in
+        omega arith))) line) slash)
+    (λ none. element-has from c (d ∷ t) (λ e u f. let line : d ≡ 10 = cc in
+        absurd (true≢false (sym (ap (λ (x : ℕ). x == 10) line) ∙ none))) rest))
     (λ none. element-has from c (d ∷ t) (λ e u f. absurd (true≢false (sym (ap (λ (x : ℕ). x == 92) e) ∙ none))) rest)
 
 pub items-some : (raw : Bool) (n : ℕ) (s : List ℕ) (from : ℕ) → length s ≤ n → HasItems raw from s
 items-some raw n [] from fits = ([], g.nothing)
 items-some raw zero (c ∷ s) from fits = absurd (omega arith)
-items-some true (suc n) (c ∷ s) from fits = let rest = items-some true n s (from + bytes (c ∷ [])) (omega arith) in (_, g.raw_element (raw-has c) rest.1)
-items-some false (suc n) (c ∷ s) from fits = double-has from c s (λ at left few. items-some false n left at (omega arith))
+items-some true (suc n) (c ∷ s) from fits = let rest = items-some true n s (from + bytes (c ∷ [])) (omega arith) in
+    (_, g.raw_element (raw-has c) rest.1)
+items-some false (suc n) (c ∷ s) from fits =
+    double-has from c s (λ at left few. items-some false n left at (omega arith))

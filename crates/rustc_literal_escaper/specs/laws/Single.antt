@@ -1,11 +1,15 @@
 -- What is read between single quotes is what the grammar has there.
-use Rattle.std.proofs.Common.{◌≡◌, ℕ, ◌==◌, true, false, List, [], ◌∷◌, ◌++◌, Result, Ok, Err, refl, sym, ap, subst, ◌∙◌, arith, append_assoc}
+use Rattle.std.proofs.Common.{
+    ◌≡◌, ℕ, ◌==◌, true, false, List, [], ◌∷◌, ◌++◌, Result, Ok, Err, refl, sym, ap, subst, ◌∙◌, arith, append_assoc
+}
 use Rattle.std.proofs.lemmas.{Bool.{cond_both, or_parts}, List.{append-nil}, Bool.Decides.{nat_tests}}
 use Rattle.std.proofs.lemmas.Grind.{common_steps}
 use Rattle.rustc_literal_escaper.specs.declared.element.Element.{Element}
 use Rattle.rustc_literal_escaper.specs.declared.element.Element.TheVariants.{Plain, Fault}
 use Rattle.rustc_literal_escaper.specs.declared.error.EscapeError.{EscapeError}
-use Rattle.rustc_literal_escaper.specs.declared.error.EscapeError.TheVariants.{BareCarriageReturn, EscapeOnlyChar, MoreThanOneChar}
+use Rattle.rustc_literal_escaper.specs.declared.error.EscapeError.TheVariants.{
+    BareCarriageReturn, EscapeOnlyChar, MoreThanOneChar
+}
 use Rattle.rustc_literal_escaper.specs.Grammar as g
 use Rattle.rustc_literal_escaper.specs.Grammar.{Error, IsElementBefore, IsSingle, bytes, is_among}
 use Rattle.rustc_literal_escaper.specs.laws.Elements.{bytes-append}
@@ -45,18 +49,23 @@ module _ {U : Type 0} (meaning : Element → Result U EscapeError) where
   read s = read_single (bytes s) meaning s
 
   -- by the first element and what is left
-  read-first : {next : List ℕ} {e : Element} {w : List ℕ} (meant : Result U EscapeError) → IsElementBefore special next e w → meaning e ≡ meant → read (w ++ next) ≡ only (bytes (w ++ next)) meant next
+  read-first : {next : List ℕ} {e : Element} {w : List ℕ} (meant : Result U EscapeError)
+      → IsElementBefore special next e w → meaning e ≡ meant → read (w ++ next) ≡ only (bytes (w ++ next)) meant next
   read-first {next} {e} {w} meant is means = let r = single-reads is in grind (arith, common_steps, r.whole, r.read)
 
-  error-at : (w next : List ℕ) (error : EscapeError) → ◌≡◌ {A = Result U Error} (Err (record { start = 0; end = place (bytes (w ++ next)) next }, error)) (Err (g.front_range w, error))
+  error-at : (w next : List ℕ) (error : EscapeError)
+      → ◌≡◌ {A = Result U Error} (Err (record { start = 0; end = place (bytes (w ++ next)) next }, error))
+      (Err (g.front_range w, error))
   error-at w next error = let sizes = bytes-append w next in grind (arith, common_steps)
 
   pub single-read : {s : List ℕ} {r : Result U Error} → IsSingle meaning s r → read s ≡ r
   single-read (g.unit {element = e} {w} {u} is means) = ap read (sym (append-nil w)) ∙ read-first (Ok u) is means
   single-read g.nothing = refl
-  single-read (g.wrong {next} {element = e} {w} {error} is means) = read-first (Err error) is means ∙ error-at w next error
+  single-read (g.wrong {next} {element = e} {w} {error} is means) = read-first (Err error) is means
+      ∙ error-at w next error
   single-read (g.more {c} {next} {element = e} {w} {u} is means) =
-      grind (arith, common_steps, append_assoc w (c ∷ []) next, read-first (Ok u) is means, (append_assoc w (c ∷ []) next), error-at (w ++ c ∷ []) next MoreThanOneChar)
+      grind (arith, common_steps, append_assoc w (c ∷ []) next, read-first (Ok u) is means,
+          (append_assoc w (c ∷ []) next), error-at (w ++ c ∷ []) next MoreThanOneChar)
 
   -- each text stands for something
   pub single-some : (s : List ℕ) → (r : Result U Error) × IsSingle meaning s r
@@ -68,6 +77,7 @@ module _ {U : Type 0} (meaning : Element → Result U EscapeError) where
     where
       by_meaning : (left : List ℕ) (e : Element) (w : List ℕ) (meant : Result U EscapeError) → meaning e ≡ meant
           → IsElementBefore special left e w → (r : Result U Error) × IsSingle meaning (w ++ left) r
-      by_meaning [] e w (Ok u) means is = (_, subst (λ (xs : List ℕ). IsSingle meaning xs (Ok u)) (sym (append-nil w)) (g.unit is means))
+      by_meaning [] e w (Ok u) means is =
+          (_, subst (λ (xs : List ℕ). IsSingle meaning xs (Ok u)) (sym (append-nil w)) (g.unit is means))
       by_meaning (d ∷ left) e w (Ok u) means is = (_, g.more is means)
       by_meaning left e w (Err error) means is = (_, g.wrong is means)

@@ -11,20 +11,25 @@ use Rattle.rustc_literal_escaper.specs.means.Elements.{front_by, items_from}
 use Rattle.rustc_literal_escaper.specs.means.Single.{read_single}
 
 -- what is read of whatever the grammar allows, where it allows something, is the only one
-pub only-read : {A : Type 0} (Allows : A → Type 0) (answer : A) → ((other : A) → Allows other → answer ≡ other) → (some : A) → Allows some → (other : A) → Allows other ↔ (other ≡ answer)
-only-read Allows answer reads some is other = (λ are. sym (reads other are), λ e. subst Allows (sym (e ∙ reads some is)) is)
+pub only-read : {A : Type 0} (Allows : A → Type 0) (answer : A) → ((other : A) → Allows other → answer ≡ other)
+    → (some : A) → Allows some → (other : A) → Allows other ↔ (other ≡ answer)
+only-read Allows answer reads some is other =
+    (λ are. sym (reads other are), λ e. subst Allows (sym (e ∙ reads some is)) is)
 
-abbrev pub the_single : {U : Type 0} (meaning : Element → Result U EscapeError) (s : List ℕ) → TheOnly (Unit {0}) (IsSingle meaning s)
+abbrev pub the_single : {U : Type 0} (meaning : Element → Result U EscapeError) (s : List ℕ)
+    → TheOnly (Unit {0}) (IsSingle meaning s)
 the_single meaning s = record {
   answer = read_single (bytes s) meaning s;
-  only = λ always. only-read (IsSingle meaning s) _ (λ other is. single-read meaning is) (single-some meaning s).0 (single-some meaning s).1;
+  only = λ always. only-read (IsSingle meaning s) _ (λ other is. single-read meaning is) (single-some meaning s).0
+      (single-some meaning s).1;
 }
 
 abbrev pub the_items : (raw : Bool) (text : List ℕ) → TheOnly (IsUtf8 text) (AreItems raw 0 (chars text))
 the_items raw text = record {
   answer = items_from (front_by raw) (length text) (chars text);
   only = λ is.
-      let ends : 0 + bytes (chars text) ≡ length text = zero-add (bytes (chars text)) ∙ ap length (encodes-chars text is) in
+      let ends : 0 + bytes (chars text) ≡ length text = zero-add (bytes (chars text))
+          ∙ ap length (encodes-chars text is) in
       let some = items-some raw (length (chars text)) (chars text) 0 (omega arith) in
       only-read (AreItems raw 0 (chars text)) _ (λ other are. items-read are (length text) ends) some.0 some.1;
 }

@@ -3,7 +3,11 @@ use Rattle.std.specs.Prelude.{ℕ, ◌+◌, ◌*◌, ◌==◌, nat_le, Bool, if�
 use Rattle.std.specs.{Char.{digit_value}, Str.{byte}}
 use Rattle.rustc_literal_escaper.specs.declared.element.Element.{Element}
 use Rattle.rustc_literal_escaper.specs.declared.element.Element.TheVariants.{Byte, Unicode, Fault}
-use Rattle.rustc_literal_escaper.specs.declared.error.EscapeError.TheVariants.{LoneSlash, InvalidEscape, TooShortHexEscape, InvalidCharInHexEscape, NoBraceInUnicodeEscape, InvalidCharInUnicodeEscape, EmptyUnicodeEscape, UnclosedUnicodeEscape, LeadingUnderscoreUnicodeEscape, OverlongUnicodeEscape}
+use Rattle.rustc_literal_escaper.specs.declared.error.EscapeError.TheVariants.{
+    LoneSlash, InvalidEscape, TooShortHexEscape, InvalidCharInHexEscape, NoBraceInUnicodeEscape,
+    InvalidCharInUnicodeEscape, EmptyUnicodeEscape, UnclosedUnicodeEscape, LeadingUnderscoreUnicodeEscape,
+    OverlongUnicodeEscape
+}
 use Rattle.rustc_literal_escaper.specs.Grammar.{hex_value, is_digit_or_underscore, is_hex}
 
 -- the longest front of characters in a class, and what follows it

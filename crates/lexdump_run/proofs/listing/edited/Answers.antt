@@ -5,18 +5,23 @@ use Rattle.lexdump_run.proofs.listing.edited.Goals as goal
 use Rattle.rustc_lexer.specs.{Edits.{IsStop}, LanguageText.{part}, Locality.{Grammar}}
 use Rattle.rustc_lexer.specs.Tokens.{tokens_by, tokens_of}
 
-refused : (text : List ℕ) (edits : List TextEdit) (stop : EditStop) → StopsAt stop text edits → IsRefused text edits (stop_fault stop)
+refused : (text : List ℕ) (edits : List TextEdit) (stop : EditStop) → StopsAt stop text edits
+    → IsRefused text edits (stop_fault stop)
 refused text edits w2 stops = grind (arith, common_steps)
 
 pub returns-in-Err-clause-err : goal.returns-in-Err-clause-err
 returns-in-Err-clause-err c =
     let stop = c.in-Err.ensures.made in
-    rw (c.stop_fault.ensures, ← c.in_ok-lexed.ensures.text) (refused c.in_ok-lexed.lexed.text c.args.edits.now c.in-Err.stop (stop.stop_accepted, subst (λ (text : List ℕ). IsStop c.in-Err.stop text c.args.edits.now) stop.stop_text stop.stop))
+    rw (c.stop_fault.ensures, ← c.in_ok-lexed.ensures.text)
+        (refused c.in_ok-lexed.lexed.text c.args.edits.now c.in-Err.stop
+        (stop.stop_accepted, subst (λ (text : List ℕ). IsStop c.in-Err.stop text c.args.edits.now) stop.stop_text
+        stop.stop))
 
 pub returns-in-Ok-clause-ok : goal.returns-in-Ok-clause-ok
 returns-in-Ok-clause-ok c =
     rw (← c.in_ok-lexed.ensures.text) (
       c.in-Ok.ensures.made.accepted,
       c.in-Ok.ensures.made.from_scratch
-          ∙ (ap (λ (grammar : Grammar). tokens_by grammar.first c.edit_all.new.self.text) c.in_ok-lexed.ensures.grammar ∙ ap (tokens_of (part c.args.edition)) c.in-Ok.ensures.made.text),
+          ∙ (ap (λ (grammar : Grammar). tokens_by grammar.first c.edit_all.new.self.text) c.in_ok-lexed.ensures.grammar
+              ∙ ap (tokens_of (part c.args.edition)) c.in-Ok.ensures.made.text),
     )

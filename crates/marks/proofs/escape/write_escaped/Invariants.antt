@@ -8,7 +8,8 @@ use Rattle.marks.proofs.escape.write_escaped.Given as goal
 abbrev pub invariant-loop-at : goal.invariant-loop-at
 invariant-loop-at g l = record {
   utf8 : shadow (Utf8 l.rest);
-  left : (w : _) → WritesInCalls g.W.Write.write_str_gives l.output (escaped l.rest) w → WritesInCalls g.W.Write.write_str_gives l.initial.output (escaped l.text) w;
+  left : (w : _) → WritesInCalls g.W.Write.write_str_gives l.output (escaped l.rest) w
+      → WritesInCalls g.W.Write.write_str_gives l.initial.output (escaped l.text) w;
 }
 
 abbrev pub decreases-loop-at : goal.decreases-loop-at

@@ -5,4 +5,5 @@ use Rattle.marks.proofs.FileFaultLemmas.{single_moved}
 use Rattle.marks.proofs.file_faults.single_error.Goals as goal
 
 pub returns : goal.returns
-returns c = (rw c.new.ensures at c.single_error.ensures) ∙ single_moved c.args.contents.now c.args.mode (unix (chars c.args.contents.now))
+returns c = (rw c.new.ensures at c.single_error.ensures) ∙ single_moved c.args.contents.now c.args.mode
+    (unix (chars c.args.contents.now))

@@ -7,8 +7,10 @@ use Rattle.marks.proofs.marked.write_first_tokens.Given as goal
 abbrev pub invariant-loop-left : goal.invariant-loop-left
 invariant-loop-left g l = record {
   place : StandsAt l.text l.start l.tokens;
-  left : (w : _) → WritesInCalls g.W.Write.write_str_gives l.output (marked_tokens l.format l.fn.edition l.tokens.rest (take l.left (tokens_left l.tokens))) w
-      → WritesInCalls g.W.Write.write_str_gives l.initial.output (marked_tokens l.format l.fn.edition l.text (take l.count (tokens_of (part l.fn.edition) l.text))) w;
+  left : (w : _) → WritesInCalls g.W.Write.write_str_gives l.output
+      (marked_tokens l.format l.fn.edition l.tokens.rest (take l.left (tokens_left l.tokens))) w
+      → WritesInCalls g.W.Write.write_str_gives l.initial.output
+          (marked_tokens l.format l.fn.edition l.text (take l.count (tokens_of (part l.fn.edition) l.text))) w;
 }
 
 abbrev pub decreases-loop-left : goal.decreases-loop-left

@@ -6,7 +6,8 @@ abbrev pub invariant-blanks : goal.invariant-blanks
 invariant-blanks l = record {
   past_end : l.end ≤ l.start;
   before : l.start ≤ l.offset;
-  same : blank_over true (take (l.offset - l.end) (drop l.end l.rest)) ≡ blank_over true (take (l.start - l.end) (drop l.end l.rest));
+  same : blank_over true (take (l.offset - l.end) (drop l.end l.rest)) ≡
+      blank_over true (take (l.start - l.end) (drop l.end l.rest));
 }
 
 abbrev pub decreases-blanks : goal.decreases-blanks

@@ -1,22 +1,30 @@
 -- Edits that are made at once: one more of them.
-use Rattle.std.proofs.Common.{◌≡◌, ◌↔◌, ℕ, zero, suc, ◌+◌, ◌-◌, ◌^◌, ◌<◌, ◌≤◌, min, List, [], ◌∷◌, ◌++◌, length, take, drop, reverse, get_or, refl, sym, ap, ◌∙◌, subst, arith, IsUtf8, IsCharBoundary, append_assoc, length-append, length-drop, length-take-le, take-take}
+use Rattle.std.proofs.Common.{
+    ◌≡◌, ◌↔◌, ℕ, zero, suc, ◌+◌, ◌-◌, ◌^◌, ◌<◌, ◌≤◌, min, List, [], ◌∷◌, ◌++◌, length, take, drop, reverse, get_or,
+    refl, sym, ap, ◌∙◌, subst, arith, IsUtf8, IsCharBoundary, append_assoc, length-append, length-drop, length-take-le,
+    take-take
+}
 use Rattle.std.proofs.lemmas.List.{append-nil, reverse-append, take-append-drop, take-append-le}
 use Rattle.std.proofs.Math.Seq.{drop-append_seam, take-add}
 use Rattle.std.proofs.lemmas.Str.{IsCharBoundary-start, IsUtf8-append, IsUtf8-between, IsUtf8-past_char, IsUtf8-take}
 use Rattle.std.proofs.{Math.Utf8.{encode, encodes}, lemmas.Grind.{common_steps}}
 use Rattle.rustc_lexer.specs.declared.relex.edit.Edit.{Edit}
-use Rattle.rustc_lexer.specs.Edits.{AreAtOnce, AreInOrder, IsInside, apply, apply_list, start_of_first, stop_of_last, with_all}
+use Rattle.rustc_lexer.specs.Edits.{
+    AreAtOnce, AreInOrder, IsInside, apply, apply_list, start_of_first, stop_of_last, with_all
+}
 use Rattle.rustc_lexer.specs.declared.{relex.checkpoints.Checkpoints.{Checkpoints}, head.Head.{Head}}
 use Rattle.rustc_lexer.specs.{declared.relex.relexing.Change.{Change}, Token, Classes.{IsText}, Partition.{Layout}}
 use Rattle.rustc_lexer.specs.means.Document.{AreKeptOf, IsPut, edit_change}
 use Rattle.rustc_lexer.proofs.lemmas.edits.{Lists.{apply-last, none}, DocumentEdits.{put_by}}
 
 pub order-last : (text : List ℕ) (from : ℕ) (es : List Edit) (e : Edit)
-    → AreInOrder text from (es ++ e ∷ []) ↔ (AreInOrder text from es × (stop_of_last from es ≤ e.start) × IsInside text e.start e.stop)
+    → AreInOrder text from (es ++ e ∷ [])
+        ↔ (AreInOrder text from es × (stop_of_last from es ≤ e.start) × IsInside text e.start e.stop)
 order-last text from [] e = (λ are. (tt, are.0, are.1), λ is. (is.1, is.2, tt))
 order-last text from (f ∷ es) e =
     let rest = order-last text f.stop es e in
-    (λ are. ((are.0, are.1, (rest.0 are.2).0), (rest.0 are.2).1, (rest.0 are.2).2), λ is. (is.0.0, is.0.1, rest.1 (is.0.2, is.1, is.2)))
+    (λ are. ((are.0, are.1, (rest.0 are.2).0), (rest.0 are.2).1, (rest.0 are.2).2),
+        λ is. (is.0.0, is.0.1, rest.1 (is.0.2, is.1, is.2)))
 
 pub stop-last : (from : ℕ) (es : List Edit) (e : Edit) → stop_of_last from (es ++ e ∷ []) ≡ e.stop
 stop-last from [] e = refl
@@ -29,25 +37,36 @@ pub first_start : (es : List Edit) → (es ≡ [] → ⊥) → (get_or es 0 none
 first_start es w1 = grind (arith, common_steps)
 
 all-last : (text : List ℕ) (from : ℕ) (es : List Edit) (e : Edit)
-    → with_all text from (es ++ e ∷ []) ≡ with_all text from es ++ (take (e.start - stop_of_last from es) (drop (stop_of_last from es) text) ++ e.insert.now)
+    → with_all text from (es ++ e ∷ []) ≡
+        with_all text from es
+        ++ (take (e.start - stop_of_last from es) (drop (stop_of_last from es) text) ++ e.insert.now)
 all-last text from [] e = grind (arith, common_steps, append-nil)
 all-last text from (f ∷ es) e = grind (arith, common_steps, all-last text f.stop es e, append_assoc)
 
 -- one more of them: what they make so far is a text, and its length stops at the greatest number
-pub made-last : (text : List ℕ) (es : List Edit) (e : Edit) (last len next : ℕ) → IsUtf8 text → IsUtf8 (with_all text 0 es) → last ≡ stop_of_last 0 es
+pub made-last : (text : List ℕ) (es : List Edit) (e : Edit) (last len next : ℕ) → IsUtf8 text
+    → IsUtf8 (with_all text 0 es) → last ≡ stop_of_last 0 es
     → IsCharBoundary text last
-    → len ≡ min (2 ^ 64 - 1) (length (with_all text 0 es)) → last ≤ e.start → IsInside text e.start e.stop → IsUtf8 e.insert.now
+    → len ≡ min (2 ^ 64 - 1) (length (with_all text 0 es)) → last ≤ e.start → IsInside text e.start e.stop
+        → IsUtf8 e.insert.now
     → next ≡ min (2 ^ 64 - 1) (len + (e.start - last) + length e.insert.now)
     → IsUtf8 (with_all text 0 (es ++ e ∷ [])) × (next ≡ min (2 ^ 64 - 1) (length (with_all text 0 (es ++ e ∷ []))))
 made-last text es e last len next is are last_is boundary len_is after inside insert next_is =
     let between : List ℕ = take (e.start - last) (drop last text) in
-    let more : with_all text 0 (es ++ e ∷ []) ≡ with_all text 0 es ++ (between ++ e.insert.now) = rw last_is (all-last text 0 es e) in
-    let size : length between ≡ e.start - last = length-take-le (e.start - last) (drop last text) (omega (arith, length-drop last text, inside.start_le_stop, inside.stop_inside)) in (
-      subst IsUtf8 (sym more) (IsUtf8-append _ _ are (IsUtf8-append _ _ (IsUtf8-between text last e.start is after boundary inside.start_boundary) insert)),
-      omega (arith, next_is, len_is, size, ap (λ (xs : List ℕ). length xs) more, length-append (with_all text 0 es) (between ++ e.insert.now), length-append between e.insert.now),
+    let more : with_all text 0 (es ++ e ∷ []) ≡ with_all text 0 es ++ (between ++ e.insert.now) =
+        rw last_is (all-last text 0 es e) in
+    let size : length between ≡ e.start - last =
+        length-take-le (e.start - last) (drop last text)
+        (omega (arith, length-drop last text, inside.start_le_stop, inside.stop_inside)) in (
+      subst IsUtf8 (sym more)
+          (IsUtf8-append _ _ are
+          (IsUtf8-append _ _ (IsUtf8-between text last e.start is after boundary inside.start_boundary) insert)),
+      omega (arith, next_is, len_is, size, ap (λ (xs : List ℕ). length xs) more, length-append (with_all text 0 es)
+          (between ++ e.insert.now), length-append between e.insert.now),
     )
 
-pub order-take : (text : List ℕ) (from : ℕ) (es : List Edit) (n : ℕ) → AreInOrder text from es → AreInOrder text from (take n es)
+pub order-take : (text : List ℕ) (from : ℕ) (es : List Edit) (n : ℕ) → AreInOrder text from es
+    → AreInOrder text from (take n es)
 order-take text from es zero are = tt
 order-take text from [] (suc n) are = tt
 order-take text from (e ∷ es) (suc n) are = (are.0, are.1, order-take text e.stop es n are.2)
@@ -60,74 +79,95 @@ order_end text from [] are few boundary = (omega arith, few, boundary)
 order_end text from (e ∷ es) are few boundary =
     grind (arith, common_steps, order_end text e.stop es are.2 are.1.stop_inside are.1.stop_boundary)
 
-order_inside : (text : List ℕ) (es : List Edit) → (es ≡ [] → ⊥) → AreInOrder text 0 es → IsInside text (start_of_first es) (stop_of_last 0 es)
+order_inside : (text : List ℕ) (es : List Edit) → (es ≡ [] → ⊥) → AreInOrder text 0 es
+    → IsInside text (start_of_first es) (stop_of_last 0 es)
 order_inside text [] some are = absurd (some refl)
 order_inside text (e ∷ es) some are =
     grind (arith, common_steps, order_end text e.stop es are.2 are.1.stop_inside are.1.stop_boundary)
 
 -- all that they make begins with the text in front of the first
-from_first : (text : List ℕ) (es : List Edit) → (es ≡ [] → ⊥) → with_all text 0 es ≡ take (start_of_first es) text ++ with_all text (start_of_first es) es
+from_first : (text : List ℕ) (es : List Edit) → (es ≡ [] → ⊥)
+    → with_all text 0 es ≡ take (start_of_first es) text ++ with_all text (start_of_first es) es
 from_first text es w2 = grind (arith, common_steps)
 
 pub applied_is : (text : List ℕ) (es : List Edit) → (es ≡ [] → ⊥)
-    → with_all text 0 es ++ drop (stop_of_last 0 es) text ≡ apply text (start_of_first es) (stop_of_last 0 es) (with_all text (start_of_first es) es)
+    → with_all text 0 es ++ drop (stop_of_last 0 es) text ≡ apply text (start_of_first es) (stop_of_last 0 es)
+        (with_all text (start_of_first es) es)
 unfolding apply
 applied_is text es some = grind (arith, common_steps, from_first text es some, append_assoc)
 
 -- what is behind an edit, and what it inserts, put behind the text in front of it
 put_before : (text rest : List ℕ) (from : ℕ) (e : Edit) → from ≤ e.start → IsInside text e.start e.stop
-    → apply (take e.stop text ++ rest) e.start e.stop e.insert.now ≡ take from text ++ (take (e.start - from) (drop from text) ++ (e.insert.now ++ rest))
+    → apply (take e.stop text ++ rest) e.start e.stop e.insert.now ≡
+        take from text ++ (take (e.start - from) (drop from text) ++ (e.insert.now ++ rest))
 unfolding apply
 put_before text rest from e after inside =
     let size : length (take e.stop text) ≡ e.stop = length-take-le e.stop text inside.stop_inside in
-    let front : take e.start (take e.stop text ++ rest) ≡ take e.start text = take-append-le e.start (take e.stop text) rest (omega (arith, size, inside.start_le_stop)) ∙ take-take e.start e.stop text inside.start_le_stop in
-    let back : drop e.stop (take e.stop text ++ rest) ≡ rest = subst (λ n. drop n (take e.stop text ++ rest) ≡ rest) size (drop-append_seam (take e.stop text) rest) in
-    let all : take e.start text ≡ take from text ++ take (e.start - from) (drop from text) = ap (λ n. take n text) (omega (arith, after)) ∙ take-add from (e.start - from) text in
-    rw (front, back, all) (append_assoc (take from text) (take (e.start - from) (drop from text)) (e.insert.now ++ rest))
+    let front : take e.start (take e.stop text ++ rest) ≡ take e.start text =
+        take-append-le e.start (take e.stop text) rest (omega (arith, size, inside.start_le_stop))
+        ∙ take-take e.start e.stop text inside.start_le_stop in
+    let back : drop e.stop (take e.stop text ++ rest) ≡ rest =
+        subst (λ n. drop n (take e.stop text ++ rest) ≡ rest) size (drop-append_seam (take e.stop text) rest) in
+    let all : take e.start text ≡ take from text ++ take (e.start - from) (drop from text) =
+        ap (λ n. take n text) (omega (arith, after)) ∙ take-add from (e.start - from) text in
+    rw (front, back, all)
+        (append_assoc (take from text) (take (e.start - from) (drop from text)) (e.insert.now ++ rest))
 
 -- one after another, from the last to the first, they make the same text
 backwards : (text : List ℕ) (from : ℕ) (es : List Edit) → AreInOrder text from es → from ≤ length text
     → apply_list text (reverse es) ≡ take from text ++ (with_all text from es ++ drop (stop_of_last from es) text)
 backwards text from [] are few = sym (take-append-drop from text)
 backwards text from (e ∷ es) are few =
-    grind (arith, common_steps, reverse-append, apply-last, put_before, append_assoc, backwards text e.stop es are.2 are.1.stop_inside)
+    grind (arith, common_steps, reverse-append, apply-last, put_before, append_assoc,
+        backwards text e.stop es are.2 are.1.stop_inside)
 
 pub none_by_one : (text : List ℕ) (es : List Edit) → length es ≡ 0 → text ≡ apply_list text (reverse es)
 none_by_one text es w2 = grind (arith, common_steps)
 
 pub one_by_one : (text : List ℕ) (es : List Edit) → (es ≡ [] → ⊥) → AreInOrder text 0 es
-    → apply text (start_of_first es) (stop_of_last 0 es) (with_all text (start_of_first es) es) ≡ apply_list text (reverse es)
+    → apply text (start_of_first es) (stop_of_last 0 es) (with_all text (start_of_first es) es) ≡
+        apply_list text (reverse es)
 one_by_one text es some are = sym (applied_is text es some) ∙ sym (backwards text 0 es are (omega arith))
 
 -- what follows a text in a text is one
 rest_encoded : (cs ys : List ℕ) → IsUtf8 (encodes cs ++ ys) → IsUtf8 ys
 rest_encoded [] ys is = is
-rest_encoded (c ∷ cs) ys is = rest_encoded cs ys (IsUtf8-past_char (encodes (c ∷ cs) ++ ys) (encodes cs ++ ys) c is (append_assoc (encode c) (encodes cs) ys))
+rest_encoded (c ∷ cs) ys is =
+    rest_encoded cs ys
+    (IsUtf8-past_char (encodes (c ∷ cs) ++ ys) (encodes cs ++ ys) c is (append_assoc (encode c) (encodes cs) ys))
 
-pub insert_utf8 : (text : List ℕ) (es : List Edit) → (es ≡ [] → ⊥) → IsUtf8 text → AreInOrder text 0 es → IsUtf8 (with_all text 0 es) → IsUtf8 (with_all text (start_of_first es) es)
+pub insert_utf8 : (text : List ℕ) (es : List Edit) → (es ≡ [] → ⊥) → IsUtf8 text → AreInOrder text 0 es
+    → IsUtf8 (with_all text 0 es) → IsUtf8 (with_all text (start_of_first es) es)
 insert_utf8 text es some is are all =
     let front = IsUtf8-take text (start_of_first es) is (order_inside text es some are).start_boundary in
-    rest_encoded front.0 (with_all text (start_of_first es) es) (rw front.1.1 (subst IsUtf8 (from_first text es some) all))
+    rest_encoded front.0 (with_all text (start_of_first es) es)
+        (rw front.1.1 (subst IsUtf8 (from_first text es some) all))
 
 -- where what they insert ends
-pub insert_end : (text : List ℕ) (es : List Edit) → (es ≡ [] → ⊥) → AreInOrder text 0 es → length (with_all text 0 es) ≡ start_of_first es + length (with_all text (start_of_first es) es)
+pub insert_end : (text : List ℕ) (es : List Edit) → (es ≡ [] → ⊥) → AreInOrder text 0 es → length (with_all text 0 es) ≡
+    start_of_first es + length (with_all text (start_of_first es) es)
 insert_end text es some are = grind (arith, common_steps, order_inside, from_first, length-append, length-take-le)
 
-pub at_once_valid : (text : List ℕ) (es : List Edit) → (es ≡ [] → ⊥) → AreInOrder text 0 es → length (with_all text 0 es) + (length text - stop_of_last 0 es) < 2 ^ 32 → AreAtOnce text es
+pub at_once_valid : (text : List ℕ) (es : List Edit) → (es ≡ [] → ⊥) → AreInOrder text 0 es
+    → length (with_all text 0 es) + (length text - stop_of_last 0 es) < 2 ^ 32 → AreAtOnce text es
 at_once_valid text es some are short = grind (arith, common_steps, order_inside, insert_end)
 
-pub at_once_short : (text : List ℕ) (es : List Edit) → (es ≡ [] → ⊥) → AreAtOnce text es → length (with_all text 0 es) + (length text - stop_of_last 0 es) < 2 ^ 32
-at_once_short text es some are = omega (arith, are.1.short, insert_end text es some are.0, are.1.inside.start_le_stop, are.1.inside.stop_inside)
+pub at_once_short : (text : List ℕ) (es : List Edit) → (es ≡ [] → ⊥) → AreAtOnce text es
+    → length (with_all text 0 es) + (length text - stop_of_last 0 es) < 2 ^ 32
+at_once_short text es some are =
+    omega (arith, are.1.short, insert_end text es some are.0, are.1.inside.start_le_stop, are.1.inside.stop_inside)
 
 pub at_once_none : (text : List ℕ) (es : List Edit) → length es ≡ 0 → IsText text → AreAtOnce text es
 at_once_none text [] none is = grind (arith, common_steps, IsCharBoundary-start)
 at_once_none text (e ∷ es) none is = absurd (omega arith)
 
 -- all that they make is the text that the one edit makes
-pub put_at_once : {layout : (List ℕ → Token) → List ℕ → Layout} {first : List ℕ → Token} {before made : List ℕ} (es : List Edit) {edit : Change} {tokens : List Token} {head : Head} {checkpoints : Checkpoints}
+pub put_at_once : {layout : (List ℕ → Token) → List ℕ → Layout} {first : List ℕ → Token} {before made : List ℕ}
+    (es : List Edit) {edit : Change} {tokens : List Token} {head : Head} {checkpoints : Checkpoints}
     → (es ≡ [] → ⊥) → AreKeptOf layout first before tokens head checkpoints
     → IsUtf8 (with_all before (start_of_first es) es) → AreAtOnce before es
     → edit ≡ edit_change (start_of_first es) (stop_of_last 0 es) (with_all before (start_of_first es) es)
     → made ≡ with_all before 0 es ++ drop (stop_of_last 0 es) before
     → IsPut layout first before (with_all before (start_of_first es) es) edit made tokens head checkpoints
-put_at_once {before = before} es some kept utf8 valid edit_is made_is = rw edit_is (put_by kept utf8 valid.1 (made_is ∙ applied_is before es some) refl)
+put_at_once {before = before} es some kept utf8 valid edit_is made_is =
+    rw edit_is (put_by kept utf8 valid.1 (made_is ∙ applied_is before es some) refl)

@@ -1,5 +1,8 @@
 -- Bounds of a list of tokens.
-use Rattle.std.proofs.Common.{◌≡◌, ℕ, zero, suc, ◌+◌, ◌<◌, ◌≤◌, ◌^◌, Bool, cond, List, [], ◌∷◌, ◌++◌, length, drop, ap, ◌∙◌, arith, length-drop, IsCharBoundary}
+use Rattle.std.proofs.Common.{
+    ◌≡◌, ℕ, zero, suc, ◌+◌, ◌<◌, ◌≤◌, ◌^◌, Bool, cond, List, [], ◌∷◌, ◌++◌, length, drop, ap, ◌∙◌, arith, length-drop,
+    IsCharBoundary
+}
 use Rattle.std.proofs.lemmas.List.Sums.{sum_by_from}
 use Rattle.std.specs.List.{count_by}
 use Rattle.std.proofs.lemmas.{List.{drop_all}, Str.{IsCharBoundary-from_drop, IsUtf8-drop}, Grind.{common_steps}}
@@ -9,7 +12,8 @@ use Rattle.rustc_lexer.proofs.lemmas.tokens.Progress.{IsNext, next-from_drop}
 
 -- what is left of a text from a boundary on
 pub rest_is : (text : List ℕ) (at : ℕ) → IsText text → IsCharBoundary text at → IsText (drop at text)
-rest_is text at is here = record { utf8 = IsUtf8-drop text at is.utf8 here; fits = omega (arith, is.fits, length-drop at text) }
+rest_is text at is here =
+    record { utf8 = IsUtf8-drop text at is.utf8 here; fits = omega (arith, is.fits, length-drop at text) }
 
 pub bound_mono : (ts : List Token) (i j : ℕ) → i ≤ j → bound ts i ≤ bound ts j
 bound_mono ts zero j le = omega arith
@@ -19,7 +23,8 @@ bound_mono (t ∷ ts) (suc i) zero le = absurd (omega arith)
 bound_mono (t ∷ ts) (suc i) (suc j) le = omega (arith, bound_mono ts i j (omega arith))
 
 -- the end of one token more
-pub bound-end : (ts : List Token) (t : Token) → bound (ts ++ t ∷ []) (length (ts ++ t ∷ [])) ≡ bound ts (length ts) + t.len
+pub bound-end : (ts : List Token) (t : Token) → bound (ts ++ t ∷ []) (length (ts ++ t ∷ [])) ≡
+    bound ts (length ts) + t.len
 bound-end [] t = omega arith
 bound-end (u ∷ ts) t = omega (arith, bound-end ts t)
 
@@ -29,26 +34,32 @@ rises {first} law text is k few =
     let cut : IsCutAt first text (tokens_by first text) k = at_bound law k text is in
     let left : List ℕ = drop (bound (tokens_by first text) k) text in
     let some : 0 < length left = non-empty left cut.rest in
-    let next : IsNext (tokens_by first text) k (first left) = next-from_drop _ k _ _ (cut.rest ∙ tokens-cons law left cut.past some) in
+    let next : IsNext (tokens_by first text) k (first left) =
+        next-from_drop _ k _ _ (cut.rest ∙ tokens-cons law left cut.past some) in
     omega (arith, next.end, law.not_empty left cut.past some)
   where
     non-empty : (left : List ℕ) → drop k (tokens_by first text) ≡ tokens_by first left → 0 < length left
-    non-empty [] e = absurd (let none : length (drop k (tokens_by first text)) ≡ 0 = ap length (e ∙ tokens-nil first) in omega (arith, length-drop k (tokens_by first text)))
+    non-empty [] e = absurd (let none : length (drop k (tokens_by first text)) ≡ 0 = ap length (e ∙ tokens-nil first) in
+        omega (arith, length-drop k (tokens_by first text)))
     non-empty (c ∷ cs) e = omega arith
 
 -- a text has no more tokens than bytes
-pub number_le_bound : (ts : List Token) (k : ℕ) → k ≤ length ts → ((j : ℕ) → j < length ts → bound ts j < bound ts (suc j)) → k ≤ bound ts k
+pub number_le_bound : (ts : List Token) (k : ℕ) → k ≤ length ts
+    → ((j : ℕ) → j < length ts → bound ts j < bound ts (suc j)) → k ≤ bound ts k
 number_le_bound ts zero few up = omega arith
 number_le_bound ts (suc k) few up = omega (arith, up k (omega arith), number_le_bound ts k (omega arith) up)
 
-pub count-cons : {X : Type 0} (test : X → Bool) (x : X) (xs : List X) → count_by test (x ∷ xs) ≡ cond (test x) 1 0 + count_by test xs
+pub count-cons : {X : Type 0} (test : X → Bool) (x : X) (xs : List X)
+    → count_by test (x ∷ xs) ≡ cond (test x) 1 0 + count_by test xs
 count-cons test x xs = grind (arith, common_steps, sum_by_from)
 
 -- the last bound is the text's end
-pub bound-last : {first : List ℕ → Token} (law : IsGrammar first) (text : List ℕ) → IsText text → bound (tokens_by first text) (length (tokens_by first text)) ≡ length text
+pub bound-last : {first : List ℕ → Token} (law : IsGrammar first) (text : List ℕ) → IsText text
+    → bound (tokens_by first text) (length (tokens_by first text)) ≡ length text
 bound-last {first} law text is = grind (arith, common_steps, at_bound, drop_all, length-drop, tokens-cons)
 
-pub tokens_le_bytes : {first : List ℕ → Token} (law : IsGrammar first) (text : List ℕ) → IsText text → length (tokens_by first text) ≤ length text
+pub tokens_le_bytes : {first : List ℕ → Token} (law : IsGrammar first) (text : List ℕ) → IsText text
+    → length (tokens_by first text) ≤ length text
 tokens_le_bytes {first} law text is = grind (arith, common_steps, number_le_bound, bound-last law text is, rises)
 
 module _ {first : List ℕ → Token} (law : IsGrammar first) (text : List ℕ) (is : IsText text) where

@@ -1,5 +1,7 @@
 -- Bounds that are remembered are bounds of the tokens that an edit leaves.
-use Rattle.std.proofs.Common.{◌≡◌, ℕ, ◌+◌, ◌-◌, ◌≤◌, List, length, take, drop, sym, ap, ◌∙◌, arith, length-drop, take-take}
+use Rattle.std.proofs.Common.{
+    ◌≡◌, ℕ, ◌+◌, ◌-◌, ◌≤◌, List, length, take, drop, sym, ap, ◌∙◌, arith, length-drop, take-take
+}
 use Rattle.std.specs.List.{All}
 use Rattle.std.proofs.lemmas.Grind.{common_steps}
 use Rattle.rustc_lexer.specs.declared.relex.{front.TokenStart.{TokenStart}, checkpoints.Checkpoints.{Checkpoints}}
@@ -12,27 +14,36 @@ module _ (old new : List Token) (kept met now : TokenStart) (is : IsReplaced old
   -- a bound of the kept front stays
   pub front_stays : (at : TokenStart) → at.index ≤ kept.index → IsBound old at → IsBound new at
   front_stays at few here =
-      grind (arith, common_steps, take-take at.index kept.index old few, is.front, take-take at.index kept.index new few, is.kept_le, is.now_bound.0, bound-same at.index old new (sym (take-take at.index kept.index old few) ∙ (ap (take at.index) (sym is.front) ∙ take-take at.index kept.index new few)))
+      grind (arith, common_steps, take-take at.index kept.index old few, is.front,
+          take-take at.index kept.index new few, is.kept_le, is.now_bound.0, bound-same at.index old new
+          (sym (take-take at.index kept.index old few)
+          ∙ (ap (take at.index) (sym is.front) ∙ take-take at.index kept.index new few)))
 
   pub kept_stays : IsBound new kept
   kept_stays = front_stays kept (omega arith) is.kept_bound
 
   -- a bound of the kept back moves with the one that was met
-  pub back_moves : (at : TokenStart) → met.index ≤ at.index → IsBound old at → IsBound new (record { index = at.index - met.index + now.index; offset = at.offset - met.offset + now.offset })
+  pub back_moves : (at : TokenStart) → met.index ≤ at.index → IsBound old at
+      → IsBound new (record { index = at.index - met.index + now.index; offset = at.offset - met.offset + now.offset })
   back_moves at past here =
       let m : ℕ = at.index - met.index in
       let there : met.index + m ≡ at.index = omega arith in
       let turned : now.index + m ≡ m + now.index = omega arith in
       let long : length (drop now.index new) ≡ length (drop met.index old) = ap length is.back in
-      let before : at.offset ≡ bound old met.index + bound (drop met.index old) m = here.1 ∙ (ap (bound old) (sym there) ∙ bound-shift old met.index m) in
+      let before : at.offset ≡ bound old met.index + bound (drop met.index old) m =
+          here.1 ∙ (ap (bound old) (sym there) ∙ bound-shift old met.index m) in
       let after : bound new (m + now.index) ≡ bound new now.index + bound (drop met.index old) m =
-      ap (bound new) (sym turned) ∙ (bound-shift new now.index m ∙ ap (λ ts. bound new now.index + bound ts m) is.back) in (
-        omega (arith, long, here.0, is.met_bound.0, is.now_bound.0, length-drop now.index new, length-drop met.index old),
+      ap (bound new) (sym turned)
+          ∙ (bound-shift new now.index m ∙ ap (λ ts. bound new now.index + bound ts m) is.back) in (
+        omega (arith, long, here.0, is.met_bound.0, is.now_bound.0, length-drop now.index new,
+            length-drop met.index old),
         omega (arith, before, after, is.met_bound.1, is.now_bound.1),
       )
 
 -- numbers and places of both lists are small
-pub movable_for : {first : List ℕ → Token} (law : IsGrammar first) {text made : List ℕ} {old new : List Token} {kept met now : TokenStart}
+pub movable_for : {first : List ℕ → Token} (law : IsGrammar first) {text made : List ℕ} {old new : List Token}
+    {kept met now : TokenStart}
     → IsText text → IsText made → (checkpoints : Checkpoints) → old ≡ tokens_by first text → new ≡ tokens_by first made
     → IsReplaced old new kept met now → AreBounds old checkpoints → All (IsMovable met now) checkpoints.bounds
-movable_for law is its checkpoints e f replaced are k d few past = grind (arith, common_steps, bound_mono, tokens_le_bytes, bounds_fit)
+movable_for law is its checkpoints e f replaced are k d few past =
+    grind (arith, common_steps, bound_mono, tokens_le_bytes, bounds_fit)

@@ -1,5 +1,9 @@
 -- An edit of what is kept with a text: what is put in place of its old tokens.
-use Rattle.std.proofs.Common.{◌≡◌, ◌↔◌, ℕ, ◌+◌, ◌-◌, ◌<◌, ◌≤◌, ◌^◌, Bool, true, false, if◌then◌else◌, IsTrue, List, ◌++◌, length, map, take, drop, refl, sym, ap, ap₂, ◌∙◌, subst, arith, length-append, length-drop, rules, Result, Ok, Err, ◌&&◌, nat_le, true≢false, IsUtf8}
+use Rattle.std.proofs.Common.{
+    ◌≡◌, ◌↔◌, ℕ, ◌+◌, ◌-◌, ◌<◌, ◌≤◌, ◌^◌, Bool, true, false, if◌then◌else◌, IsTrue, List, ◌++◌, length, map, take, drop,
+    refl, sym, ap, ap₂, ◌∙◌, subst, arith, length-append, length-drop, rules, Result, Ok, Err, ◌&&◌, nat_le, true≢false,
+    IsUtf8
+}
 use Rattle.std.specs.List.{All, Contains}
 use Rattle.std.proofs.lemmas.List.{take_rest, Elements.{All-contains}}
 use Rattle.std.proofs.Math.Seq.{drop-append_seam, drop-append-add, take-append_seam, take-append-add}
@@ -7,7 +11,9 @@ use Rattle.std.proofs.lemmas.Grind.{common_steps}
 use Rattle.rustc_lexer.specs.declared.relex.{checkpoints.Checkpoints.{Checkpoints}, front.TokenStart.{TokenStart}}
 use Rattle.rustc_lexer.specs.declared.head.Head.{Head}
 use Rattle.rustc_lexer.specs.{declared.relex.relexing.{Change.Change, Relexed.Relexed, Relexing.Relexing}, Token}
-use Rattle.rustc_lexer.specs.means.Document.{body_change, body_insert, counted, IsHeadIn, IsPut, tokens_of_head, AreKeptOf, TakesFew, edit_change, text_left}
+use Rattle.rustc_lexer.specs.means.Document.{
+    body_change, body_insert, counted, IsHeadIn, IsPut, tokens_of_head, AreKeptOf, TakesFew, edit_change, text_left
+}
 use Rattle.rustc_lexer.specs.{Partition.{Layout, tokens_in}, Kept.{AreKept, Held, HasStepCount, IsEdited, layout_in}}
 use Rattle.rustc_lexer.specs.{Offsets.{IsBound}, Relexing.{IsMadeOf, known, IsEditOf}, Locality.{IsGrammar}}
 use Rattle.rustc_lexer.specs.{Tokens.{tokens_by}, means.Checkpoints.{AreBounds, IsMovable, IsReplaced, end_of}}
@@ -18,8 +24,10 @@ use Rattle.rustc_lexer.proofs.lemmas.edits.{UnderWay.{kept_old, lexed_whole, res
 use Rattle.std.specs.Result.{IsErr}
 use Rattle.rustc_lexer.specs.{Classes.{IsText}, Edits.{apply, IsEdit}, laws.Same.{decided_head, is_same_head}}
 
-module _ {layout : (List ℕ → Token) → List ℕ → Layout} {first : List ℕ → Token} (law : IsGrammar first) {before insert made : List ℕ} {tokens : List Token}
-    {old : Head} {checkpoints : Checkpoints} {edit : Change} (p : IsPut layout first before insert edit made tokens old checkpoints) where
+module _ {layout : (List ℕ → Token) → List ℕ → Layout} {first : List ℕ → Token} (law : IsGrammar first)
+    {before insert made : List ℕ} {tokens : List Token}
+    {old : Head} {checkpoints : Checkpoints} {edit : Change}
+        (p : IsPut layout first before insert edit made tokens old checkpoints) where
   abbrev n : ℕ
   n = length (tokens_of_head old)
 
@@ -39,27 +47,33 @@ module _ {layout : (List ℕ → Token) → List ℕ → Layout} {first : List �
   pub near_behind : {near : TokenStart} → Contains checkpoints.bounds near → IsBound behind near
   near_behind is = grind (arith, common_steps, All-contains, p.kept.4, old_behind)
 
-  module _ {now : Head} (now_is : IsHeadIn layout made now) {kept : Bool} (decided : IsTrue kept ↔ ((old ≡ now) × (old.body ≤ edit.start))) where
+  module _ {now : Head} (now_is : IsHeadIn layout made now) {kept : Bool}
+      (decided : IsTrue kept ↔ ((old ≡ now) × (old.body ≤ edit.start))) where
     abbrev change : Change
     change = body_change kept old.body now.body edit
 
     abbrev body : List ℕ
     body = drop now.body made
 
-    pub made_here : IsMadeOf first (drop old.body before) (map (λ (t : Token). t.len) behind) change (body_insert kept change insert body) body
+    pub made_here : IsMadeOf first (drop old.body before) (map (λ (t : Token). t.len) behind) change
+        (body_insert kept change insert body) body
     made_here = body_made law p.edit_of p.kept.2 now_is decided
 
     -- what was lexed is put in place of the old tokens
-    module _ {lexed : List Token} {at : Relexing} (l : IsLexed first (drop old.body before) change body lexed at) {new : List Token}
-        (put : new ≡ (if kept then take n tokens else tokens_of_head now) ++ (take at.front.index (drop n tokens) ++ (lexed ++ drop at.back.index (drop n tokens))))
+    module _ {lexed : List Token} {at : Relexing} (l : IsLexed first (drop old.body before) change body lexed at)
+        {new : List Token}
+        (put : new ≡ (if kept then take n tokens else tokens_of_head now)
+            ++ (take at.front.index (drop n tokens) ++ (lexed ++ drop at.back.index (drop n tokens))))
       where
         abbrev fresh : List Token
         fresh = tokens_by first body
 
         new_is : new ≡ tokens_of_head now ++ fresh
-        new_is = put ∙ ap₂ (λ (xs ys : List Token). xs ++ ys) (front kept refl) (rw old_behind (lexed_whole law made_here l))
+        new_is = put ∙ ap₂ (λ (xs ys : List Token). xs ++ ys) (front kept refl)
+            (rw old_behind (lexed_whole law made_here l))
           where
-            front : (stays : Bool) → kept ≡ stays → (if stays then take n tokens else tokens_of_head now) ≡ tokens_of_head now
+            front : (stays : Bool) → kept ≡ stays → (if stays then take n tokens else tokens_of_head now) ≡
+                tokens_of_head now
             front true same = old_front ∙ ap tokens_of_head (decided.0 same).0
             front false same = refl
 
@@ -77,7 +91,8 @@ module _ {layout : (List ℕ → Token) → List ℕ → Layout} {first : List �
         rest = rest_met law made_here l.under_way l.met
 
         -- the checkpoints can be moved, and stay checkpoints
-        pub bounds_move : All (IsMovable at.back (end_of at)) checkpoints.bounds × IsReplaced behind fresh at.front at.back (end_of at)
+        pub bounds_move : All (IsMovable at.back (end_of at)) checkpoints.bounds
+            × IsReplaced behind fresh at.front at.back (end_of at)
         bounds_move =
             let replaced : IsReplaced behind fresh at.front at.back (end_of at) = record {
               kept_bound = l.under_way.front_bound;
@@ -87,30 +102,36 @@ module _ {layout : (List ℕ → Token) → List ℕ → Layout} {first : List �
               front = front_kept;
               back = rest;
             } in
-            let movable = movable_for law made_here.edit_of.is_text (edited made_here.edit_of).text_is checkpoints refl refl replaced in
+            let movable = movable_for law made_here.edit_of.is_text (edited made_here.edit_of).text_is checkpoints refl
+                refl replaced in
             (movable (subst (λ ts. AreBounds ts checkpoints) old_behind p.kept.4), replaced)
 
         abbrev counts : Relexed
         counts = record { kept_front = at.front.index; lexed = at.lexed; kept_back = length behind - at.back.index }
 
-        sizes : (at.front.index + at.lexed + (length behind - at.back.index) ≡ length fresh) × (at.back.index ≤ length behind)
+        sizes : (at.front.index + at.lexed + (length behind - at.back.index) ≡ length fresh)
+            × (at.back.index ≤ length behind)
             × (length new ≡ length (tokens_of_head now) + length fresh) × (length tokens ≡ n + length behind)
         sizes = (
-          omega (arith, ap (λ (ts : List Token). length ts) rest, length-drop (known at) fresh, length-drop at.back.index behind, l.under_way.inside),
+          omega (arith, ap (λ (ts : List Token). length ts) rest, length-drop (known at) fresh,
+              length-drop at.back.index behind, l.under_way.inside),
           l.under_way.back_bound.0,
           ap (λ (ts : List Token). length ts) new_is ∙ length-append (tokens_of_head now) fresh,
           ap (λ (ts : List Token). length ts) all ∙ length-append (tokens_of_head old) behind,
         )
 
-        back_with : (k back : ℕ) → k ≡ length (tokens_of_head now) + known at → back ≡ n + at.back.index → drop k new ≡ drop back tokens
+        back_with : (k back : ℕ) → k ≡ length (tokens_of_head now) + known at → back ≡ n + at.back.index
+            → drop k new ≡ drop back tokens
         back_with k back e f = ap₂ drop e new_is
-            ∙ (drop-append-add (tokens_of_head now) fresh (known at) ∙ (rest ∙ sym (ap₂ drop f all ∙ drop-append-add (tokens_of_head old) behind at.back.index)))
+            ∙ (drop-append-add (tokens_of_head now) fresh (known at)
+                ∙ (rest ∙ sym (ap₂ drop f all ∙ drop-append-add (tokens_of_head old) behind at.back.index)))
 
         -- the counts are those of all tokens
         pub counted_are : AreKept tokens new (counted kept n (length (tokens_of_head now)) counts)
         counted_are = by_kept kept refl
           where
-            by_kept : (stays : Bool) → kept ≡ stays → AreKept tokens new (counted stays n (length (tokens_of_head now)) counts)
+            by_kept : (stays : Bool) → kept ≡ stays
+                → AreKept tokens new (counted stays n (length (tokens_of_head now)) counts)
             by_kept true same =
                 let heads = ap tokens_of_head (decided.0 same).0 in
                 let many : n ≡ length (tokens_of_head now) = ap length heads in
@@ -121,7 +142,8 @@ module _ {layout : (List ℕ → Token) → List ℕ → Layout} {first : List �
                 }
             by_kept false same =
                 let none : at.front.index ≡ 0 = l.under_way.front
-                ∙ (ap (λ (k : Bool). kept_front (drop old.body before) behind (body_change k old.body now.body edit).start) same
+                ∙ (ap (λ (k : Bool). kept_front (drop old.body before) behind
+                    (body_change k old.body now.body edit).start) same
                 ∙ kept_none (drop old.body before) behind) in
                 record {
                   all = omega (arith, sizes.0, sizes.2);
@@ -131,27 +153,33 @@ module _ {layout : (List ℕ → Token) → List ℕ → Layout} {first : List �
 
         pub counted_few : at.front.index < 2 ^ 33
         counted_few =
-            omega (arith, l.under_way.front_bound.0, tokens_le_bytes law (drop old.body before) made_here.edit_of.is_text, made_here.edit_of.is_text.fits)
+            omega (arith, l.under_way.front_bound.0,
+                tokens_le_bytes law (drop old.body before) made_here.edit_of.is_text, made_here.edit_of.is_text.fits)
 
 -- the edit of the body, as it is read
 pub made_read : {layout : (List ℕ → Token) → List ℕ → Layout} {first : List ℕ → Token}
-    (law : IsGrammar first) {before insert made read body : List ℕ} {tokens slice : List Token} {old now : Head} {checkpoints : Checkpoints}
+    (law : IsGrammar first) {before insert made read body : List ℕ} {tokens slice : List Token} {old now : Head}
+        {checkpoints : Checkpoints}
     {edit change : Change} {kept : Bool} {n : ℕ} (p : IsPut layout first before insert edit made tokens old checkpoints)
-    → read ≡ made → IsHeadIn layout read now → IsTrue kept ↔ ((old ≡ now) × (old.body ≤ edit.start)) → n ≡ length (tokens_of_head old)
+    → read ≡ made → IsHeadIn layout read now → IsTrue kept ↔ ((old ≡ now) × (old.body ≤ edit.start))
+        → n ≡ length (tokens_of_head old)
     → body ≡ drop now.body read → change ≡ body_change kept old.body now.body edit → slice ≡ tokens
     → IsMadeOf first (drop old.body before) (map (λ (t : Token). t.len) (take (length slice - n) (drop n slice))) change
     (body_insert kept change insert body) body
 made_read law {slice = slice} {n = n} p read_is now_is decided n_is body_is change_is slice_is =
-    rw (take_rest slice n, slice_is, n_is, old_behind law p, change_is, body_is, read_is) (made_here law p (rw read_is at now_is) decided)
+    rw (take_rest slice n, slice_is, n_is, old_behind law p, change_is, body_is, read_is)
+        (made_here law p (rw read_is at now_is) decided)
 
 -- ---- an edit of what is kept
 
 -- whether the head stays
-stays_by : (old now : Head) (start : ℕ) (same : Bool) → IsTrue same ↔ (old ≡ now) → IsTrue (nat_le old.body start && same) ↔ ((old ≡ now) × (old.body ≤ start))
+stays_by : (old now : Head) (start : ℕ) (same : Bool) → IsTrue same ↔ (old ≡ now)
+    → IsTrue (nat_le old.body start && same) ↔ ((old ≡ now) × (old.body ≤ start))
 stays_by old now start same tells = grind (arith, common_steps, tells)
 
 -- so it does that takes none
-pub few_none : {first : List ℕ → Token} (law : IsGrammar first) (whole : Bool) (text insert : List ℕ) (start stop before : ℕ)
+pub few_none : {first : List ℕ → Token} (law : IsGrammar first) (whole : Bool) (text insert : List ℕ)
+    (start stop before : ℕ)
     → IsText text → IsUtf8 insert → IsEdit text start stop insert
     → TakesFew (layout_in whole first) text start stop insert before before
 few_none law whole text insert start stop before is its edit =
@@ -159,10 +187,13 @@ few_none law whole text insert start stop before is its edit =
     record { is_text = is; inserted = its; is_edit = edit; made = refl; new_stop = refl } in
     let old = head_in whole text is in
     let now = head_in whole (apply text start stop insert) (edited e).text_is in
-    few_by law e old.1 now.1 (stays_by old.0 now.0 start (is_same_head old.0 now.0) (decided_head _ old.0 now.0 refl)) before before (λ x counts. omega arith)
+    few_by law e old.1 now.1 (stays_by old.0 now.0 start (is_same_head old.0 now.0) (decided_head _ old.0 now.0 refl))
+        before before (λ x counts. omega arith)
 
 -- the text is made by an edit of what is kept
-pub put_by : {layout : (List ℕ → Token) → List ℕ → Layout} {first : List ℕ → Token} {before insert made reserved : List ℕ} {start stop : ℕ} {tokens : List Token} {head : Head} {checkpoints : Checkpoints}
+pub put_by : {layout : (List ℕ → Token) → List ℕ → Layout} {first : List ℕ → Token}
+    {before insert made reserved : List ℕ} {start stop : ℕ} {tokens : List Token} {head : Head}
+    {checkpoints : Checkpoints}
     → AreKeptOf layout first before tokens head checkpoints → IsUtf8 insert → IsEdit before start stop insert
     → made ≡ apply reserved start stop insert → reserved ≡ before
     → IsPut layout first before insert (edit_change start stop insert) made tokens head checkpoints
@@ -183,9 +214,11 @@ left_back (Ok x) made before err = absurd (true≢false (sym err))
 left_back (Err e) made before err = refl
 
 -- an edit that is refused: the text is put back, and all else is as it was
-pub refused : {S E : Type 0} {layout : List ℕ → Layout} {text left insert : List ℕ} {start stop : ℕ} {tokens now : List Token} {stepper later : S} (r : Result Relexed E)
+pub refused : {S E : Type 0} {layout : List ℕ → Layout} {text left insert : List ℕ} {start stop : ℕ}
+    {tokens now : List Token} {stepper later : S} (r : Result Relexed E)
     → IsErr r → tokens ≡ tokens_in (layout text) → left ≡ text → now ≡ tokens
-    → IsEdited layout (record { text = text; tokens = tokens; stepper = stepper }) start stop insert r (record { text = left; tokens = now; stepper = later })
+    → IsEdited layout (record { text = text; tokens = tokens; stepper = stepper }) start stop insert r
+        (record { text = left; tokens = now; stepper = later })
 refused (Ok x) err scratch left_is now_is = absurd (true≢false (sym err))
 refused {layout = layout} (Err e) err scratch left_is now_is = record {
   text = search rules;
@@ -196,14 +229,16 @@ refused {layout = layout} (Err e) err scratch left_is now_is = record {
   same_tokens = now_is;
 }
 
-pub counted_refused : {E : Type 0} {layout : List ℕ → Layout} {text insert : List ℕ} {start stop before after : ℕ} (r : Result Relexed E)
+pub counted_refused : {E : Type 0} {layout : List ℕ → Layout} {text insert : List ℕ} {start stop before after : ℕ}
+    (r : Result Relexed E)
     → IsErr r → before ≤ after → TakesFew layout text start stop insert before after
     → HasStepCount layout text start stop insert r before after
 counted_refused (Ok x) err rose few = absurd (true≢false (sym err))
 counted_refused (Err e) err rose few = record { count = search rules; rose = rose; few = few }
 
 -- one that is made is so whatever its errors are
-pub made_as : {S A B : Type 0} {layout : List ℕ → Layout} {old new : Held S} {start stop : ℕ} {insert : List ℕ} {r : Relexed}
+pub made_as : {S A B : Type 0} {layout : List ℕ → Layout} {old new : Held S} {start stop : ℕ} {insert : List ℕ}
+    {r : Relexed}
     → IsEdited {E = A} layout old start stop insert (Ok r) new
     → IsEdited {E = B} layout old start stop insert (Ok r) new
 made_as is = record {
@@ -215,7 +250,8 @@ made_as is = record {
   same_tokens = search rules;
 }
 
-pub counted_as : {A B : Type 0} {layout : List ℕ → Layout} {text insert : List ℕ} {start stop before after : ℕ} {r : Relexed}
+pub counted_as : {A B : Type 0} {layout : List ℕ → Layout} {text insert : List ℕ} {start stop before after : ℕ}
+    {r : Relexed}
     → HasStepCount {E = A} layout text start stop insert (Ok r) before after
     → HasStepCount {E = B} layout text start stop insert (Ok r) before after
 counted_as is = record { count = is.count; rose = is.rose; few = search rules }

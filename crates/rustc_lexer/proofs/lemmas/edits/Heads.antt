@@ -1,5 +1,8 @@
 -- The head of a text, by where the tokens of the text are.
-use Rattle.std.proofs.Common.{◌≡◌, ◌↔◌, ℕ, zero, suc, ◌+◌, ◌≤◌, Bool, true, false, List, [], length, refl, sym, ap, ap₂, ◌∙◌, subst, arith, drop, length-take-le, Option, None, IsCharBoundary}
+use Rattle.std.proofs.Common.{
+    ◌≡◌, ◌↔◌, ℕ, zero, suc, ◌+◌, ◌≤◌, Bool, true, false, List, [], length, refl, sym, ap, ap₂, ◌∙◌, subst, arith, drop,
+    length-take-le, Option, None, IsCharBoundary
+}
 use Rattle.std.proofs.lemmas.{Grind.{common_steps}, Str.{IsCharBoundary-start}}
 use Rattle.rustc_lexer.specs.{Edition, Token, declared.head.Head.{Head}, Answers.{first_in}, Classes.{IsText}}
 use Rattle.rustc_lexer.specs.Document.{body_start, head_tokens, tokens_start, whole_by}
@@ -27,7 +30,8 @@ none_cut : (text : List ℕ) → IsText text → (k : ℕ) → k ≤ 0 → IsCha
 none_cut text is zero few = IsCharBoundary-start text is.utf8
 none_cut text is (suc k) few = absurd (omega arith)
 
-pub part_head : (text : List ℕ) → IsText text → IsHeadIn part_by text (record { tokens_start = 0; space_len = 0; frontmatter = None; body = 0 })
+pub part_head : (text : List ℕ) → IsText text
+    → IsHeadIn part_by text (record { tokens_start = 0; space_len = 0; frontmatter = None; body = 0 })
 part_head text is = record { layout_is = λ first. refl; bare = λ none. refl; ends = refl; cuts = none_cut text is }
 
 pub head_in : (whole : Bool) (text : List ℕ) → IsText text → (head : Head) × IsHeadIn (layout_in whole) text head
@@ -35,14 +39,17 @@ head_in true text is = let some = some_head text is in (some.0, whole_head text 
 head_in false text is = (_, part_head text is)
 
 -- the tokens begin where the shebang line ends
-pub start_is : (whole : Bool) (text : List ℕ) (head : Head) → IsHeadIn (layout_in whole) text head → head.tokens_start ≡ start_in whole text
+pub start_is : (whole : Bool) (text : List ℕ) (head : Head) → IsHeadIn (layout_in whole) text head
+    → head.tokens_start ≡ start_in whole text
 start_is true text head h = (is_page text head h).shebang_is
 start_is false text head h = sym (ap (λ (l : Layout). l.start) (h.layout_is (first_in newest)))
 
-pub edition_are : (whole : Bool) (edition : Edition) (text : List ℕ) → IsText text → tokens_in (layout_in whole (first_in edition) text) ≡ edition_tokens_in whole edition text
+pub edition_are : (whole : Bool) (edition : Edition) (text : List ℕ) → IsText text
+    → tokens_in (layout_in whole (first_in edition) text) ≡ edition_tokens_in whole edition text
 edition_are whole edition text w3 = grind (arith, common_steps, in_edition)
 
-module _ {layout : (List ℕ → Token) → List ℕ → Layout} {text : List ℕ} {head : Head} (h : IsHeadIn layout text head) where
+module _ {layout : (List ℕ → Token) → List ℕ → Layout} {text : List ℕ} {head : Head}
+    (h : IsHeadIn layout text head) where
   pub boundary_of : IsCharBoundary text head.body
   boundary_of = subst (IsCharBoundary text) (sym h.ends) (h.cuts (length (tokens_of_head head)) (omega arith))
 
@@ -57,21 +64,28 @@ module _ {layout : (List ℕ → Token) → List ℕ → Layout} {text : List �
 
   -- the body begins where the tokens of the head end
   pub body_at : (first : List ℕ → Token) → body_in (by_head head first text) ≡ head.body
-  body_at first = ap (λ n. head.tokens_start + n) (bound-append (tokens_of_head head) (tokens_by first (drop head.body text))) ∙ sym h.ends
+  body_at first = ap (λ n. head.tokens_start + n)
+      (bound-append (tokens_of_head head) (tokens_by first (drop head.body text))) ∙ sym h.ends
 
 -- ---- whether the head stays
 
 -- the tokens tell the head
-same-parts : (s s' : ℕ) (f f' : Option Token) → (f ≡ None → s ≡ 0) → (f' ≡ None → s' ≡ 0) → front_tokens s f ≡ front_tokens s' f' → (s ≡ s') × (f ≡ f')
+same-parts : (s s' : ℕ) (f f' : Option Token) → (f ≡ None → s ≡ 0) → (f' ≡ None → s' ≡ 0)
+    → front_tokens s f ≡ front_tokens s' f' → (s ≡ s') × (f ≡ f')
 same-parts s s' f f' w4 w5 w6 = grind (arith, common_steps)
 
-module _ {layout : (List ℕ → Token) → List ℕ → Layout} {text made : List ℕ} {old now : Head} (old_is : IsHeadIn layout text old) (now_is : IsHeadIn layout made now) (first : List ℕ → Token) (start : ℕ) where
-  pub head_stays : {of to : Layout} → of ≡ by_head old first text → to ≡ by_head now first made → KeepsHead of to start ↔ ((old ≡ now) × (old.body ≤ start))
+module _ {layout : (List ℕ → Token) → List ℕ → Layout} {text made : List ℕ} {old now : Head}
+    (old_is : IsHeadIn layout text old) (now_is : IsHeadIn layout made now) (first : List ℕ → Token) (start : ℕ) where
+  pub head_stays : {of to : Layout} → of ≡ by_head old first text → to ≡ by_head now first made → KeepsHead of to start
+      ↔ ((old ≡ now) × (old.body ≤ start))
   head_stays of_is to_is = rw (of_is, to_is)
-      (kept, λ s. (omega (arith, s.1, body_at old_is first), ap (λ (h : Head). h.tokens_start) s.0, ap tokens_of_head s.0))
+      (kept, λ s. (omega (arith, s.1, body_at old_is first), ap (λ (h : Head). h.tokens_start) s.0,
+          ap tokens_of_head s.0))
     where
       kept : KeepsHead (by_head old first text) (by_head now first made) start → (old ≡ now) × (old.body ≤ start)
       kept k =
-          let parts = same-parts old.space_len now.space_len old.frontmatter now.frontmatter old_is.bare now_is.bare k.2 in
+          let parts = same-parts old.space_len now.space_len old.frontmatter now.frontmatter old_is.bare now_is.bare
+              k.2 in
           let end = old_is.ends ∙ (ap₂ (λ n (ts : List Token). n + bound ts (length ts)) k.1 k.2 ∙ sym now_is.ends) in
-          ((λ i. record { tokens_start = k.1 i; space_len = parts.0 i; frontmatter = parts.1 i; body = end i }), omega (arith, k.0, body_at old_is first))
+          ((λ i. record { tokens_start = k.1 i; space_len = parts.0 i; frontmatter = parts.1 i; body = end i }),
+              omega (arith, k.0, body_at old_is first))

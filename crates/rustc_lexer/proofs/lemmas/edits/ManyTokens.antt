@@ -1,5 +1,8 @@
 -- Lexing and relexing by many tokens at once, each block a buffer that is filled with the next ones, and one by one.
-use Rattle.std.proofs.Common.{◌≡◌, ℕ, ◌+◌, ◌<◌, ◌≤◌, List, ◌++◌, length, map, take, drop, sym, ap, ◌∙◌, subst, arith, length-append, length-drop, length-take-le, take_at, drop-drop, take-add, IsCharBoundary, IsUtf8, false, ◌∷◌}
+use Rattle.std.proofs.Common.{
+    ◌≡◌, ℕ, ◌+◌, ◌<◌, ◌≤◌, List, ◌++◌, length, map, take, drop, sym, ap, ◌∙◌, subst, arith, length-append, length-drop,
+    length-take-le, take_at, drop-drop, take-add, IsCharBoundary, IsUtf8, false, ◌∷◌
+}
 use Rattle.std.proofs.lemmas.{Bool.{cases_lt}, List.{map-id}, Str.{IsCharBoundary-from_drop}, Grind.{common_steps}}
 use Rattle.rustc_lexer.specs.{declared.{relex.{relexing.Relexing.{Relexing}}}, Token}
 use Rattle.rustc_lexer.specs.{Classes.{IsText}, Relexing.{known, TakesSteps}, Locality.{IsGrammar}}
@@ -8,7 +11,9 @@ use Rattle.rustc_lexer.proofs.lemmas.edits.Bounds.{number_le_bound, rest_is, ris
 use Rattle.rustc_lexer.proofs.lemmas.{edits.KeptFront.{bound-shift}, tokens.Progress.{IsLexedTo, lexed_offset}}
 
 -- so many tokens of what is left of a text
-module _ {first : List ℕ → Token} (law : IsGrammar first) (text left : List ℕ) (is : IsText text) (at : ℕ) (boundary : IsCharBoundary text at) (left_is : left ≡ drop at text) (count bytes : ℕ) (few : count ≤ length (tokens_by first left)) (bytes_is : bytes ≡ bound (tokens_by first left) count) where
+module _ {first : List ℕ → Token} (law : IsGrammar first) (text left : List ℕ) (is : IsText text) (at : ℕ)
+    (boundary : IsCharBoundary text at) (left_is : left ≡ drop at text) (count bytes : ℕ)
+    (few : count ≤ length (tokens_by first left)) (bytes_is : bytes ≡ bound (tokens_by first left) count) where
   left_text : IsText left
   left_text = rw left_is (rest_is text at is boundary)
 
@@ -21,7 +26,8 @@ module _ {first : List ℕ → Token} (law : IsGrammar first) (text left : List 
   pub block_boundary : IsCharBoundary text (at + bytes)
   block_boundary =
       let cut = at_bound law count left left_text in
-      let same : drop (at + bytes) text ≡ drop (bound (tokens_by first left) count) left = sym (drop-drop bytes at text) ∙ (ap (drop bytes) (sym left_is) ∙ ap (λ n. drop n left) bytes_is) in
+      let same : drop (at + bytes) text ≡ drop (bound (tokens_by first left) count) left = sym (drop-drop bytes at text)
+          ∙ (ap (drop bytes) (sym left_is) ∙ ap (λ n. drop n left) bytes_is) in
       IsCharBoundary-from_drop text (at + bytes) block_inside (subst IsUtf8 (sym same) cut.past.utf8)
 
   pub block_count : count ≤ bytes
@@ -46,34 +52,43 @@ pub record IsFront (tokens : List Token) (filled : List Token) (count : ℕ) : T
   pub front : take count filled ≡ take count tokens
 
 -- the front of a buffer that holds so many tokens, as they are
-pub front_of : (tokens buffer filled : List Token) (count : ℕ) → count ≤ length tokens → filled ≡ map (λ (t : Token). t) (take count tokens) ++ drop count buffer → IsFront tokens filled count
+pub front_of : (tokens buffer filled : List Token) (count : ℕ) → count ≤ length tokens
+    → filled ≡ map (λ (t : Token). t) (take count tokens) ++ drop count buffer → IsFront tokens filled count
 front_of tokens buffer filled count few is = grind (arith, common_steps, length-take-le, map-id, length-append, take_at)
 
 -- the tokens of a block stand behind those that were lexed before it
-lexed_block : {first : List ℕ → Token} (law : IsGrammar first) (text left : List ℕ) (items block : List Token) (offset count bytes : ℕ) → IsText text
+lexed_block : {first : List ℕ → Token} (law : IsGrammar first) (text left : List ℕ) (items block : List Token)
+    (offset count bytes : ℕ) → IsText text
     → IsLexedTo first text items offset → left ≡ drop offset text → count ≤ length (tokens_by first left)
-    → block ≡ take count (tokens_by first left) → bytes ≡ bound (tokens_by first left) count → IsLexedTo first text (items ++ block) (offset + bytes)
+    → block ≡ take count (tokens_by first left) → bytes ≡ bound (tokens_by first left) count
+        → IsLexedTo first text (items ++ block) (offset + bytes)
 lexed_block law text left items block offset count bytes is at here few block_is bytes_is =
     grind (arith, common_steps, at_bound, length-append, length-take-le, length-drop, take-add, bound-shift)
 
 -- one block more
-pub record IsBlock (first : List ℕ → Token) (text : List ℕ) (items filled : List Token) (offset count bytes : ℕ) : Type 0 where
+pub record IsBlock (first : List ℕ → Token) (text : List ℕ) (items filled : List Token)
+    (offset count bytes : ℕ) : Type 0 where
   pub more : IsLexedTo first text (items ++ take count filled) (offset + bytes)
   pub number : length (take count filled) ≡ count
   pub few : offset + bytes ≤ length text
   pub some : 0 < bytes
 
 -- a stepper whose grammar is the one that it had at first fills the buffer with the tokens of what is left
-pub block_more : {first now : List ℕ → Token} (law : IsGrammar first) {text left : List ℕ} {items buffer filled : List Token} {offset count bytes end : ℕ}
-    → IsText text → now ≡ first → IsLexedTo first text items offset → offset < length text → left ≡ drop offset text → 0 < length buffer → 0 < end
+pub block_more : {first now : List ℕ → Token} (law : IsGrammar first) {text left : List ℕ}
+    {items buffer filled : List Token} {offset count bytes end : ℕ}
+    → IsText text → now ≡ first → IsLexedTo first text items offset → offset < length text → left ≡ drop offset text
+        → 0 < length buffer → 0 < end
     → IsFilledTo (λ (t : Token). t) end (tokens_by now left) buffer filled count
     → bytes ≡ bound (tokens_by now left) count → IsBlock first text items filled offset count bytes
-block_more law {text} {left} {items} {buffer} {filled} {offset} {count} {bytes} {end} is same at more here places some fills long =
+block_more law {text} {left} {items} {buffer} {filled} {offset} {count} {bytes} {end} is same at more here places some
+    fills long =
     let long = rw same at long in
     let fills = rw same at fills in
     let front = front_of _ buffer filled count fills.few fills.tokens in
-    let next = lexed_block law text left items (take count filled) offset count bytes is at here front.few front.front long in
-    let fewer = block_count law text left is offset (lexed_offset law text items offset is at).boundary here count bytes fills.few long in
+    let next = lexed_block law text left items (take count filled) offset count bytes is at here front.few front.front
+        long in
+    let fewer = block_count law text left is offset (lexed_offset law text items offset is at).boundary here count bytes
+        fills.few long in
     record {
       more = next;
       number = length-take-le count filled front.within;
@@ -87,7 +102,8 @@ block_more law {text} {left} {items} {buffer} {filled} {offset} {count} {bytes} 
 pub no_step : (first : List ℕ → Token) (text : List ℕ) (past : ℕ) (at : Relexing) → TakesSteps first text past at 0 at
 no_step first text past at = grind (arith, common_steps)
 
-module _ {first : List ℕ → Token} (law : IsGrammar first) {text : List ℕ} (is : IsText text) (past : ℕ) (begin : Relexing) (boundary : IsCharBoundary text begin.at) where
+module _ {first : List ℕ → Token} (law : IsGrammar first) {text : List ℕ} (is : IsText text) (past : ℕ)
+    (begin : Relexing) (boundary : IsCharBoundary text begin.at) where
   abbrev rest : List ℕ
   rest = drop begin.at text
 
@@ -96,7 +112,8 @@ module _ {first : List ℕ → Token} (law : IsGrammar first) {text : List ℕ} 
       → at.lexed ≡ begin.lexed + 1 → at.at ≡ begin.at + token.len → (at.at < past → at.back ≡ begin.back)
       → (at.at < past → at.met ≡ false) → TakesSteps first text past begin 1 at
   one_step {token} token_is more front lexed offset same_back not_met =
-      let cons = tokens-cons law rest (rest_is text begin.at is boundary) (omega (arith, more, length-drop begin.at text)) in
+      let cons = tokens-cons law rest (rest_is text begin.at is boundary)
+          (omega (arith, more, length-drop begin.at text)) in
       record {
         inside = omega (arith, ap (λ (ts : List Token). length ts) cons);
         none = λ e. absurd (omega (arith, e));
@@ -118,16 +135,21 @@ module _ {first : List ℕ → Token} (law : IsGrammar first) {text : List ℕ} 
     pub next_left : {token : Token} → token ≡ first (drop at.at text) → 1 ≤ length (tokens_by first (drop at.at text))
         → drop count (tokens_by first rest) ≡ token ∷ tokens_by first (drop token.len (drop at.at text))
     next_left token_is some =
-        let its : IsText (drop at.at text) = subst IsText there (at_bound law count rest (rest_is text begin.at is boundary)).past in
-        left_is ∙ rw token_is (tokens-cons law (drop at.at text) its (omega (arith, some, tokens_le_bytes law (drop at.at text) its)))
+        let its : IsText (drop at.at text) =
+            subst IsText there (at_bound law count rest (rest_is text begin.at is boundary)).past in
+        left_is ∙ rw token_is
+            (tokens-cons law (drop at.at text) its (omega (arith, some, tokens_le_bytes law (drop at.at text) its)))
 
-    pub step_more : {next : Relexing} → TakesSteps first text past at 1 next → TakesSteps first text past begin (count + 1) next
+    pub step_more : {next : Relexing} → TakesSteps first text past at 1 next
+        → TakesSteps first text past begin (count + 1) next
     step_more step = record {
-      inside = omega (arith, step.inside, ap (λ (ts : List Token). length ts) left_is, length-drop count (tokens_by first rest));
+      inside = omega (arith, step.inside, ap (λ (ts : List Token). length ts) left_is,
+          length-drop count (tokens_by first rest));
       none = λ e. absurd (omega (arith, e));
       front = step.front ∙ steps.front;
       lexed = omega (arith, step.lexed, steps.lexed);
-      offset = omega (arith, step.offset, steps.offset, bound-shift (tokens_by first rest) count 1, ap (λ (ts : List Token). bound ts 1) left_is);
+      offset = omega (arith, step.offset, steps.offset, bound-shift (tokens_by first rest) count 1,
+          ap (λ (ts : List Token). bound ts 1) left_is);
       same_back = λ early. step.same_back early ∙ steps.same_back (omega (arith, early, step.offset));
       not_met = λ some early. step.not_met (omega arith) early;
     }

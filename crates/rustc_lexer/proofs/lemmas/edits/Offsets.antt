@@ -1,29 +1,41 @@
 -- From an offset to a token: steps from a bound, and which tokens contain a byte of a range.
-use Rattle.std.proofs.Common.{◌≡◌, ℕ, ◌+◌, ◌-◌, ◌^◌, ◌<◌, ◌≤◌, ◌↔◌, List, length, map, get_or, ap, arith, Option, None, Some, IfSome, IsSome, IsNone}
+use Rattle.std.proofs.Common.{
+    ◌≡◌, ℕ, ◌+◌, ◌-◌, ◌^◌, ◌<◌, ◌≤◌, ◌↔◌, List, length, map, get_or, ap, arith, Option, None, Some, IfSome, IsSome,
+    IsNone
+}
 use Rattle.std.proofs.lemmas.{Bool.{cases_lt}, Grind.{common_steps}}
-use Rattle.rustc_lexer.specs.{declared.relex.front.TokenStart.{TokenStart}, Token, Offsets.{AreTouched, ArePlaced, ContainsByte}}
+use Rattle.rustc_lexer.specs.{
+    declared.relex.front.TokenStart.{TokenStart}, Token, Offsets.{AreTouched, ArePlaced, ContainsByte}
+}
 use Rattle.rustc_lexer.specs.Tokens.{bound}
-use Rattle.rustc_lexer.proofs.lemmas.edits.{Bounds.{bound_mono}, ByLengths.{as_long, as_many, no_token}, KeptFront.{bound-next}}
+use Rattle.rustc_lexer.proofs.lemmas.edits.{
+    Bounds.{bound_mono}, ByLengths.{as_long, as_many, no_token}, KeptFront.{bound-next}
+}
 
 -- one token back
-module _ (tokens : List Token) (first n here : ℕ) (d : Token) (is : here ≡ first + bound tokens n) (some : 0 < n) (few : n ≤ length tokens) where
+module _ (tokens : List Token) (first n here : ℕ) (d : Token) (is : here ≡ first + bound tokens n) (some : 0 < n)
+    (few : n ≤ length tokens) where
   pub back_is : here - (get_or tokens (n - 1) d).len ≡ first + bound tokens (n - 1)
   back_is = grind (arith, common_steps, bound-next)
 
 -- one token ahead
-module _ (tokens : List Token) (first n here : ℕ) (d : Token) (is : here ≡ first + bound tokens n) (few : n < length tokens) where
+module _ (tokens : List Token) (first n here : ℕ) (d : Token) (is : here ≡ first + bound tokens n)
+    (few : n < length tokens) where
   pub ahead_is : here + (get_or tokens n d).len ≡ first + bound tokens (n + 1)
   ahead_is = omega (arith, is, bound-next tokens n d few)
 
-  pub ahead_fits : first + bound tokens (length tokens) < 2 ^ 32 → (most : ℕ) → 2 ^ 32 ≤ most → here + (get_or tokens n d).len < most
+  pub ahead_fits : first + bound tokens (length tokens) < 2 ^ 32 → (most : ℕ) → 2 ^ 32 ≤ most
+      → here + (get_or tokens n d).len < most
   ahead_fits fits most le = omega (arith, ahead_is, fits, le, bound_mono tokens (n + 1) (length tokens) (omega arith))
 
 -- the same where only the lengths of the tokens are known
-module _ {X : Type 0} (f : X → ℕ) (xs : List X) (first : ℕ) (tokens : List Token) (at : TokenStart) (is : ArePlaced (map f xs) first tokens at) where
+module _ {X : Type 0} (f : X → ℕ) (xs : List X) (first : ℕ) (tokens : List Token) (at : TokenStart)
+    (is : ArePlaced (map f xs) first tokens at) where
   pub many : length xs ≡ length tokens
   many = as_many f xs tokens is.lengths_are
 
-  pub back : (x : X) (len : ℕ) → len ≡ f x → x ≡ get_or xs (at.index - 1) x → 0 < at.index → ArePlaced (map f xs) first tokens (record { index = at.index - 1; offset = at.offset - len })
+  pub back : (x : X) (len : ℕ) → len ≡ f x → x ≡ get_or xs (at.index - 1) x → 0 < at.index
+      → ArePlaced (map f xs) first tokens (record { index = at.index - 1; offset = at.offset - len })
   back x len len_is x_is some = record {
     lengths_are = is.lengths_are;
     number = omega (arith, is.number);
@@ -31,15 +43,18 @@ module _ {X : Type 0} (f : X → ℕ) (xs : List X) (first : ℕ) (tokens : List
         (back_is tokens first at.index at.offset no_token is.offset some is.number);
   }
 
-  pub ahead : (x : X) (len : ℕ) → len ≡ f x → x ≡ get_or xs at.index x → at.index < length xs → ArePlaced (map f xs) first tokens (record { index = at.index + 1; offset = at.offset + len })
+  pub ahead : (x : X) (len : ℕ) → len ≡ f x → x ≡ get_or xs at.index x → at.index < length xs
+      → ArePlaced (map f xs) first tokens (record { index = at.index + 1; offset = at.offset + len })
   ahead x len len_is x_is few = record {
     lengths_are = is.lengths_are;
     number = omega (arith, many);
-    offset = rw (as_long f xs tokens is.lengths_are at.index x len len_is x_is few) (ahead_is tokens first at.index at.offset no_token is.offset (omega (arith, many)));
+    offset = rw (as_long f xs tokens is.lengths_are at.index x len len_is x_is few)
+        (ahead_is tokens first at.index at.offset no_token is.offset (omega (arith, many)));
   }
 
   -- the token that begins there contains the byte
-  pub contains : (x : X) (len offset : ℕ) → len ≡ f x → x ≡ get_or xs at.index x → at.index < length xs → at.offset ≤ offset → offset - at.offset < len → ContainsByte first tokens offset at
+  pub contains : (x : X) (len offset : ℕ) → len ≡ f x → x ≡ get_or xs at.index x → at.index < length xs
+      → at.offset ≤ offset → offset - at.offset < len → ContainsByte first tokens offset at
   contains x len offset len_is x_is few begun ends = record {
     number = omega (arith, many);
     start = is.offset;
@@ -48,7 +63,8 @@ module _ {X : Type 0} (f : X → ℕ) (xs : List X) (first : ℕ) (tokens : List
   }
 
   -- past the last token no byte is left, and before the first one none was
-  pub past_all : (offset : ℕ) → length xs ≤ at.index → at.offset ≤ offset → first + bound tokens (length tokens) ≤ offset
+  pub past_all : (offset : ℕ) → length xs ≤ at.index → at.offset ≤ offset
+      → first + bound tokens (length tokens) ≤ offset
   past_all offset last begun =
       let here : at.index ≡ length tokens = omega (arith, is.number, many) in
       let there = ap (bound tokens) here in omega (arith, is.offset, there)
@@ -56,7 +72,8 @@ module _ {X : Type 0} (f : X → ℕ) (xs : List X) (first : ℕ) (tokens : List
   pub before_all : (offset : ℕ) → at.index ≡ 0 → offset < at.offset → first ≤ offset → ⊥
   before_all offset none ahead le = let there = ap (bound tokens) none in omega (arith, is.offset, there)
 
-module _ (first : ℕ) (tokens : List Token) (offset : ℕ) (at : TokenStart) (has : ContainsByte first tokens offset at) where
+module _ (first : ℕ) (tokens : List Token) (offset : ℕ) (at : TokenStart)
+    (has : ContainsByte first tokens offset at) where
   -- the tokens before the one at the offset end there or before it, and it and those after it do not
   pub ended : (k : ℕ) → k < at.index → first + bound tokens (k + 1) ≤ offset
   ended k less = omega (arith, has.start, has.begins, bound_mono tokens (k + 1) at.index (omega arith))
@@ -78,7 +95,8 @@ pub touched_from : (first : ℕ) (tokens : List Token) (start stop from to : ℕ
     → ((k : ℕ) → k < to → first + bound tokens k < stop)
     → ((k : ℕ) → to ≤ k → k < length tokens → stop ≤ first + bound tokens k)
     → AreTouched first tokens start stop from to
-touched_from first tokens start stop from to some few inside ended later begun after = grind (arith, common_steps, ended, begun, cases_lt, bound_mono)
+touched_from first tokens start stop from to some few inside ended later begun after =
+    grind (arith, common_steps, ended, begun, cases_lt, bound_mono)
 
 -- there is an answer exactly where the tokens are
 pub answered : (result : Option TokenStart) (first : ℕ) (tokens : List Token) (offset len : ℕ)
@@ -87,8 +105,10 @@ pub answered : (result : Option TokenStart) (first : ℕ) (tokens : List Token) 
 answered result first tokens offset len w5 w6 w7 = grind (arith, common_steps, bound_mono)
 
 -- what was found is right for tokens that are placed so
-pub if_some : {lengths : List ℕ} {first : ℕ} {tokens : List Token} {near : TokenStart} (offset : ℕ) (result : Option TokenStart)
-    → IfSome result (λ at. (first : ℕ) (ts : List Token) → ArePlaced lengths first ts near → ContainsByte first ts offset at)
+pub if_some : {lengths : List ℕ} {first : ℕ} {tokens : List Token} {near : TokenStart} (offset : ℕ)
+    (result : Option TokenStart)
+    → IfSome result (λ at. (first : ℕ) (ts : List Token) → ArePlaced lengths first ts near
+        → ContainsByte first ts offset at)
     → ArePlaced lengths first tokens near → IfSome result (ContainsByte first tokens offset)
 if_some offset None found placed = found
 if_some {first = first} {tokens = tokens} offset (Some at) found placed = found first tokens placed

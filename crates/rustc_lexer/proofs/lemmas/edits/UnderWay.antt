@@ -1,5 +1,8 @@
 -- Relexing is under way: from its beginning, past tokens, to the meeting.
-use Rattle.std.proofs.Common.{◌≡◌, ◌↔◌, ℕ, ◌+◌, ◌-◌, ◌<◌, ◌≤◌, Bool, true, false, true≢false, eqb, eqb-true, List, ◌∷◌, ◌++◌, length, take, drop, refl, sym, ap, ◌∙◌, ap₂, suc, subst, arith, inl, inr, length-drop, drop-drop, take-append-drop, max, eq-or-lt_of_le}
+use Rattle.std.proofs.Common.{
+    ◌≡◌, ◌↔◌, ℕ, ◌+◌, ◌-◌, ◌<◌, ◌≤◌, Bool, true, false, true≢false, eqb, eqb-true, List, ◌∷◌, ◌++◌, length, take, drop,
+    refl, sym, ap, ◌∙◌, ap₂, suc, subst, arith, inl, inr, length-drop, drop-drop, take-append-drop, max, eq-or-lt_of_le
+}
 use Rattle.std.proofs.lemmas.{Bool.{cases_lt}, Grind.{common_steps}}
 use Rattle.rustc_lexer.specs.declared.relex.front.{Meeting.Meeting, TokenStart.TokenStart}
 use Rattle.rustc_lexer.specs.{declared.relex.relexing.{Change.Change, Relexed.Relexed, Relexing.Relexing}, Token}
@@ -12,24 +15,31 @@ use Rattle.rustc_lexer.proofs.lemmas.edits.FrontAndBack.{bound-same, edited, has
 use Rattle.rustc_lexer.proofs.lemmas.edits.KeptFront.{bound-shift}
 use Rattle.rustc_lexer.proofs.lemmas.edits.OneAnswer.{ends_meet, front_same, kept_new, bare, counts_of}
 
-module _ (old new : List Token) (old_stop new_stop number offset : ℕ) (back : TokenStart) (offset_is : offset ≡ bound new number) (bound_is : IsBound old back) where
-  meets_here : number ≤ length new → (new_stop ≤ offset) × (offset + old_stop ≡ back.offset + new_stop) → IsMeeting (bare old) (bare new) old_stop new_stop number (length old - back.index)
+module _ (old new : List Token) (old_stop new_stop number offset : ℕ) (back : TokenStart)
+    (offset_is : offset ≡ bound new number) (bound_is : IsBound old back) where
+  meets_here : number ≤ length new → (new_stop ≤ offset) × (offset + old_stop ≡ back.offset + new_stop)
+      → IsMeeting (bare old) (bare new) old_stop new_stop number (length old - back.index)
   meets_here few here = grind (arith, common_steps)
 
   -- of the old bounds, the new tokens can meet none but the one that was followed to
-  meets_there : ((k : ℕ) → k < back.index → bound old k + new_stop < max new_stop offset + old_stop) → (new_stop ≤ offset → back.index < length old → offset + old_stop ≤ back.offset + new_stop)
-      → (rest : ℕ) × IsMeeting (bare old) (bare new) old_stop new_stop number rest → (new_stop ≤ offset) × (offset + old_stop ≡ back.offset + new_stop)
+  meets_there : ((k : ℕ) → k < back.index → bound old k + new_stop < max new_stop offset + old_stop)
+      → (new_stop ≤ offset → back.index < length old → offset + old_stop ≤ back.offset + new_stop)
+      → (rest : ℕ) × IsMeeting (bare old) (bare new) old_stop new_stop number rest → (new_stop ≤ offset)
+          × (offset + old_stop ≡ back.offset + new_stop)
   meets_there w0 w1 w2 = grind (arith, common_steps, cases_lt, eq-or-lt_of_le, bound_mono)
 
-  met_by : {met : Bool} → number ≤ length new → IsFollowed old old_stop new_stop offset back met → (met ≡ true) ↔ ((rest : ℕ) × IsMeeting (bare old) (bare new) old_stop new_stop number rest)
-  met_by few f = (λ hit. (length old - back.index, meets_here few (f.met_is.0 hit)), λ m. f.met_is.1 (meets_there f.passed f.reached m))
+  met_by : {met : Bool} → number ≤ length new → IsFollowed old old_stop new_stop offset back met → (met ≡ true)
+      ↔ ((rest : ℕ) × IsMeeting (bare old) (bare new) old_stop new_stop number rest)
+  met_by few f = (λ hit. (length old - back.index, meets_here few (f.met_is.0 hit)),
+      λ m. f.met_is.1 (meets_there f.passed f.reached m))
 
 -- no old token that has not been followed is met before an offset
 abbrev pub IsClear : Change → Relexing → ℕ → Type 0
 IsClear change at end = (offset : ℕ) → at.at < offset → offset < end → change.new_stop ≤ offset
     → (change.new_stop ≤ at.at) × (offset + change.old_stop < at.back.offset + change.new_stop)
 
-module _ {first : List ℕ → Token} (law : IsGrammar first) {before lengths insert text : List ℕ} {change : Change} (is : IsMadeOf first before lengths change insert text) where
+module _ {first : List ℕ → Token} (law : IsGrammar first) {before lengths insert text : List ℕ} {change : Change}
+    (is : IsMadeOf first before lengths change insert text) where
   abbrev old : List Token
   old = tokens_by first before
 
@@ -40,7 +50,8 @@ module _ {first : List ℕ → Token} (law : IsGrammar first) {before lengths in
   Meets = IsMeeting (part_by first before) (part_by first text) change.old_stop change.new_stop
 
   -- the old tokens of the kept front are the new ones
-  pub kept_old : (number : ℕ) → number ≡ kept_front before old change.start → (take number old ≡ take number new) × (number ≤ length new)
+  pub kept_old : (number : ℕ) → number ≡ kept_front before old change.start → (take number old ≡ take number new)
+      × (number ≤ length new)
   kept_old number e = rw e (sym (front_same law is.edit_of), kept_new law is.edit_of)
 
   -- each bound before it is before the edit
@@ -52,11 +63,13 @@ module _ {first : List ℕ → Token} (law : IsGrammar first) {before lengths in
   pub begun : (front : TokenStart) (to : Meeting) → front.index ≡ kept_front before old change.start → IsBound old front
       → IsFollowed old change.old_stop change.new_stop front.offset to.at to.met
       → (front.offset < change.new_stop → to.at ≡ front)
-      → IsUnderWay first before change text record { front = front; lexed = 0; back = to.at; at = front.offset; met = to.met }
+      → IsUnderWay first before change text record { front = front; lexed = 0; back = to.at; at = front.offset;
+          met = to.met }
   begun front to number at followed stays =
       let same = kept_old front.index number in
       let none : front.index ≡ front.index + 0 = omega arith in
-      let offset : front.offset ≡ bound new (front.index + 0) = at.1 ∙ (bound-same front.index old new same.0 ∙ ap (bound new) none) in
+      let offset : front.offset ≡ bound new (front.index + 0) =
+          at.1 ∙ (bound-same front.index old new same.0 ∙ ap (bound new) none) in
       let inside : front.index + 0 ≤ length new = omega (arith, same.1) in
       record {
         front = number;
@@ -74,14 +87,16 @@ module _ {first : List ℕ → Token} (law : IsGrammar first) {before lengths in
   module _ {at : Relexing} (u : IsUnderWay first before change text at) where
     -- the tokens that are still to come are those of the text that is left
     pub left_at : tokens_by first (drop at.at text) ≡ drop (known at) new
-    left_at = ap (λ n. tokens_by first (drop n text)) u.offset ∙ sym (at_bound law (known at) text (edited is.edit_of).text_is).rest
+    left_at = ap (λ n. tokens_by first (drop n text)) u.offset
+        ∙ sym (at_bound law (known at) text (edited is.edit_of).text_is).rest
 
     -- where the old tokens are not met, more text is left
     pub more_left : at.met ≡ false → at.at < length text
     more_left out = elim (cases_lt at.at (length text)) [
       | inl less ↦ less
       | inr over ↦ elim (eq-or-lt_of_le u.inside) [
-        | inl end ↦ absurd (true≢false (sym (u.met.1 (0, subst (λ n. Meets n 0) (sym end) (ends_meet law is.edit_of))) ∙ out))
+        | inl end ↦ absurd
+            (true≢false (sym (u.met.1 (0, subst (λ n. Meets n 0) (sym end) (ends_meet law is.edit_of))) ∙ out))
         | inr few ↦
             let cut = at_bound law (suc (known at)) text (edited is.edit_of).text_is in
             omega (arith, over, u.offset, rises law text (edited is.edit_of).text_is (known at) few, cut.inside)
@@ -93,16 +108,20 @@ module _ {first : List ℕ → Token} (law : IsGrammar first) {before lengths in
     over_met out = grind (arith, common_steps, more_left, eqb-true)
 
     -- each bound that was passed is before a later offset too
-    pub below_later : (later : ℕ) → at.at ≤ later → (k : ℕ) → k < at.back.index → bound old k + change.new_stop < max change.new_stop later + change.old_stop
+    pub below_later : (later : ℕ) → at.at ≤ later → (k : ℕ) → k < at.back.index
+        → bound old k + change.new_stop < max change.new_stop later + change.old_stop
     below_later later le k less = omega (arith, le, u.passed k less)
 
     -- no more was lexed than the whole edit lexes
-    pub few_lexed : (r : Relexed) → IsRelexed (part_by first) before change.start change.old_stop insert r → at.lexed ≤ r.lexed
+    pub few_lexed : (r : Relexed) → IsRelexed (part_by first) before change.start change.old_stop insert r
+        → at.lexed ≤ r.lexed
     few_lexed r counts =
         let c = (counts_of (part_by first) is.edit_of r).0 counts in
         let front : r.kept_front ≡ at.front.index = omega (arith, c.kept (omega arith, refl, refl), u.front) in
         elim (cases_lt r.lexed at.lexed) [
-          | inl less ↦ absurd (u.none_before (r.kept_front + r.lexed) r.kept_back (omega (arith, front)) (omega (arith, front, less)) c.meeting)
+          | inl less ↦ absurd
+              (u.none_before (r.kept_front + r.lexed) r.kept_back (omega (arith, front))
+              (omega (arith, front, less)) c.meeting)
           | inr more ↦ more
         ]
 
@@ -110,11 +129,14 @@ module _ {first : List ℕ → Token} (law : IsGrammar first) {before lengths in
     pub rest_met : at.met ≡ true → drop (known at) new ≡ drop at.back.index old
     rest_met hit =
         let here = meets_there old new _ _ _ _ _ u.offset u.back_bound u.passed u.reached (u.met.0 hit) in
-        met_rest law is.edit_of (known at) at.back.index (omega (arith, here.0, u.offset)) (omega (arith, here.1, u.back_bound.1, u.offset))
+        met_rest law is.edit_of (known at) at.back.index (omega (arith, here.0, u.offset))
+            (omega (arith, here.1, u.back_bound.1, u.offset))
 
     -- the counts are those of the edit, and the new tokens are whole
     pub counts_met : at.met ≡ true
-        → IsRelexed (part_by first) before change.start change.old_stop insert (record { kept_front = at.front.index; lexed = at.lexed; kept_back = length old - at.back.index }) × IsWhole old new at
+        → IsRelexed (part_by first) before change.start change.old_stop insert
+            (record { kept_front = at.front.index; lexed = at.lexed; kept_back = length old - at.back.index })
+            × IsWhole old new at
     counts_met hit =
         let front = (kept_old at.front.index u.front).0 in
         let rest = rest_met hit in
@@ -126,7 +148,8 @@ module _ {first : List ℕ → Token} (law : IsGrammar first) {before lengths in
                 meets_here old new _ _ _ _ _ u.offset u.back_bound u.inside here;
             none_before = u.none_before;
           },
-          cc (take-append-drop at.front.index new, take-append-drop at.lexed (drop at.front.index new), drop-drop at.lexed at.front.index new),
+          cc (take-append-drop at.front.index new, take-append-drop at.lexed (drop at.front.index new),
+              drop-drop at.lexed at.front.index new),
         )
 
     -- past so many tokens
@@ -157,7 +180,8 @@ module _ {first : List ℕ → Token} (law : IsGrammar first) {before lengths in
         inside = inside_past;
         offset = offset_past;
         none_before = λ number back more less m. elim (cases_lt number (known at)) [
-          | inl early ↦ u.none_before number back (omega (arith, more, ap (λ (b : TokenStart). b.index) steps.front)) early m
+          | inl early ↦ u.none_before number back (omega (arith, more, ap (λ (b : TokenStart). b.index) steps.front))
+              early m
           | inr late ↦ elim (eq-or-lt_of_le late) [
             | inl same ↦ true≢false (sym (u.met.1 (back, subst (λ n. Meets n back) (sym same) m)) ∙ out)
             | inr later ↦ none number back later less m
@@ -165,22 +189,28 @@ module _ {first : List ℕ → Token} (law : IsGrammar first) {before lengths in
         ];
         met = met_by old new _ _ _ _ _ offset_past followed.bound_is inside_past followed;
         back_bound = followed.bound_is;
-        not_begun = λ early. steps.same_back early ∙ (u.not_begun (omega (arith, early, steps.offset)) ∙ sym steps.front);
+        not_begun = λ early. steps.same_back early
+            ∙ (u.not_begun (omega (arith, early, steps.offset)) ∙ sym steps.front);
         passed = followed.passed;
         reached = followed.reached;
       }
 
       -- where it is clear up to an offset before which the tokens begin, none is met
-      pub none_between : (end : ℕ) → IsClear change at end → ((k : ℕ) → k < count → bound left k < end - at.at) → (number back : ℕ) → known at < number → number < known past → Meets number back → ⊥
+      pub none_between : (end : ℕ) → IsClear change at end → ((k : ℕ) → k < count → bound left k < end - at.at)
+          → (number back : ℕ) → known at < number → number < known past → Meets number back → ⊥
       none_between end clear begin number back more less m =
           let k : ℕ = number - known at in
           let here : known at + k ≡ number = omega (arith, more) in
-          let early : bound new number < end = omega (arith, begin k (omega (arith, more, less, known_past)), shift k, ap (bound new) here) in
-          let later : at.at < bound new number = omega (arith, u.offset, rises law text (edited is.edit_of).text_is (known at) (omega (arith, more, m.number_inside)), bound_mono new (suc (known at)) number more) in
+          let early : bound new number < end =
+              omega (arith, begin k (omega (arith, more, less, known_past)), shift k, ap (bound new) here) in
+          let later : at.at < bound new number =
+              omega (arith, u.offset, rises law text (edited is.edit_of).text_is (known at)
+              (omega (arith, more, m.number_inside)), bound_mono new (suc (known at)) number more) in
           let free = clear (bound new number) later early (omega (arith, m.past_edit)) in
           elim (cases_lt m.old_number at.back.index) [
             | inl below ↦ omega (arith, u.passed m.old_number below, free.0, m.same_offset, later)
-            | inr far ↦ omega (arith, u.back_bound.1, bound_mono old at.back.index m.old_number far, m.same_offset, free.1)
+            | inr far ↦ omega (arith, u.back_bound.1, bound_mono old at.back.index m.old_number far, m.same_offset,
+                free.1)
           ]
 
     -- the next token
@@ -188,11 +218,15 @@ module _ {first : List ℕ → Token} (law : IsGrammar first) {before lengths in
         → TakesSteps first text change.new_stop at 1 past → drop (known at) new ≡ token ∷ drop (known past) new
     gives_next {token} {past} out token_is steps =
         let rest : List ℕ = drop at.at text in
-        let rest_is : IsText rest = subst (λ p. IsText (drop p text)) (sym u.offset) (at_bound law (known at) text (edited is.edit_of).text_is).past in
+        let rest_is : IsText rest =
+            subst (λ p. IsText (drop p text)) (sym u.offset)
+            (at_bound law (known at) text (edited is.edit_of).text_is).past in
         let cons = sym left_at ∙ tokens-cons law rest rest_is (omega (arith, more_left out, length-drop at.at text)) in
-        let behind : drop (known past) new ≡ tokens_by first (drop (first rest).len rest) = ap (λ n. drop n new) (known_past steps) ∙ (sym (drop-drop 1 (known at) new) ∙ ap (drop 1) cons) in
+        let behind : drop (known past) new ≡ tokens_by first (drop (first rest).len rest) =
+            ap (λ n. drop n new) (known_past steps) ∙ (sym (drop-drop 1 (known at) new) ∙ ap (drop 1) cons) in
         cons ∙ ap₂ (λ (t : Token) (ts : List Token). t ∷ ts) (sym token_is) (sym behind)
 
   -- the tokens that were lexed for it, put between those that are kept, are the new ones
-  pub lexed_whole : {tokens : List Token} {at : Relexing} → IsLexed first before change text tokens at → take at.front.index old ++ (tokens ++ drop at.back.index old) ≡ new
+  pub lexed_whole : {tokens : List Token} {at : Relexing} → IsLexed first before change text tokens at
+      → take at.front.index old ++ (tokens ++ drop at.back.index old) ≡ new
   lexed_whole {tokens} {at} l = grind (arith, common_steps, counts_met)

@@ -1,5 +1,9 @@
 -- An edit of a text with its head: what it is to the body, whose counts give its own.
-use Rattle.std.proofs.Common.{◌≡◌, ℕ, max, ◌+◌, ◌-◌, ◌<◌, ◌≤◌, Bool, true, false, if◌then◌else◌, true≢false, List, [], ◌∷◌, length, map, drop, refl, sym, ap, ◌∙◌, arith, drop-drop, IsTrue, ◌↔◌, ◌++◌, take, ap₂, subst, length-drop, take-append-drop, length-take-le, IsUtf8, IsCharBoundary, take-add, append_assoc, Result, OnOk}
+use Rattle.std.proofs.Common.{
+    ◌≡◌, ℕ, max, ◌+◌, ◌-◌, ◌<◌, ◌≤◌, Bool, true, false, if◌then◌else◌, true≢false, List, [], ◌∷◌, length, map, drop,
+    refl, sym, ap, ◌∙◌, arith, drop-drop, IsTrue, ◌↔◌, ◌++◌, take, ap₂, subst, length-drop, take-append-drop,
+    length-take-le, IsUtf8, IsCharBoundary, take-add, append_assoc, Result, OnOk
+}
 use Rattle.std.proofs.Math.Nat.{le-max_left, le-max_right, max-le}
 use Rattle.std.specs.List.{count_by}
 use Rattle.std.proofs.lemmas.Grind.{common_steps}
@@ -8,7 +12,9 @@ use Rattle.rustc_lexer.specs.Edits.{body_in, ends_from, IsMeeting, IsRelexed, Is
 use Rattle.rustc_lexer.specs.Locality.{has_two, IsGrammar}
 use Rattle.rustc_lexer.specs.{Relexing.{IsEditOf, IsMadeOf, IsBodyChange, IsHeadOf, IsInBody}, Partition.{Layout}}
 use Rattle.rustc_lexer.specs.Tokens.{tokens_by}
-use Rattle.rustc_lexer.specs.means.Document.{body_change, body_insert, by_head, counted, IsHeadIn, TakesFew, tokens_of_head}
+use Rattle.rustc_lexer.specs.means.Document.{
+    body_change, body_insert, by_head, counted, IsHeadIn, TakesFew, tokens_of_head
+}
 use Rattle.rustc_lexer.proofs.lemmas.edits.KeptFront.{kept_none}
 use Rattle.rustc_lexer.proofs.lemmas.edits.OneAnswer.{relexed_is, counts_of, meets, meets_behind}
 use Rattle.rustc_lexer.proofs.lemmas.edits.{FrontAndBack.{edited, IsEdited, same_rest}, Bounds.{count-cons, rest_is}}
@@ -18,7 +24,8 @@ use Rattle.std.proofs.lemmas.Str.{IsUtf8-drop, IsUtf8-take, IsCharBoundary-from_
 use Rattle.rustc_lexer.specs.{Classes.{IsText}, Document.{body_start, head_tokens, whole_by}}
 
 -- an offset past another is between characters of what follows that one
-pub boundary-past : (xs : List ℕ) (from p : ℕ) → IsUtf8 xs → from ≤ p → IsCharBoundary xs p → IsCharBoundary (drop from xs) (p - from)
+pub boundary-past : (xs : List ℕ) (from p : ℕ) → IsUtf8 xs → from ≤ p → IsCharBoundary xs p
+    → IsCharBoundary (drop from xs) (p - from)
 boundary-past xs from p is le at =
     grind (arith, common_steps, drop-drop, IsUtf8-drop, IsCharBoundary-from_drop, length-drop)
 
@@ -33,7 +40,8 @@ by_max P a b pa pb = grind (arith, common_steps, cases_lt, le-max_right, max-le,
 by_past : (P : ℕ → Type 0) (a b : ℕ) → P a → P b → P (a + (b - a))
 by_past P a b pa pb = grind (arith, common_steps, cases_lt)
 
-module _ {first : List ℕ → Token} (law : IsGrammar first) {text insert made : List ℕ} {edit : Change} (e : IsEditOf text edit insert made) (from to : ℕ)
+module _ {first : List ℕ → Token} (law : IsGrammar first) {text insert made : List ℕ} {edit : Change}
+    (e : IsEditOf text edit insert made) (from to : ℕ)
     (old_at : IsCharBoundary text from) (now_at : IsCharBoundary made to) where
   abbrev body : List ℕ
   body = drop to made
@@ -48,22 +56,28 @@ module _ {first : List ℕ → Token} (law : IsGrammar first) {text insert made 
   old_text = rest_is text from e.is_text old_at
 
   -- the head stays
-  kept_made : from ≡ to → from ≤ edit.start → body ≡ apply (drop from text) (edit.start - from) (edit.old_stop - from) insert
+  kept_made : from ≡ to → from ≤ edit.start
+      → body ≡ apply (drop from text) (edit.start - from) (edit.old_stop - from) insert
   unfolding apply
   kept_made same before =
       let a = e.is_edit.inside.start_le_stop in
       let b = e.is_edit.inside.stop_inside in
       let there : from + (edit.start - from) ≡ edit.start = omega arith in
-      let front : drop from (take edit.start text) ≡ take (edit.start - from) (drop from text) = ap (λ n. drop from (take n text)) (sym there)
+      let front : drop from (take edit.start text) ≡ take (edit.start - from) (drop from text) =
+          ap (λ n. drop from (take n text)) (sym there)
       ∙ drop-take from (edit.start - from) text in
-      let back : drop edit.old_stop text ≡ drop (edit.old_stop - from) (drop from text) = drop-past text from edit.old_stop (omega arith) in
+      let back : drop edit.old_stop text ≡ drop (edit.old_stop - from) (drop from text) =
+          drop-past text from edit.old_stop (omega arith) in
       let few : from ≤ length (take edit.start text) = omega (arith, length-take-le edit.start text (omega arith)) in
       ap (λ n. drop n made) (sym same) ∙ (ap (drop from) e.made
-      ∙ (drop-append-le from (take edit.start text) (insert ++ drop edit.old_stop text) few ∙ ap₂ (λ xs ys. xs ++ (insert ++ ys)) front back))
+      ∙ (drop-append-le from (take edit.start text) (insert ++ drop edit.old_stop text) few
+          ∙ ap₂ (λ xs ys. xs ++ (insert ++ ys)) front back))
 
-  kept_body : from ≡ to → from ≤ edit.start → IsMadeOf first (drop from text) lengths (body_change true from to edit) insert body
+  kept_body : from ≡ to → from ≤ edit.start
+      → IsMadeOf first (drop from text) lengths (body_change true from to edit) insert body
   kept_body same before =
-      grind (arith, e.is_edit.inside.start_le_stop, e.is_edit.inside.stop_inside, e.is_edit.short, e.new_stop, old_text, length-drop, boundary-past, kept_made)
+      grind (arith, e.is_edit.inside.start_le_stop, e.is_edit.inside.stop_inside, e.is_edit.short, e.new_stop, old_text,
+          length-drop, boundary-past, kept_made)
 
   -- it does not: up to here both differ
   abbrev past : ℕ
@@ -82,11 +96,13 @@ module _ {first : List ℕ → Token} (law : IsGrammar first) {text insert made 
 
   ends_inside : (from ≤ old_end) × (to ≤ new_end) × (old_end ≤ length text) × (new_end ≤ length made)
   unfolding ed
-  ends_inside = grind (arith, common_steps, max-le, le-max_left, le-max_right, ed.len, ed.old_inside, old_at.0, now_at.0)
+  ends_inside = grind (arith, common_steps, max-le, le-max_left, le-max_right, ed.len, ed.old_inside, old_at.0,
+      now_at.0)
 
   back_utf8 : IsUtf8 (drop old_end text)
   back_utf8 = by_max (λ n. IsUtf8 (drop (edit.old_stop + n) text)) (from - edit.old_stop) (to - edit.new_stop)
-      (by_past (λ n. IsUtf8 (drop n text)) edit.old_stop from (IsUtf8-drop text edit.old_stop e.is_text.utf8 e.is_edit.inside.stop_boundary)
+      (by_past (λ n. IsUtf8 (drop n text)) edit.old_stop from
+          (IsUtf8-drop text edit.old_stop e.is_text.utf8 e.is_edit.inside.stop_boundary)
       (IsUtf8-drop text from e.is_text.utf8 old_at))
       (let m : ℕ = to - edit.new_stop in
       let there : edit.new_stop + m - edit.new_stop + edit.old_stop ≡ edit.old_stop + m = omega arith in
@@ -106,7 +122,8 @@ module _ {first : List ℕ → Token} (law : IsGrammar first) {text insert made 
       let body_utf8 : IsUtf8 body = IsUtf8-drop made to ed.text_is.utf8 now_at in
       let size : length body ≡ length made - to = length-drop to made in
       let back : drop (new_end - to) body ≡ drop old_end text = sym (drop-past made to new_end i.1) ∙ same_back in
-      let cut : IsCharBoundary body (new_end - to) = IsCharBoundary-from_drop body (new_end - to) (omega arith) (rw back back_utf8) in
+      let cut : IsCharBoundary body (new_end - to) =
+          IsCharBoundary-from_drop body (new_end - to) (omega arith) (rw back back_utf8) in
       let long : length (take (new_end - to) body) ≡ new_end - to = length-take-le (new_end - to) body (omega arith) in
       let old_back : drop old_end text ≡ drop (old_end - from) (drop from text) = drop-past text from old_end i.0 in
       record {
@@ -117,12 +134,14 @@ module _ {first : List ℕ → Token} (law : IsGrammar first) {text insert made 
               start_le_stop = omega arith;
               stop_inside = omega (arith, length-drop from text, i.2);
               start_boundary = IsCharBoundary-from_drop (drop from text) 0 (omega arith) old_text.utf8;
-              stop_boundary = IsCharBoundary-from_drop (drop from text) (old_end - from) (omega (arith, length-drop from text, i.2)) (subst IsUtf8 old_back back_utf8);
+              stop_boundary = IsCharBoundary-from_drop (drop from text) (old_end - from)
+                  (omega (arith, length-drop from text, i.2)) (subst IsUtf8 old_back back_utf8);
             };
             short = omega (arith, length-drop from text, long, i.2, i.3, i.0, i.1);
           };
           inserted = IsUtf8-take body (new_end - to) body_utf8 cut;
-          made = sym (take-append-drop (new_end - to) body) ∙ ap (λ ys. take (new_end - to) body ++ ys) (back ∙ old_back);
+          made = sym (take-append-drop (new_end - to) body)
+              ∙ ap (λ ys. take (new_end - to) body ++ ys) (back ∙ old_back);
           new_stop = omega (arith, long);
         };
         lengths_are = refl;
@@ -130,36 +149,46 @@ module _ {first : List ℕ → Token} (law : IsGrammar first) {text insert made 
 
   -- what an edit is to the body
   pub made_body : (kept : Bool) → (kept ≡ true → (from ≡ to) × (from ≤ edit.start))
-      → IsMadeOf first (drop from text) lengths (body_change kept from to edit) (body_insert kept (body_change kept from to edit) insert body) body
+      → IsMadeOf first (drop from text) lengths (body_change kept from to edit)
+          (body_insert kept (body_change kept from to edit) insert body) body
   made_body true decided = kept_body (decided refl).0 (decided refl).1
   made_body false decided = front_body
 
 -- the tokens behind the first ones are replaced
 put_is : (tokens lexed : List Token) (n f b : ℕ) → f ≤ b → n + b ≤ length tokens
-    → take (n + f) tokens ++ (lexed ++ drop (n + b) tokens) ≡ take n tokens ++ (take f (drop n tokens) ++ (lexed ++ drop b (drop n tokens)))
+    → take (n + f) tokens ++ (lexed ++ drop (n + b) tokens) ≡
+        take n tokens ++ (take f (drop n tokens) ++ (lexed ++ drop b (drop n tokens)))
 put_is tokens lexed n f b le inside = grind (arith, common_steps, take-add, drop-drop, append_assoc)
 
-pub put_behind : (tokens lexed : List Token) (n f b : ℕ) (keeps : Bool) (head : List Token) → f ≤ b → n + b ≤ length tokens → keeps ≡ true → {E : Type 0} (r : Result Unit E) (now : List Token)
-    → OnOk r (now ≡ take (n + f) tokens ++ (lexed ++ drop (n + b) tokens)) → OnOk r (now ≡ (if keeps then take n tokens else head) ++ (take f (drop n tokens) ++ (lexed ++ drop b (drop n tokens))))
+pub put_behind : (tokens lexed : List Token) (n f b : ℕ) (keeps : Bool) (head : List Token) → f ≤ b
+    → n + b ≤ length tokens → keeps ≡ true → {E : Type 0} (r : Result Unit E) (now : List Token)
+    → OnOk r (now ≡ take (n + f) tokens ++ (lexed ++ drop (n + b) tokens))
+        → OnOk r (now ≡ (if keeps then take n tokens else head)
+        ++ (take f (drop n tokens) ++ (lexed ++ drop b (drop n tokens))))
 put_behind tokens lexed n f b keeps head w6 w7 w8 r now w11 = grind (arith, common_steps, put_is)
 
 -- ---- the counts of an edit
 
 -- ---- the front, by offsets of the text and of what follows an offset
 
-pub two_behind : (text : List ℕ) (from end to : ℕ) → has_two (drop from text) end (to - from) ≡ has_two text (from + end) to
+pub two_behind : (text : List ℕ) (from end to : ℕ) → has_two (drop from text) end (to - from) ≡
+    has_two text (from + end) to
 unfolding has_two
 two_behind text from end to = grind (arith, common_steps, drop-drop)
 
 fronts : (text : List ℕ) (from at to : ℕ) (tokens : List Token)
-    → count_by (λ end. has_two (drop from text) end (to - from)) (ends_from at tokens) ≡ count_by (λ end. has_two text end to) (ends_from (from + at) tokens)
+    → count_by (λ end. has_two (drop from text) end (to - from)) (ends_from at tokens) ≡
+        count_by (λ end. has_two text end to) (ends_from (from + at) tokens)
 fronts text from at to [] = refl
-fronts text from at to (t ∷ ts) = grind (arith, common_steps, count-cons, two_behind, fronts text from (at + t.len) to ts)
+fronts text from at to (t ∷ ts) =
+    grind (arith, common_steps, count-cons, two_behind, fronts text from (at + t.len) to ts)
 
 -- ---- an edit
 
-module _ {first : List ℕ → Token} (law : IsGrammar first) {layout : (List ℕ → Token) → List ℕ → Layout} {text insert made : List ℕ} {edit : Change}
-    (e : IsEditOf text edit insert made) {was now : Head} (was_is : IsHeadIn layout text was) (now_is : IsHeadIn layout made now) {kept : Bool}
+module _ {first : List ℕ → Token} (law : IsGrammar first) {layout : (List ℕ → Token) → List ℕ → Layout}
+    {text insert made : List ℕ} {edit : Change}
+    (e : IsEditOf text edit insert made) {was now : Head} (was_is : IsHeadIn layout text was)
+        (now_is : IsHeadIn layout made now) {kept : Bool}
     (decided : IsTrue kept ↔ ((was ≡ now) × (was.body ≤ edit.start))) where
   abbrev old : Layout
   old = by_head was first text
@@ -173,7 +202,8 @@ module _ {first : List ℕ → Token} (law : IsGrammar first) {layout : (List �
   abbrev put : List ℕ
   put = body_insert kept (change kept) insert (drop now.body made)
 
-  pub body_made : IsMadeOf first (drop was.body text) (map (λ (t : Token). t.len) (tokens_by first (drop was.body text))) (change kept) put (drop now.body made)
+  pub body_made : IsMadeOf first (drop was.body text)
+      (map (λ (t : Token). t.len) (tokens_by first (drop was.body text))) (change kept) put (drop now.body made)
   body_made = made_body law e was.body now.body (boundary_of was_is) (boundary_of now_is) kept
       (λ stays. let s = decided.0 stays in (ap (λ (h : Head). h.body) s.0, s.1))
 
@@ -185,25 +215,31 @@ module _ {first : List ℕ → Token} (law : IsGrammar first) {layout : (List �
   record IsPast (stays : Bool) : Type 0 where
     pub old_more : (change stays).old_stop + body_in old ≡ edit.old_stop + more stays
     pub new_more : (change stays).new_stop + body_in new ≡ edit.new_stop + more stays
-    pub least : (other : ℕ) → body_in old ≤ edit.old_stop + other → body_in new ≤ edit.new_stop + other → more stays ≤ other
+    pub least : (other : ℕ) → body_in old ≤ edit.old_stop + other → body_in new ≤ edit.new_stop + other
+        → more stays ≤ other
 
   is_past : (stays : Bool) → (stays ≡ true → (was.body ≡ now.body) × (was.body ≤ edit.start)) → IsPast stays
-  is_past stays w1 = grind (arith, common_steps, body_at was_is first, body_at now_is first, le-max_left, le-max_right, max-le, edited e)
+  is_past stays w1 =
+      grind (arith, common_steps, body_at was_is first, body_at now_is first, le-max_left, le-max_right, max-le,
+      edited e)
 
   abbrev InBody : Bool → Relexed → Type 0
-  InBody stays x = IsRelexedTo (part_by first (drop was.body text)) (part_by first (drop now.body made)) (drop was.body text) (change stays).start
+  InBody stays x = IsRelexedTo (part_by first (drop was.body text)) (part_by first (drop now.body made))
+      (drop was.body text) (change stays).start
       (change stays).old_stop (change stays).new_stop x
 
   abbrev all_of : Bool → Relexed → Relexed
   all_of stays x = counted stays (length (tokens_of_head was)) (length (tokens_of_head now)) x
 
   module _ {stays : Bool} (p : IsPast stays) (r x : Relexed) (is_body : InBody stays x)
-      (sum : r.kept_front + r.lexed ≡ length new.head + (x.kept_front + x.lexed)) (back_is : r.kept_back ≡ x.kept_back) where
+      (sum : r.kept_front + r.lexed ≡ length new.head + (x.kept_front + x.lexed))
+          (back_is : r.kept_back ≡ x.kept_back) where
     meeting : IsMeeting old new edit.old_stop edit.new_stop (r.kept_front + r.lexed) r.kept_back
     meeting = rw (back_is, sum) (meets old new edit.old_stop edit.new_stop (more stays) (change stays).old_stop
         (change stays).new_stop p.old_more p.new_more p.least _ _ is_body.meeting)
 
-    none_before : (number back : ℕ) → (length new.head ≤ number → x.kept_front ≤ number - length new.head) → number < r.kept_front + r.lexed
+    none_before : (number back : ℕ) → (length new.head ≤ number → x.kept_front ≤ number - length new.head)
+        → number < r.kept_front + r.lexed
         → IsMeeting old new edit.old_stop edit.new_stop number back → ⊥
     none_before number back near less m =
         is_body.none_before (number - length new.head) back (near m.past_head) (omega (arith, sum, m.past_head, less))
@@ -215,23 +251,29 @@ module _ {first : List ℕ → Token} (law : IsGrammar first) {layout : (List �
   relexed_to true same p x is_body =
       let k = (head_stays was_is now_is first edit.start refl refl).1 (decided.0 same) in
       let begin : was.body + 0 ≡ body_in old = omega (arith, body_at was_is first) in
-      let ends = fronts text was.body 0 edit.start old.body ∙ ap (λ n. count_by (λ end. has_two text end edit.start) (ends_from n old.body)) begin in
+      let ends = fronts text was.body 0 edit.start old.body
+          ∙ ap (λ n. count_by (λ end. has_two text end edit.start) (ends_from n old.body)) begin in
       let heads : length old.head ≡ length new.head = ap (λ (ts : List Token). length ts) k.2 in
-      let sum : length old.head + x.kept_front + x.lexed ≡ length new.head + (x.kept_front + x.lexed) = omega (arith, heads) in
+      let sum : length old.head + x.kept_front + x.lexed ≡ length new.head + (x.kept_front + x.lexed) =
+          omega (arith, heads) in
       record {
         kept = λ again. omega (arith, is_body.kept (omega arith, refl, refl), ends);
         changed = λ none. absurd (none k);
         meeting = meeting p (all_of true x) x is_body sum refl;
-        none_before = λ number back near less m. none_before p (all_of true x) x is_body sum refl number back (λ head. omega (arith, near, heads)) less m;
+        none_before = λ number back near less m. none_before p (all_of true x) x is_body sum refl number back
+            (λ head. omega (arith, near, heads)) less m;
       }
   relexed_to false same p x is_body =
-      let none : x.kept_front ≡ 0 = omega (arith, is_body.kept (omega arith, refl, refl), kept_none (drop was.body text) old.body) in
+      let none : x.kept_front ≡ 0 =
+          omega (arith, is_body.kept (omega arith, refl, refl), kept_none (drop was.body text) old.body) in
       let sum : x.kept_front + (length new.head + x.lexed) ≡ length new.head + (x.kept_front + x.lexed) = omega arith in
       record {
-        kept = λ k. absurd (true≢false (sym (decided.1 ((head_stays was_is now_is first edit.start refl refl).0 k)) ∙ same));
+        kept = λ k. absurd
+            (true≢false (sym (decided.1 ((head_stays was_is now_is first edit.start refl refl).0 k)) ∙ same));
         changed = λ gone. none;
         meeting = meeting p (all_of false x) x is_body sum refl;
-        none_before = λ number back near less m. none_before p (all_of false x) x is_body sum refl number back (λ head. omega (arith, none)) less m;
+        none_before = λ number back near less m. none_before p (all_of false x) x is_body sum refl number back
+            (λ head. omega (arith, none)) less m;
       }
 
   abbrev Found : Relexed → Type 0
@@ -241,18 +283,23 @@ module _ {first : List ℕ → Token} (law : IsGrammar first) {layout : (List �
   as_body x = (counts_of (part_by first) body_made.edit_of x).0
 
   -- the counts of the body give those of all
-  pub relexed_as : (x : Relexed) → Found x → IsRelexed (layout first) text edit.start edit.old_stop insert (all_of kept x)
+  pub relexed_as : (x : Relexed) → Found x → IsRelexed (layout first) text edit.start edit.old_stop insert
+      (all_of kept x)
   relexed_as x found =
       let p = is_past kept (λ stays. let s = decided.0 stays in (ap (λ (h : Head). h.body) s.0, s.1)) in
-      (counts_of (layout first) e (all_of kept x)).1 (rw (was_is.layout_is first, now_is.layout_is first) (relexed_to kept refl p x (as_body x found)))
+      (counts_of (layout first) e (all_of kept x)).1
+          (rw (was_is.layout_is first, now_is.layout_is first) (relexed_to kept refl p x (as_body x found)))
 
   -- the tokens of a new head take no step
-  pub steps_by : (x : Relexed) → Found x → length (layout first made).head - (all_of kept x).kept_front + x.lexed ≡ (all_of kept x).lexed
+  pub steps_by : (x : Relexed) → Found x → length (layout first made).head - (all_of kept x).kept_front + x.lexed ≡
+      (all_of kept x).lexed
   steps_by x found = omega (arith, heads_are now_is first, by_kept kept refl (as_body x found))
     where
-      by_kept : (stays : Bool) → kept ≡ stays → InBody stays x → length (tokens_of_head now) - (all_of stays x).kept_front + x.lexed ≡ (all_of stays x).lexed
+      by_kept : (stays : Bool) → kept ≡ stays → InBody stays x
+          → length (tokens_of_head now) - (all_of stays x).kept_front + x.lexed ≡ (all_of stays x).lexed
       by_kept true same is_body = omega (arith, ap (λ (h : Head). length (tokens_of_head h)) (decided.0 same).0)
-      by_kept false same is_body = omega (arith, is_body.kept (omega arith, refl, refl), kept_none (drop was.body text) old.body)
+      by_kept false same is_body =
+          omega (arith, is_body.kept (omega arith, refl, refl), kept_none (drop was.body text) old.body)
 
   -- an edit that is refused takes no more steps than it would have
   pub few_by : (before after : ℕ) → ((x : Relexed) → Found x → after ≤ before + x.lexed)
@@ -260,19 +307,26 @@ module _ {first : List ℕ → Token} (law : IsGrammar first) {layout : (List �
   few_by before after few =
       let counts = relexed_is law body_made.edit_of in
       let found = (counts_of (part_by first) body_made.edit_of counts.0).1 counts.1 in
-      (all_of kept counts.0, relexed_as counts.0 found, rw (sym e.made) (omega (arith, few counts.0 found, steps_by counts.0 found)))
+      (all_of kept counts.0, relexed_as counts.0 found,
+          rw (sym e.made) (omega (arith, few counts.0 found, steps_by counts.0 found)))
 
 -- ---- a document
 
-pub body_is : {first : List ℕ → Token} (law : IsGrammar first) (before insert text : List ℕ) (edit : Change) (old now : Head) (kept : Bool) (change : Change)
+pub body_is : {first : List ℕ → Token} (law : IsGrammar first) (before insert text : List ℕ) (edit : Change)
+    (old now : Head) (kept : Bool) (change : Change)
     → IsEditOf before edit insert text → IsHeadOf before old → IsHeadOf text now
-    → IsTrue kept ↔ ((old ≡ now) × (old.body ≤ edit.start)) → change ≡ body_change kept old.body now.body edit → IsBodyChange first before edit insert text kept change
-body_is {first} law before insert text edit old now kept change e old_head now_head decided change_is = rw change_is record {
+    → IsTrue kept ↔ ((old ≡ now) × (old.body ≤ edit.start)) → change ≡ body_change kept old.body now.body edit
+        → IsBodyChange first before edit insert text kept change
+body_is {first} law before insert text edit old now kept change e old_head now_head decided change_is =
+    rw change_is record {
   keeps = (λ k. stays.1 (decided.0 k), λ s. decided.1 (stays.0 s));
   put = inserted;
-  made_of = subst (λ n. IsMadeOf first (drop n before) (map (λ (t : Token). t.len) (tokens_by first (drop n before))) ch inserted (drop (body_start text) text))
+  made_of =
+      subst (λ n. IsMadeOf first (drop n before) (map (λ (t : Token). t.len) (tokens_by first (drop n before))) ch
+      inserted (drop (body_start text) text))
       old_head.end_is
-      (subst (λ n. IsMadeOf first (drop old.body before) (map (λ (t : Token). t.len) (tokens_by first (drop old.body before))) ch inserted (drop n text))
+      (subst (λ n. IsMadeOf first (drop old.body before)
+          (map (λ (t : Token). t.len) (tokens_by first (drop old.body before))) ch inserted (drop n text))
       now_head.end_is
       (body_made law e old_is now_is decided));
   counts_kept = counts true;
@@ -295,18 +349,26 @@ body_is {first} law before insert text edit old now kept change e old_head now_h
     inserted = body_insert kept ch insert (drop now.body text)
 
     Counted : Bool → List Token → List Token → Relexed → Type 0
-    Counted k fronts new_fronts r = IsRelexed (whole_by first) before edit.start edit.old_stop insert (counted k (length fronts) (length new_fronts) r)
+    Counted k fronts new_fronts r =
+        IsRelexed (whole_by first) before edit.start edit.old_stop insert
+        (counted k (length fronts) (length new_fronts) r)
 
-    counts : (k : Bool) → kept ≡ k → (r : Relexed) → IsRelexed (part_by first) (drop (body_start before) before) ch.start ch.old_stop inserted r
+    counts : (k : Bool) → kept ≡ k → (r : Relexed)
+        → IsRelexed (part_by first) (drop (body_start before) before) ch.start ch.old_stop inserted r
         → Counted k (head_tokens before) (head_tokens text) r
     counts k same r x =
-        let there = subst (λ n. IsRelexed (part_by first) (drop n before) ch.start ch.old_stop inserted r) (sym old_head.end_is) x in
-        subst (λ k. Counted k (head_tokens before) (head_tokens text) r) same (subst (λ ts. Counted kept ts (head_tokens text) r) old_head.tokens_are
-        (subst (λ ts. Counted kept (tokens_of_head old) ts r) now_head.tokens_are (relexed_as law e old_is now_is decided r there)))
+        let there = subst (λ n. IsRelexed (part_by first) (drop n before) ch.start ch.old_stop inserted r)
+            (sym old_head.end_is) x in
+        subst (λ k. Counted k (head_tokens before) (head_tokens text) r) same
+            (subst (λ ts. Counted kept ts (head_tokens text) r) old_head.tokens_are
+        (subst (λ ts. Counted kept (tokens_of_head old) ts r) now_head.tokens_are
+            (relexed_as law e old_is now_is decided r there)))
 
 -- what the change is, by its places
 pub in_body : (kept : Bool) (from to : ℕ) (edit : Change)
     → (kept ≡ true → (from ≤ edit.start) × (edit.start ≤ edit.old_stop) × (edit.start ≤ edit.new_stop))
     → IsInBody kept from to edit (body_change kept from to edit)
 in_body true from to edit order = let o = order refl in grind (arith, common_steps, o.0, o.1, o.2)
-in_body false from to edit order = (max (from - edit.old_stop) (to - edit.new_stop), refl, omega arith, omega arith, λ n old new. omega (arith, old, new))
+in_body false from to edit order =
+    (max (from - edit.old_stop) (to - edit.new_stop), refl, omega arith, omega arith,
+    λ n old new. omega (arith, old, new))

@@ -1,5 +1,8 @@
 -- The head that is found in a document is the one that its tokens tell: those up to the frontmatter.
-use Rattle.std.proofs.Common.{◌≡◌, ℕ, zero, suc, ◌+◌, ◌-◌, ◌≤◌, true, false, true≢false, List, [], ◌∷◌, ◌++◌, length, length-append, length-drop, drop-drop, take, drop, refl, sym, ap, ap₂, ◌∙◌, subst, arith, chars, Option, None, Some, IsCharBoundary}
+use Rattle.std.proofs.Common.{
+    ◌≡◌, ℕ, zero, suc, ◌+◌, ◌-◌, ◌≤◌, true, false, true≢false, List, [], ◌∷◌, ◌++◌, length, length-append, length-drop,
+    drop-drop, take, drop, refl, sym, ap, ap₂, ◌∙◌, subst, arith, chars, Option, None, Some, IsCharBoundary
+}
 use Rattle.std.proofs.{Math.Seq.{take-append_seam}, lemmas.Bool.{not-true}}
 use Rattle.rustc_lexer.specs.{Edition, Token, TokenKind, declared.head.Head.{Head}, Classes.{IsText, bytes}}
 use Rattle.rustc_lexer.specs.Answers.{first_in}
@@ -17,18 +20,23 @@ use Rattle.std.proofs.lemmas.Grind.{common_steps}
 
 -- ---- no token of a part is a frontmatter
 
-none-in : {edition : Edition} {next u : List ℕ} {kind : TokenKind} → IsTokenIn edition next kind u → is_frontmatter kind ≡ false
+none-in : {edition : Edition} {next u : List ℕ} {kind : TokenKind} → IsTokenIn edition next kind u
+    → is_frontmatter kind ≡ false
 none-in w0 = grind (arith, common_steps, not-true, by_symbol)
 
 stays-part : (mode : Mode) (kind : TokenKind) → is_source mode ≡ false → is_source (mode_after mode kind) ≡ false
 stays-part mode kind w2 = grind (arith, common_steps)
 
-head_count-later : (t : Token) (ts : List Token) → is_frontmatter t.kind ≡ false → head_count ts ≡ 0 → head_count (t ∷ ts) ≡ 0
+head_count-later : (t : Token) (ts : List Token) → is_frontmatter t.kind ≡ false → head_count ts ≡ 0
+    → head_count (t ∷ ts) ≡ 0
 head_count-later t ts other none = grind (arith, common_steps)
 
-no-front : {mode : Mode} {cs : List ℕ} {tokens : List Token} → AreTokens mode cs tokens → is_source mode ≡ false → head_count tokens ≡ 0
+no-front : {mode : Mode} {cs : List ℕ} {tokens : List Token} → AreTokens mode cs tokens → is_source mode ≡ false
+    → head_count tokens ≡ 0
 no-front grammar.nothing e = refl
-no-front (grammar.something {mode} {kind} {c} {w} {next} {tokens} p free rest) e = head_count-later (record { kind = kind; len = bytes (c ∷ w) }) tokens (none-in p) (no-front rest (stays-part mode kind e))
+no-front (grammar.something {mode} {kind} {c} {w} {next} {tokens} p free rest) e =
+    head_count-later (record { kind = kind; len = bytes (c ∷ w) }) tokens (none-in p)
+    (no-front rest (stays-part mode kind e))
 no-front (grammar.frontmatter_first body is_opening ends rest) e = absurd (true≢false e)
 
 part-none : (edition : Edition) (text : List ℕ) → IsText text → head_count (read_tokens (part edition) text) ≡ 0
@@ -36,18 +44,21 @@ part-none edition text is = no-front ((language text (part edition) is (read_tok
 
 -- ---- the head
 
--- what stands in front of a text past its shebang line: so much white space and a frontmatter, which take `len` bytes, or nothing
+-- what stands in front of a text past its shebang line: so much white space and a frontmatter, which take `len` bytes,
+-- or nothing
 record IsFront (rest : List ℕ) (space : ℕ) (front : Option Token) (len : ℕ) : Type 0 where
   is_one : (t : Token) → front ≡ Some t → is_frontmatter t.kind ≡ true
   bare : front ≡ None → space ≡ 0
   ends : len ≡ bound (front_tokens space front) (length (front_tokens space front))
-  tokens : (edition : Edition) → read_tokens (source edition) rest ≡ front_tokens space front ++ read_tokens (part edition) (drop len rest)
+  tokens : (edition : Edition) → read_tokens (source edition) rest ≡ front_tokens space front ++ read_tokens
+      (part edition) (drop len rest)
 
 some-one : (text : List ℕ) (t : Token) → Some (frontmatter text) ≡ Some t → is_frontmatter t.kind ≡ true
 unfolding frontmatter
 some-one text t same = let is : frontmatter text ≡ t = cc in ap (λ (t : Token). is_frontmatter t.kind) (sym is)
 
-some-end : (space : ℕ) (front : Token) → space + front.len ≡ bound (front_tokens space (Some front)) (length (front_tokens space (Some front)))
+some-end : (space : ℕ) (front : Token)
+    → space + front.len ≡ bound (front_tokens space (Some front)) (length (front_tokens space (Some front)))
 some-end zero front = omega arith
 some-end (suc n) front = omega arith
 
@@ -65,7 +76,8 @@ pub record IsHead (text : List ℕ) (head : Head) : Type 0 where
   pub of : IsHeadOf text head
   pub is_one : (t : Token) → head.frontmatter ≡ Some t → is_frontmatter t.kind ≡ true
   pub tokens : (edition : Edition)
-      → front_tokens head.space_len head.frontmatter ++ read_tokens (part edition) (drop head.body text) ≡ document_tokens edition text
+      → front_tokens head.space_len head.frontmatter ++ read_tokens (part edition) (drop head.body text) ≡
+          document_tokens edition text
 
 module _ (text : List ℕ) (is : IsText text) where
   abbrev all : List Token
@@ -85,16 +97,22 @@ module _ (text : List ℕ) (is : IsText text) where
         → IsHead text record { tokens_start = n; space_len = space; frontmatter = front; body = body }
     head_is {space} {front} {len} at body body_is =
         let ts : List Token = front_tokens space front in
-        let whole : all ≡ ts ++ read_tokens (part newest) (drop len rest) = ap (read_tokens (source newest)) (sym rest_same) ∙ at.tokens newest in
-        let end : bound all (length ts) ≡ len = ap (λ us. bound us (length ts)) whole ∙ (bound-append ts _ ∙ sym at.ends) in
-        let cut : IsCharBoundary rest len = subst (IsCharBoundary rest) end (subst (λ xs. IsCharBoundary xs (bound all (length ts))) (sym rest_same)
+        let whole : all ≡ ts ++ read_tokens (part newest) (drop len rest) =
+            ap (read_tokens (source newest)) (sym rest_same) ∙ at.tokens newest in
+        let end : bound all (length ts) ≡ len = ap (λ us. bound us (length ts)) whole
+            ∙ (bound-append ts _ ∙ sym at.ends) in
+        let cut : IsCharBoundary rest len =
+            subst (IsCharBoundary rest) end (subst (λ xs. IsCharBoundary xs (bound all (length ts))) (sym rest_same)
         ((partitions _ (source newest) (rest_text _ refl)).boundaries (length ts)
         (omega (arith, ap length whole, length-append ts (read_tokens (part newest) (drop len rest)))))) in
-        let behind : drop body text ≡ drop len rest = ap (λ k. drop k text) body_is ∙ (sym (drop-drop len n text) ∙ ap (drop len) (sym rest_is)) in
+        let behind : drop body text ≡ drop len rest = ap (λ k. drop k text) body_is
+            ∙ (sym (drop-drop len n text) ∙ ap (drop len) (sym rest_is)) in
         let its = rest_text rest rest_same in
         let left : IsText (drop len rest) =
-        record { utf8 = IsUtf8-drop rest len its.utf8 cut; fits = let f = its.fits in omega (arith, length-drop len rest) } in
-        let count : head_count all ≡ length ts = ap head_count whole ∙ count-front space front _ at.is_one (part-none newest (drop len rest) left) in
+        record { utf8 = IsUtf8-drop rest len its.utf8 cut; fits = let f = its.fits in
+            omega (arith, length-drop len rest) } in
+        let count : head_count all ≡ length ts =
+            ap head_count whole ∙ count-front space front _ at.is_one (part-none newest (drop len rest) left) in
         record {
           of = record {
             shebang_is = n_is;
@@ -103,7 +121,8 @@ module _ (text : List ℕ) (is : IsText text) where
             end_is = omega (arith, body_is, n_is, end, ap (bound all) count);
           };
           is_one = at.is_one;
-          tokens = λ edition. ap (λ xs. ts ++ read_tokens (part edition) xs) behind ∙ (sym (at.tokens edition) ∙ ap (read_tokens (source edition)) rest_same);
+          tokens = λ edition. ap (λ xs. ts ++ read_tokens (part edition) xs) behind
+              ∙ (sym (at.tokens edition) ∙ ap (read_tokens (source edition)) rest_same);
         }
 
     pub head-front : (front : Token) → opens (chars rest) ≡ true → front ≡ frontmatter rest
@@ -115,7 +134,8 @@ module _ (text : List ℕ) (is : IsText text) where
       tokens = λ edition. with-front edition rest (rest_text rest rest_same) opened;
     } _ refl)
 
-    module _ (tail : List ℕ) (none : opens (chars rest) ≡ false) (tail_is : tail ≡ past (spaces_len (chars rest)) rest) where
+    module _ (tail : List ℕ) (none : opens (chars rest) ≡ false)
+        (tail_is : tail ≡ past (spaces_len (chars rest)) rest) where
       pub head-spaced : (front : Token) → opens (chars tail) ≡ true → front ≡ frontmatter tail
           → IsHead text record {
             tokens_start = n;
@@ -130,7 +150,8 @@ module _ (text : List ℕ) (is : IsText text) where
         tokens = λ edition. with-spaced edition rest tail (rest_text rest rest_same) tail_is none opened;
       } _ (omega arith))
 
-      pub head-none : opens (chars tail) ≡ false → IsHead text record { tokens_start = n; space_len = 0; frontmatter = None; body = n }
+      pub head-none : opens (chars tail) ≡ false
+          → IsHead text record { tokens_start = n; space_len = 0; frontmatter = None; body = n }
       head-none none_past = head_is record {
         is_one = λ t same. absurd (cc);
         bare = λ none. refl;
@@ -154,13 +175,18 @@ module _ (text : List ℕ) (is : IsText text) where
   -- the tokens of a document in an edition
   pub in_edition : (edition : Edition) → tokens_in (whole_by (first_in edition) text) ≡ document_tokens edition text
   in_edition edition =
-      let some = some_head.1 in sym (ap₂ (λ ts n. ts ++ tokens_by (first_in edition) (drop n text)) some.of.tokens_are some.of.end_is) ∙ some.tokens edition
+      let some = some_head.1 in
+      sym (ap₂ (λ ts n. ts ++ tokens_by (first_in edition) (drop n text)) some.of.tokens_are some.of.end_is)
+          ∙ some.tokens edition
 
   -- the tokens of the head are cut between characters
-  pub head_cuts : (k : ℕ) → k ≤ length (head_tokens text) → IsCharBoundary text (tokens_start text + bound (head_tokens text) k)
+  pub head_cuts : (k : ℕ) → k ≤ length (head_tokens text)
+      → IsCharBoundary text (tokens_start text + bound (head_tokens text) k)
   head_cuts k few =
       let same : bound all k ≡ bound (head_tokens text) k =
-      bound-same k all (head_tokens text) (sym (take-take k (head_count all) all (omega (arith, few, length-take (head_count all) all)))) in
+      bound-same k all (head_tokens text)
+          (sym (take-take k (head_count all) all (omega (arith, few, length-take (head_count all) all)))) in
       IsCharBoundary-from_rest text (tokens_start text) (bound (head_tokens text) k) (start-boundary text is).0
       (subst (IsCharBoundary rest) same
-      ((partitions rest (source newest) (rest_text rest refl)).boundaries k (omega (arith, few, length-take (head_count all) all))))
+      ((partitions rest (source newest) (rest_text rest refl)).boundaries k
+          (omega (arith, few, length-take (head_count all) all))))

@@ -1,10 +1,16 @@
 -- The tokens of a document: those of its head, and those of its body.
 use Rattle.std.proofs.lemmas.Grind.{common_steps}
-use Rattle.std.proofs.Common.{◌≡◌, ℕ, zero, suc, ◌+◌, ◌-◌, ◌<◌, Bool, not, true, false, true≢false, List, [], ◌∷◌, ◌++◌, length, take, drop, refl, sym, ap, ap₂, ◌∙◌, subst, arith, length-drop, drop-drop, take-append-drop, append_assoc, length-append, codes, get_or, IsUtf8, IsCharBoundary, chars, Option, None, Some}
+use Rattle.std.proofs.Common.{
+    ◌≡◌, ℕ, zero, suc, ◌+◌, ◌-◌, ◌<◌, Bool, not, true, false, true≢false, List, [], ◌∷◌, ◌++◌, length, take, drop, refl,
+    sym, ap, ap₂, ◌∙◌, subst, arith, length-drop, drop-drop, take-append-drop, append_assoc, length-append, codes,
+    get_or, IsUtf8, IsCharBoundary, chars, Option, None, Some
+}
 use Rattle.std.specs.Option.{unwrap_or}
 use Rattle.std.proofs.{lemmas.Bool.{and_parts, eqb-true, not-true}, Math.Seq.{get_or-append_seam}}
 use Rattle.std.proofs.lemmas.Str.{IsCharBoundary-from_rest, IsUtf8-drop}
-use Rattle.std.proofs.lemmas.Str.{length-le-encodes, IsCharBoundary-before_ascii, IsCharBoundary-end, IsCharBoundary-start}
+use Rattle.std.proofs.lemmas.Str.{
+    length-le-encodes, IsCharBoundary-before_ascii, IsCharBoundary-end, IsCharBoundary-start
+}
 use Rattle.rustc_lexer.specs.{Edition, Token, TokenKind, Eof, Whitespace, Classes.{is_whitespace, IsText, bytes}}
 use Rattle.rustc_lexer.specs.{Document.{mark_len, tokens_start}, means.Document.{front_tokens}, Answers.{shebang}}
 use Rattle.rustc_lexer.specs.Language as the
@@ -12,7 +18,9 @@ use Rattle.rustc_lexer.specs.LanguageCalls as calls
 use Rattle.rustc_lexer.specs.{LanguageCalls.{IsLineBefore, IsShebang}, laws.TheAnswers.{the_shebang}}
 use Rattle.rustc_lexer.specs.Language.{IsTokenBefore}
 use Rattle.rustc_lexer.specs.LanguageText as grammar
-use Rattle.rustc_lexer.specs.LanguageText.{AreTokens, IsTokenIn, Mode, is_source, mode_after, mode_edition, part, source}
+use Rattle.rustc_lexer.specs.LanguageText.{
+    AreTokens, IsTokenIn, Mode, is_source, mode_after, mode_edition, part, source
+}
 use Rattle.rustc_lexer.specs.{FrontmatterGrammar.{OpensNone}, Tables.{symbols}, laws.Choice.{by_either, by_symbol}}
 use Rattle.rustc_lexer.specs.laws.{LanguageFrontmatter.{opens-none}, LanguageIn.{oldest}}
 use Rattle.rustc_lexer.specs.laws.{LanguageTokens.{tokens-are, tokens-read}, Frontmatter.{frontmatter-cut}}
@@ -30,17 +38,21 @@ stays Whitespace = true
 stays Eof = true
 stays kind = false
 
-solid-after : (edition : Edition) (kind : TokenKind) → stays kind ≡ false → mode_after (source edition) kind ≡ part edition
+solid-after : (edition : Edition) (kind : TokenKind) → stays kind ≡ false → mode_after (source edition) kind ≡
+    part edition
 solid-after edition kind w2 = grind (arith, common_steps)
 
 -- none does that has characters and begins with no white space
-solid : {next u : List ℕ} {kind : TokenKind} → IsTokenBefore next kind u → next_is is_whitespace u ≡ false → 0 < length u → stays kind ≡ false
+solid : {next u : List ℕ} {kind : TokenKind} → IsTokenBefore next kind u → next_is is_whitespace u ≡ false
+    → 0 < length u → stays kind ≡ false
 solid (the.end none) out some = absurd (omega arith)
 solid (the.whitespace {c} {w} all stop) out some = absurd (true≢false (sym (and_parts (is_whitespace c) _ all).0 ∙ out))
-solid (the.symbol {c} is) out some = not-true (stays (symbol_kind c)) (by_symbol (λ (kind : TokenKind). not (stays kind)) symbols c refl refl)
+solid (the.symbol {c} is) out some =
+    not-true (stays (symbol_kind c)) (by_symbol (λ (kind : TokenKind). not (stays kind)) symbols c refl refl)
 solid p out some = refl
 
-solid-in : {edition : Edition} {next u : List ℕ} {kind : TokenKind} → IsTokenIn edition next kind u → next_is is_whitespace u ≡ false
+solid-in : {edition : Edition} {next u : List ℕ} {kind : TokenKind} → IsTokenIn edition next kind u
+    → next_is is_whitespace u ≡ false
     → 0 < length u → stays kind ≡ false
 solid-in w0 out some = grind (arith, common_steps, solid)
 
@@ -57,22 +69,30 @@ space_before (suc n) = record { kind = Whitespace; len = suc n } ∷ []
 
 module _ (edition : Edition) where
   -- a frontmatter, and what follows it
-  pub with-front : (text : List ℕ) → IsText text → opens (chars text) ≡ true → read_tokens (source edition) text ≡ frontmatter text ∷ read_tokens (part edition) (drop (frontmatter text).len text)
+  pub with-front : (text : List ℕ) → IsText text → opens (chars text) ≡ true → read_tokens (source edition) text ≡
+      frontmatter text ∷ read_tokens (part edition) (drop (frontmatter text).len text)
   unfolding frontmatter
   with-front text is e =
-      let some : 0 < length text = (let cut = frontmatter-cut text is.utf8 e in let i = cut.inside in let m = cut.not_empty in omega arith) in
+      let some : 0 < length text = (let cut = frontmatter-cut text is.utf8 e in let i = cut.inside in
+          let m = cut.not_empty in omega arith) in
       let at : token_at (source edition) text ≡ frontmatter text = rw e refl in
-      tokens-cons (source edition) text is some ∙ ap (λ (t : Token). t ∷ read_tokens (mode_after (source edition) t.kind) (drop t.len text)) at
+      tokens-cons (source edition) text is some
+          ∙ ap (λ (t : Token). t ∷ read_tokens (mode_after (source edition) t.kind) (drop t.len text)) at
 
   -- none, and no white space
-  as-source : {cs : List ℕ} {tokens : List Token} → AreTokens (part edition) cs tokens → OpensNone cs → next_is is_whitespace cs ≡ false
+  as-source : {cs : List ℕ} {tokens : List Token} → AreTokens (part edition) cs tokens → OpensNone cs
+      → next_is is_whitespace cs ≡ false
       → AreTokens (source edition) cs tokens
   as-source grammar.nothing none out = grammar.nothing
   as-source (grammar.something {kind} {next} {tokens} p free rest) none out =
-      grammar.something p (λ e. none) (subst (λ (mode : Mode). AreTokens mode next tokens) (sym (solid-after edition kind (solid-in p out (omega arith)))) rest)
+      grammar.something p (λ e. none)
+          (subst (λ (mode : Mode). AreTokens mode next tokens)
+          (sym (solid-after edition kind (solid-in p out (omega arith)))) rest)
 
-  without-space : (text : List ℕ) → IsText text → opens (chars text) ≡ false → next_is is_whitespace (chars text) ≡ false → read_tokens (source edition) text ≡ read_tokens (part edition) text
-  without-space text is none out = tokens-read (as-source (tokens-are text (part edition) is) (opens-none (chars text) none) out) text is refl
+  without-space : (text : List ℕ) → IsText text → opens (chars text) ≡ false → next_is is_whitespace (chars text) ≡
+      false → read_tokens (source edition) text ≡ read_tokens (part edition) text
+  without-space text is none out =
+      tokens-read (as-source (tokens-are text (part edition) is) (opens-none (chars text) none) out) text is refl
 
   -- white space, and what follows it
   module _ (text tail : List ℕ) (is : IsText text) (tail_is : tail ≡ past (spaces_len (chars text)) text) where
@@ -86,20 +106,24 @@ module _ (edition : Edition) where
     tail_drop = tail_is ∙ (past-drop (spaces_len (chars text)) text is.utf8 ∙ ap (λ n. drop n text) size_is)
 
     tail_text : IsText tail
-    tail_text = record { utf8 = subst IsUtf8 (sym tail_is) (IsUtf8-past (spaces_len (chars text)) text is.utf8); fits = let f = is.fits in omega (arith, ap length tail_drop, length-drop size text) }
+    tail_text = record { utf8 = subst IsUtf8 (sym tail_is) (IsUtf8-past (spaces_len (chars text)) text is.utf8);
+        fits = let f = is.fits in omega (arith, ap length tail_drop, length-drop size text) }
 
     left : chars tail ≡ drop (spaces_len (chars text)) (chars text)
     left = ap chars tail_is ∙ chars-past (spaces_len (chars text)) text is.utf8
 
-    spaced : (mode : Mode) → (is_source mode ≡ true → opens (chars text) ≡ false) → read_tokens mode text ≡ space_before size ++ read_tokens mode tail
+    spaced : (mode : Mode) → (is_source mode ≡ true → opens (chars text) ≡ false)
+        → read_tokens mode text ≡ space_before size ++ read_tokens mode tail
     spaced mode none = by_chars (chars text) refl
       where
         bare : spaces_len (chars text) ≡ 0 → read_tokens mode text ≡ space_before size ++ read_tokens mode tail
         bare zero_len =
             let same : tail ≡ text = tail_is ∙ (ap (λ n. past n text) zero_len ∙ past-zero text is.utf8) in
-            sym (ap₂ (λ n u. space_before n ++ read_tokens mode u) (let no_size : size ≡ 0 = omega (arith, ap length same) in no_size) same)
+            sym (ap₂ (λ n u. space_before n ++ read_tokens mode u)
+                (let no_size : size ≡ 0 = omega (arith, ap length same) in no_size) same)
 
-        one : (n : ℕ) (tokens : List Token) → 0 < n → record { kind = Whitespace; len = n } ∷ tokens ≡ space_before n ++ tokens
+        one : (n : ℕ) (tokens : List Token) → 0 < n → record { kind = Whitespace; len = n } ∷ tokens ≡
+            space_before n ++ tokens
         one n tokens some = grind (arith, common_steps)
 
         by_chars : (cs : List ℕ) → chars text ≡ cs → read_tokens mode text ≡ space_before size ++ read_tokens mode tail
@@ -112,45 +136,60 @@ module _ (edition : Edition) where
             let len : bytes (c ∷ take n s) ≡ size = sym (ap₂ bytes_of long e) ∙ size_is in
             let behind : AreTokens (mode_after mode Whitespace) (drop n s) (read_tokens mode tail) =
             subst (λ (m : Mode). AreTokens m (drop n s) (read_tokens mode tail)) (sym (space-after mode))
-            (subst (λ cs. AreTokens mode cs (read_tokens mode tail)) (left ∙ ap₂ drop long e) (tokens-are tail mode tail_text)) in
+            (subst (λ cs. AreTokens mode cs (read_tokens mode tail)) (left ∙ ap₂ drop long e)
+                (tokens-are tail mode tail_text)) in
             let token = grammar.kept (oldest (mode_edition mode)) (space-sound c white s) in
-            tokens-read (grammar.something token (λ y. subst OpensNone whole (opens-none (chars text) (none y))) behind) text is whole
+            tokens-read (grammar.something token (λ y. subst OpensNone whole (opens-none (chars text) (none y))) behind)
+                text is whole
             ∙ (ap (λ k. record { kind = Whitespace; len = k } ∷ read_tokens mode tail) len
             ∙ one size (read_tokens mode tail) (omega (arith, len, length-le-encodes (c ∷ take n s)))))
             (λ out. bare (ap spaces_len e ∙ rw out refl))
 
     -- no frontmatter, past white space or none
-    pub without-front : opens (chars text) ≡ false → opens (chars tail) ≡ false → read_tokens (source edition) text ≡ read_tokens (part edition) text
+    pub without-front : opens (chars text) ≡ false → opens (chars tail) ≡ false → read_tokens (source edition) text ≡
+        read_tokens (part edition) text
     without-front none none_past =
-        let out : next_is is_whitespace (chars tail) ≡ false = ap (next_is is_whitespace) left ∙ run-stops is_whitespace (chars text) in
+        let out : next_is is_whitespace (chars tail) ≡ false = ap (next_is is_whitespace) left
+            ∙ run-stops is_whitespace (chars text) in
         spaced (source edition) (λ e. none)
-        ∙ (ap (λ ts. space_before size ++ ts) (without-space tail tail_text none_past out) ∙ sym (spaced (part edition) (λ e. absurd (true≢false (sym e)))))
+        ∙ (ap (λ ts. space_before size ++ ts) (without-space tail tail_text none_past out)
+            ∙ sym (spaced (part edition) (λ e. absurd (true≢false (sym e)))))
 
     -- a frontmatter past white space
     pub with-spaced : opens (chars text) ≡ false → opens (chars tail) ≡ true
-        → read_tokens (source edition) text ≡ front_tokens size (Some (frontmatter tail)) ++ read_tokens (part edition) (drop (size + (frontmatter tail).len) text)
+        → read_tokens (source edition) text ≡ front_tokens size (Some (frontmatter tail)) ++ read_tokens (part edition)
+            (drop (size + (frontmatter tail).len) text)
     with-spaced none opened =
         spaced (source edition) (λ e. none)
-        ∙ (ap (λ ts. space_before size ++ ts) (with-front tail tail_text opened ∙ ap (λ xs. frontmatter tail ∷ read_tokens (part edition) xs) behind)
+        ∙ (ap (λ ts. space_before size ++ ts)
+            (with-front tail tail_text opened ∙ ap (λ xs. frontmatter tail ∷ read_tokens (part edition) xs) behind)
         ∙ both size _)
       where
         behind : drop (frontmatter tail).len tail ≡ drop (size + (frontmatter tail).len) text
         behind = ap (drop (frontmatter tail).len) tail_drop ∙ drop-drop (frontmatter tail).len size text
 
-        both : (n : ℕ) (tokens : List Token) → space_before n ++ (frontmatter tail ∷ tokens) ≡ front_tokens n (Some (frontmatter tail)) ++ tokens
+        both : (n : ℕ) (tokens : List Token) → space_before n ++ (frontmatter tail ∷ tokens) ≡
+            front_tokens n (Some (frontmatter tail)) ++ tokens
         both n tokens = grind (arith, common_steps)
 
 -- ---- where a shebang line ends
 
 seam : (xs ys : List ℕ) → (0 < length ys → get_or ys 0 0 < 128) → IsCharBoundary (xs ++ ys) (length xs)
-seam xs [] small = subst (IsCharBoundary (xs ++ [])) (let none = length-append xs [] in let same : length (xs ++ []) ≡ length xs = omega (arith, none) in same) (IsCharBoundary-end (xs ++ []))
-seam xs (y ∷ ys) small = IsCharBoundary-before_ascii (xs ++ (y ∷ ys)) (length xs) (omega (arith, length-append xs (y ∷ ys))) (let there : get_or (xs ++ (y ∷ ys)) (length xs) 0 ≡ y = get_or-append_seam xs y ys 0 in let less = small (omega arith) in omega (arith, there))
+seam xs [] small = subst (IsCharBoundary (xs ++ [])) (let none = length-append xs [] in
+    let same : length (xs ++ []) ≡ length xs = omega (arith, none) in same) (IsCharBoundary-end (xs ++ []))
+seam xs (y ∷ ys) small =
+    IsCharBoundary-before_ascii (xs ++ (y ∷ ys)) (length xs) (omega (arith, length-append xs (y ∷ ys)))
+    (let there : get_or (xs ++ (y ∷ ys)) (length xs) 0 ≡ y = get_or-append_seam xs y ys 0 in
+    let less = small (omega arith) in omega (arith, there))
 
 line-boundary : (text : List ℕ) → IsText text → IsCharBoundary text (unwrap_or (shebang text) 0)
 line-boundary text is = by_answer (shebang text) (((the_shebang text).only is (shebang text)).1 refl)
   where
-    by_line : (w next : List ℕ) → text ≡ codes "#!" ++ (w ++ next) → IsLineBefore next w → IsCharBoundary text (length (codes "#!" ++ w))
-    by_line w next whole line = subst (λ xs. IsCharBoundary xs (length (codes "#!" ++ w))) (append_assoc (codes "#!") w next ∙ sym whole) (seam (codes "#!" ++ w) next (small line))
+    by_line : (w next : List ℕ) → text ≡ codes "#!" ++ (w ++ next) → IsLineBefore next w
+        → IsCharBoundary text (length (codes "#!" ++ w))
+    by_line w next whole line =
+        subst (λ xs. IsCharBoundary xs (length (codes "#!" ++ w))) (append_assoc (codes "#!") w next ∙ sym whole)
+        (seam (codes "#!" ++ w) next (small line))
       where
         small : IsLineBefore next w → 0 < length next → get_or next 0 0 < 128
         small w0 left = grind (arith, common_steps, eqb-true, and_parts)

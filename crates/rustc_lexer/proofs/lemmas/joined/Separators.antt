@@ -1,6 +1,10 @@
--- A text whose tokens are closed keeps them before white space, and white space keeps its token before any other character.
+-- A text whose tokens are closed keeps them before white space, and white space keeps its token before any other
+-- character.
 use Rattle.std.proofs.lemmas.Grind.{common_steps}
-use Rattle.std.proofs.Common.{◌⊎◌, inl, inr, ◌≡◌, ℕ, ◌+◌, ◌^◌, ◌<◌, Bool, true, false, true≢false, List, [], ◌∷◌, ◌++◌, length, refl, sym, ap, ◌∙◌, subst, arith, append_assoc, length-append, chars, IsUtf8}
+use Rattle.std.proofs.Common.{
+    ◌⊎◌, inl, inr, ◌≡◌, ℕ, ◌+◌, ◌^◌, ◌<◌, Bool, true, false, true≢false, List, [], ◌∷◌, ◌++◌, length, refl, sym, ap,
+    ◌∙◌, subst, arith, append_assoc, length-append, chars, IsUtf8
+}
 use Rattle.std.proofs.Math.Seq.{drop-append_seam, take-append_seam}
 use Rattle.std.specs.List.{list_all}
 use Rattle.std.proofs.lemmas.{List.{append-nil}, Str.{IsUtf8-append, chars-append, chars-encodes}}
@@ -8,12 +12,17 @@ use lib.Utf8.{encode, scalars}
 use Rattle.std.specs.Str.{encode_utf8_all}
 use Rattle.rustc_lexer.specs.{Edition, Token, TokenKind, Whitespace}
 use Rattle.rustc_lexer.specs.Classes.{AreAll, IsText, NextIs, NextIsNot, bytes, is_whitespace}
-use Rattle.rustc_lexer.specs.Joined.{AreWellFormed, IsSeparated, MayTouch, RunsOn, is_malformed, AreInseparable, WhiteSpaceSeparates, last_takes_in, takes_in}
+use Rattle.rustc_lexer.specs.Joined.{
+    AreWellFormed, IsSeparated, MayTouch, RunsOn, is_malformed, AreInseparable, WhiteSpaceSeparates, last_takes_in,
+    takes_in
+}
 use Rattle.rustc_lexer.specs.Partition.{tokens_by}
 use Rattle.rustc_lexer.specs.Language as the
 use Rattle.rustc_lexer.specs.Language.{IsTokenBefore}
 use Rattle.rustc_lexer.specs.LanguageText as grammar
-use Rattle.rustc_lexer.specs.LanguageText.{AreTokens, IsTokenIn, Mode, kept, lexed_since, mode_after, mode_edition, part, year}
+use Rattle.rustc_lexer.specs.LanguageText.{
+    AreTokens, IsTokenIn, Mode, kept, lexed_since, mode_after, mode_edition, part, year
+}
 use Rattle.rustc_lexer.specs.{laws.Choice.{by_symbol}, means.Scan.{next_is}}
 use Rattle.std.proofs.lemmas.Bool.{and_parts, not-true}
 use Rattle.rustc_lexer.specs.laws.{Cuts.{tokens-nil}, LanguageFront.{empty-text}, LanguageIn.{oldest}}
@@ -27,12 +36,16 @@ data Are (edition : Edition) : List ℕ → List Token → Type 0 where
   one : {kind : TokenKind} {c : ℕ} {w next : List ℕ} {tokens : List Token} → IsTokenIn edition next kind (c ∷ w)
       → Are edition next tokens → Are edition (c ∷ w ++ next) (record { kind = kind; len = bytes (c ∷ w) } ∷ tokens)
 
-of_part : {mode : Mode} {cs : List ℕ} {tokens : List Token} → AreTokens mode cs tokens → (edition : Edition) → mode ≡ part edition → Are edition cs tokens
+of_part : {mode : Mode} {cs : List ℕ} {tokens : List Token} → AreTokens mode cs tokens → (edition : Edition)
+    → mode ≡ part edition → Are edition cs tokens
 of_part (grammar.nothing) edition e = none
-of_part (grammar.something {mode} {kind} {c} {w} {next} p free rest) edition e = one (subst (λ (m : Mode). IsTokenIn (mode_edition m) next kind (c ∷ w)) e p) (of_part rest edition (ap (λ (m : Mode). mode_after m kind) e))
+of_part (grammar.something {mode} {kind} {c} {w} {next} p free rest) edition e =
+    one (subst (λ (m : Mode). IsTokenIn (mode_edition m) next kind (c ∷ w)) e p)
+    (of_part rest edition (ap (λ (m : Mode). mode_after m kind) e))
 of_part (grammar.frontmatter_first body is_opening ends rest) edition e = absurd (cc e)
 
-to_part : {edition : Edition} {cs : List ℕ} {tokens : List Token} → Are edition cs tokens → AreTokens (part edition) cs tokens
+to_part : {edition : Edition} {cs : List ℕ} {tokens : List Token} → Are edition cs tokens
+    → AreTokens (part edition) cs tokens
 to_part none = grammar.nothing
 to_part (one p rest) = grammar.something p (λ source. absurd (true≢false (sym source))) (to_part rest)
 
@@ -45,11 +58,13 @@ is_space Whitespace = true
 is_space kind = false
 
 -- the text of its token
-space-text : {next : List ℕ} {kind : TokenKind} {w : List ℕ} → IsTokenBefore next kind w → kind ≡ Whitespace → AreAll is_whitespace w
+space-text : {next : List ℕ} {kind : TokenKind} {w : List ℕ} → IsTokenBefore next kind w → kind ≡ Whitespace
+    → AreAll is_whitespace w
 unfolding is_space
 space-text w0 w1 = grind (arith, common_steps, is_space, not-true, by_symbol)
 
-space-text-in : {edition : Edition} {next : List ℕ} {kind : TokenKind} {w : List ℕ} → IsTokenIn edition next kind w → kind ≡ Whitespace → AreAll is_whitespace w
+space-text-in : {edition : Edition} {next : List ℕ} {kind : TokenKind} {w : List ℕ} → IsTokenIn edition next kind w
+    → kind ≡ Whitespace → AreAll is_whitespace w
 space-text-in w0 w1 = grind (arith, common_steps, space-text)
 
 kind-goes : (kind : TokenKind) (after : List ℕ) → NextIsNot (takes_in kind) after → Goes kind [] after
@@ -62,34 +77,47 @@ kind-space kind w1 = grind (arith, common_steps)
 
 -- white space that the last token does not take in, or past white space all else
 abbrev Parts : List Token → List ℕ → Type 0
-Parts tokens after = (NextIs is_whitespace after × NextIsNot (last_takes_in tokens) after) ⊎ ((last_takes_in tokens 10 ≡ true) × NextIsNot is_whitespace after)
+Parts tokens after = (NextIs is_whitespace after × NextIsNot (last_takes_in tokens) after)
+    ⊎ ((last_takes_in tokens 10 ≡ true) × NextIsNot is_whitespace after)
 
 white-first : (c : ℕ) (w s : List ℕ) → AreAll is_whitespace (c ∷ w) → Changes (c ∷ w) (c ∷ w ++ s)
-white-first c w s all = let white : is_whitespace c ≡ true = (and_parts (is_whitespace c) (list_all is_whitespace w) all).0 in changed (rw white refl) white
+white-first c w s all = let white : is_whitespace c ≡ true =
+    (and_parts (is_whitespace c) (list_all is_whitespace w) all).0 in changed (rw white refl) white
 
-changes : {edition : Edition} {cs : List ℕ} {tokens : List Token} → Are edition cs tokens → (after : List ℕ) → Parts tokens after → Changes cs (cs ++ after)
-changes {cs = cs} are after (inl e) = subst (λ (xs : List ℕ). Changes xs (cs ++ after)) (append-nil cs) (changes-past cs (changed refl e.0))
+changes : {edition : Edition} {cs : List ℕ} {tokens : List Token} → Are edition cs tokens → (after : List ℕ)
+    → Parts tokens after → Changes cs (cs ++ after)
+changes {cs = cs} are after (inl e) =
+    subst (λ (xs : List ℕ). Changes xs (cs ++ after)) (append-nil cs) (changes-past cs (changed refl e.0))
 changes none after (inr e) = absurd (true≢false (sym e.0))
-changes (one {kind} {c} {w} p none) after (inr e) = rw (append-nil w) (white-first c w after (space-text-in p (kind-space kind e.0)))
+changes (one {kind} {c} {w} p none) after (inr e) =
+    rw (append-nil w) (white-first c w after (space-text-in p (kind-space kind e.0)))
 changes (one {c = c} {w = w} p (one {c = d} {w = v} {next = next} q rest)) after (inr e) =
-    subst (Changes (c ∷ w ++ (d ∷ v ++ next))) (sym (append_assoc (c ∷ w) (d ∷ v ++ next) after)) (changes-past (c ∷ w) (changes (one q rest) after (inr e)))
+    subst (Changes (c ∷ w ++ (d ∷ v ++ next))) (sym (append_assoc (c ∷ w) (d ∷ v ++ next) after))
+        (changes-past (c ∷ w) (changes (one q rest) after (inr e)))
 
-stays : {edition : Edition} {kind : TokenKind} {c : ℕ} {w next : List ℕ} {tokens : List Token} → IsTokenIn edition next kind (c ∷ w)
-    → Are edition next tokens → is_malformed kind ≡ false → (after : List ℕ) → Parts (record { kind = kind; len = bytes (c ∷ w) } ∷ tokens) after
+stays : {edition : Edition} {kind : TokenKind} {c : ℕ} {w next : List ℕ} {tokens : List Token}
+    → IsTokenIn edition next kind (c ∷ w)
+    → Are edition next tokens → is_malformed kind ≡ false → (after : List ℕ)
+        → Parts (record { kind = kind; len = bytes (c ∷ w) } ∷ tokens) after
     → IsTokenIn edition (next ++ after) kind (c ∷ w)
-stays {kind = kind} p none good after (inl e) = in-apart p (omega arith) good after (changed refl e.0) (kind-goes kind after e.1)
+stays {kind = kind} p none good after (inl e) =
+    in-apart p (omega arith) good after (changed refl e.0) (kind-goes kind after e.1)
 stays {edition} {kind} {c} {w} p none good after (inr e) = let is = kind-space kind e.0 in
-    subst (λ (k : TokenKind). IsTokenIn edition after k (c ∷ w)) (sym is) (kept (oldest edition) (the.whitespace (space-text-in p is) e.1))
+    subst (λ (k : TokenKind). IsTokenIn edition after k (c ∷ w)) (sym is)
+        (kept (oldest edition) (the.whitespace (space-text-in p is) e.1))
 stays {kind = kind} p (one {c = d} {w = v} {next = next} q rest) good after e =
-    in-apart p (omega arith) good ((d ∷ v ++ next) ++ after) (changes (one q rest) after e) (goes-behind kind d (v ++ next) ((v ++ next) ++ after))
+    in-apart p (omega arith) good ((d ∷ v ++ next) ++ after) (changes (one q rest) after e)
+        (goes-behind kind d (v ++ next) ((v ++ next) ++ after))
 
 one-more : {edition : Edition} {kind : TokenKind} {c : ℕ} {w : List ℕ} (next after : List ℕ) {us : List Token}
     → IsTokenIn edition (next ++ after) kind (c ∷ w) → Are edition (next ++ after) us
     → Are edition ((c ∷ w ++ next) ++ after) (record { kind = kind; len = bytes (c ∷ w) } ∷ us)
-one-more {edition} {kind} {c} {w} next after {us} p rest = subst (λ (xs : List ℕ). Are edition xs (record { kind = kind; len = bytes (c ∷ w) } ∷ us))
+one-more {edition} {kind} {c} {w} next after {us} p rest =
+    subst (λ (xs : List ℕ). Are edition xs (record { kind = kind; len = bytes (c ∷ w) } ∷ us))
     (sym (append_assoc (c ∷ w) next after)) (one p rest)
 
-keeps : {edition : Edition} {cs : List ℕ} {tokens : List Token} → Are edition cs tokens → AreWellFormed tokens → {after : List ℕ} {others : List Token}
+keeps : {edition : Edition} {cs : List ℕ} {tokens : List Token} → Are edition cs tokens → AreWellFormed tokens
+    → {after : List ℕ} {others : List Token}
     → Are edition after others → Parts tokens after → Are edition (cs ++ after) (tokens ++ others)
 keeps none closed more e = more
 keeps (one p none) closed {after} more e = one-more [] after (stays p none closed.0 after e) more
@@ -99,7 +127,10 @@ keeps (one p (one {c = c} {w = w} {next = next} q rest)) closed {after} more e =
 -- ---- texts
 
 rest-is : (text after : List ℕ) → IsText (text ++ after) → IsUtf8 text → IsText after
-rest-is text after is utf8 = subst IsText (drop-append_seam text after) (left_text (text ++ after) (length text) is (omega (arith, length-append text after)) (subst IsUtf8 (sym (take-append_seam text after)) utf8))
+rest-is text after is utf8 =
+    subst IsText (drop-append_seam text after)
+    (left_text (text ++ after) (length text) is (omega (arith, length-append text after))
+    (subst IsUtf8 (sym (take-append_seam text after)) utf8))
 
 module _ (edition : Edition) where
   abbrev pub Tokens : List ℕ → List Token
@@ -108,21 +139,27 @@ module _ (edition : Edition) where
   are : (text : List ℕ) → IsText text → Are edition (chars text) (Tokens text)
   are text is = of_part (tokens-are text (part edition) is) edition refl
 
-  read : (text : List ℕ) → IsText text → {cs : List ℕ} {tokens : List Token} → Are edition cs tokens → chars text ≡ cs → Tokens text ≡ tokens
+  read : (text : List ℕ) → IsText text → {cs : List ℕ} {tokens : List Token} → Are edition cs tokens → chars text ≡ cs
+      → Tokens text ≡ tokens
   read text is tokens e = tokens-read (to_part tokens) text is e
 
-  touches : (text after : List ℕ) → IsText text → IsText (text ++ after) → AreWellFormed (Tokens text) → Parts (Tokens text) (chars after)
+  touches : (text after : List ℕ) → IsText text → IsText (text ++ after) → AreWellFormed (Tokens text)
+      → Parts (Tokens text) (chars after)
       → MayTouch edition text after
-  touches text after is whole closed e = read (text ++ after) whole (keeps (are text is) closed (are after (rest-is text after whole is.utf8)) e)
+  touches text after is whole closed e =
+      read (text ++ after) whole (keeps (are text is) closed (are after (rest-is text after whole is.utf8)) e)
       (chars-append text after is.utf8)
 
   -- all of a text that is white space is one token
-  space-tokens : (s : List ℕ) → IsText s → 0 < length s → AreAll is_whitespace (chars s) → Tokens s ≡ record { kind = Whitespace; len = bytes (chars s) } ∷ []
+  space-tokens : (s : List ℕ) → IsText s → 0 < length s → AreAll is_whitespace (chars s)
+      → Tokens s ≡ record { kind = Whitespace; len = bytes (chars s) } ∷ []
   space-tokens s is some white = by_chars (chars s) refl white
     where
-      by_chars : (cs : List ℕ) → chars s ≡ cs → AreAll is_whitespace cs → Tokens s ≡ record { kind = Whitespace; len = bytes (chars s) } ∷ []
+      by_chars : (cs : List ℕ) → chars s ≡ cs → AreAll is_whitespace cs
+          → Tokens s ≡ record { kind = Whitespace; len = bytes (chars s) } ∷ []
       by_chars [] e all = absurd (omega (arith, some, ap length (empty-text s is e)))
-      by_chars (c ∷ w) e all = rw e (read s is (one (kept (oldest edition) (the.whitespace all refl)) none) (e ∙ sym (append-nil (c ∷ w))))
+      by_chars (c ∷ w) e all =
+          rw e (read s is (one (kept (oldest edition) (the.whitespace all refl)) none) (e ∙ sym (append-nil (c ∷ w))))
 
   space-touches : (s piece : List ℕ) → IsText (s ++ piece) → IsText s → 0 < length s → AreAll is_whitespace (chars s)
       → NextIsNot is_whitespace (chars piece) → MayTouch edition s piece
@@ -137,13 +174,15 @@ pub space-encoded : encode_utf8_all (32 ∷ []) ≡ 32 ∷ []
 unfolding encode
 space-encoded = refl
 
-begins : (edition : Edition) (space text : List ℕ) → IsText space → IsText (space ++ text) → AreAll is_whitespace (chars space) → NextIsNot is_whitespace (chars text) → MayTouch edition space text
+begins : (edition : Edition) (space text : List ℕ) → IsText space → IsText (space ++ text)
+    → AreAll is_whitespace (chars space) → NextIsNot is_whitespace (chars text) → MayTouch edition space text
 begins edition space text w3 w4 w5 w6 = grind (arith, common_steps, tokens-nil, space-touches)
 
 pub white_space_separates : (edition : Edition) → WhiteSpaceSeparates edition
 white_space_separates edition = grind (arith, common_steps, touches, begins)
 
-module _ (edition : Edition) (text piece : List ℕ) (is : IsText text) (utf8 : IsUtf8 piece) (room : length text + (length piece + 1) < 2 ^ 32) (closed : AreWellFormed (Tokens edition text)) where
+module _ (edition : Edition) (text piece : List ℕ) (is : IsText text) (utf8 : IsUtf8 piece)
+    (room : length text + (length piece + 1) < 2 ^ 32) (closed : AreWellFormed (Tokens edition text)) where
   -- a separator of one character
   parts : (d : ℕ) → scalars (d ∷ []) ≡ true → encode_utf8_all (d ∷ []) ≡ d ∷ [] → is_whitespace d ≡ true
       → last_takes_in (Tokens edition text) d ≡ false → NextIsNot is_whitespace (chars piece)
@@ -151,14 +190,20 @@ module _ (edition : Edition) (text piece : List ℕ) (is : IsText text) (utf8 : 
   parts d scalar encoded white out stop =
       let its : IsUtf8 (d ∷ []) = (d ∷ [], (scalar, encoded)) in
       let shown : chars (d ∷ []) ≡ d ∷ [] = ap chars (sym encoded) ∙ chars-encodes (d ∷ []) scalar in
-      let past : chars (d ∷ piece) ≡ d ∷ chars piece = chars-append (d ∷ []) piece its ∙ ap (λ (cs : List ℕ). cs ++ chars piece) shown in
+      let past : chars (d ∷ piece) ≡ d ∷ chars piece = chars-append (d ∷ []) piece its
+          ∙ ap (λ (cs : List ℕ). cs ++ chars piece) shown in
       let longer : IsUtf8 (d ∷ piece) = IsUtf8-append (d ∷ []) piece its utf8 in
       let left : Tokens edition (text ++ (d ∷ piece)) ≡ Tokens edition text ++ Tokens edition (d ∷ piece) =
-      touches edition text (d ∷ piece) is record { utf8 = IsUtf8-append text (d ∷ piece) is.utf8 longer; fits = omega (arith, length-append text (d ∷ piece)) }
-      closed (inl (ap (next_is is_whitespace) past ∙ white, ap (next_is (last_takes_in (Tokens edition text))) past ∙ out)) in
+      touches edition text (d ∷ piece) is record { utf8 = IsUtf8-append text (d ∷ piece) is.utf8 longer;
+          fits = omega (arith, length-append text (d ∷ piece)) }
+      closed (inl (ap (next_is is_whitespace) past ∙ white, ap (next_is (last_takes_in (Tokens edition text))) past
+          ∙ out)) in
       let right : Tokens edition (d ∷ piece) ≡ Tokens edition (d ∷ []) ++ Tokens edition piece =
-      space-touches edition (d ∷ []) piece record { utf8 = longer; fits = omega arith } record { utf8 = its; fits = omega arith } (omega arith) (subst (AreAll is_whitespace) (sym shown) (rw white refl)) stop in
+      space-touches edition (d ∷ []) piece record { utf8 = longer; fits = omega arith } record
+          { utf8 = its; fits = omega arith } (omega arith) (subst (AreAll is_whitespace) (sym shown) (rw white refl))
+          stop in
       left ∙ ap (λ (us : List Token). Tokens edition text ++ us) right
 
   pub runs-on : AreInseparable edition text piece → RunsOn (Tokens edition text) (chars piece)
-  runs-on apart = grind (arith, common_steps, touches, IsUtf8-append, length-append, parts, newline-encoded, space-encoded)
+  runs-on apart = grind (arith, common_steps, touches, IsUtf8-append, length-append, parts, newline-encoded,
+      space-encoded)

@@ -1,19 +1,31 @@
--- A text that grows at its end: what comes past a bound that is sure decides whether its tokens stay, and that bound moves on.
-use Rattle.std.proofs.Common.{◌≡◌, ℕ, zero, suc, ◌+◌, ◌-◌, ◌^◌, ◌<◌, ◌≤◌, true, List, ◌++◌, codes, length, take, drop, refl, sym, ap, ◌∙◌, subst, arith, length-append, length-drop, length-take, length-take-le, take-append-drop, drop-drop, take_all, chars, IsUtf8, IsCharBoundary}
+-- A text that grows at its end: what comes past a bound that is sure decides whether its tokens stay, and that bound
+-- moves on.
+use Rattle.std.proofs.Common.{
+    ◌≡◌, ℕ, zero, suc, ◌+◌, ◌-◌, ◌^◌, ◌<◌, ◌≤◌, true, List, ◌++◌, codes, length, take, drop, refl, sym, ap, ◌∙◌, subst,
+    arith, length-append, length-drop, length-take, length-take-le, take-append-drop, drop-drop, take_all, chars,
+    IsUtf8, IsCharBoundary
+}
 use Rattle.std.proofs.lemmas.{Grind.{common_steps}, List.{drop-append-le, take_rest}}
-use Rattle.std.proofs.lemmas.Str.{IsCharBoundary-from_drop, IsUtf8-append, IsUtf8-between, IsUtf8-drop, IsUtf8-take, chars-append}
+use Rattle.std.proofs.lemmas.Str.{
+    IsCharBoundary-from_drop, IsUtf8-append, IsUtf8-between, IsUtf8-drop, IsUtf8-take, chars-append
+}
 use Rattle.rustc_lexer.specs.{Edition, Token, Answers.{first_in}, Classes.{IsText}}
 use Rattle.rustc_lexer.specs.Joined as the
 use Rattle.rustc_lexer.specs.Joined.{IsJoined, MayTouch, TailDecides}
 use Rattle.rustc_lexer.specs.{Locality.{AgreePast, IsGrammar, IsSettled, has_two}, Partition.{bound, tokens_by}}
 use Rattle.rustc_lexer.specs.laws.{Cuts.{IsCutAt, at_bound, tokens_local}, Edition.{edition_grammar}}
 use Rattle.rustc_lexer.specs.means.Joined.{IsSure}
-use Rattle.rustc_lexer.proofs.lemmas.edits.FrontAndBack.{bound-same, drop_of-take, has_two-agree, has_two-before, has_two-count, has_two-intro, has_two-same}
-use Rattle.rustc_lexer.proofs.lemmas.{edits.Bounds.{bound-last}, edits.KeptFront.{bound-shift}, heads.ByTokens.{bound-append}}
+use Rattle.rustc_lexer.proofs.lemmas.edits.FrontAndBack.{
+    bound-same, drop_of-take, has_two-agree, has_two-before, has_two-count, has_two-intro, has_two-same
+}
+use Rattle.rustc_lexer.proofs.lemmas.{
+    edits.Bounds.{bound-last}, edits.KeptFront.{bound-shift}, heads.ByTokens.{bound-append}
+}
 use Rattle.rustc_lexer.proofs.lemmas.joined.Joined.{IsSeamFrom, sure_touch, sure_stays}
 
 pub sure_start : (edition : Edition) (text : List ℕ) → IsSure (first_in edition) text 0
-sure_start edition text = record { number = 0; few = omega arith; offset_is = refl; two = λ some. absurd (omega (arith, some)) }
+sure_start edition text =
+    record { number = 0; few = omega arith; offset_is = refl; two = λ some. absurd (omega (arith, some)) }
 
 module _ (edition : Edition) where
   abbrev law : IsGrammar (first_in edition)
@@ -25,12 +37,15 @@ module _ (edition : Edition) where
   pub sure_place : (text : List ℕ) (from : ℕ) → IsText text → IsSure first text from → IsCharBoundary text from
   sure_place text from is at =
       let cut : IsCutAt first text (tokens_by first text) at.number = at_bound law at.number text is in
-      subst (IsCharBoundary text) at.offset_is (IsCharBoundary-from_drop text (bound (tokens_by first text) at.number) cut.inside cut.past.utf8)
+      subst (IsCharBoundary text) at.offset_is
+          (IsCharBoundary-from_drop text (bound (tokens_by first text) at.number) cut.inside cut.past.utf8)
 
   -- two characters past an offset stay there
-  two_more : (text more : List ℕ) (from : ℕ) → IsText text → IsCharBoundary text from → has_two text from (length text) ≡ true → has_two (text ++ more) from (length (text ++ more)) ≡ true
+  two_more : (text more : List ℕ) (from : ℕ) → IsText text → IsCharBoundary text from
+      → has_two text from (length text) ≡ true → has_two (text ++ more) from (length (text ++ more)) ≡ true
   two_more text more from is cut two =
-      let enough : 2 ≤ length (chars (drop from text)) = rw (take_rest text from) at (has_two-count text from (length text) two) in
+      let enough : 2 ≤ length (chars (drop from text)) =
+          rw (take_rest text from) at (has_two-count text from (length text) two) in
       has_two-intro (text ++ more) from (length (text ++ more)) (rw (
         take_rest (text ++ more) from,
         drop-append-le from text more cut.0,
@@ -38,36 +53,50 @@ module _ (edition : Edition) where
       ) (omega (arith, length-append (chars (drop from text)) (chars more))))
 
   -- what is sure stays so where the tokens up to there stay
-  sure_same : {text other : List ℕ} {from : ℕ} (at : IsSure first text from) → take at.number (tokens_by first other) ≡ take at.number (tokens_by first text)
+  sure_same : {text other : List ℕ} {from : ℕ} (at : IsSure first text from) → take at.number (tokens_by first other) ≡
+      take at.number (tokens_by first text)
       → (0 < from → has_two other from (length other) ≡ true) → IsSure first other from
   sure_same {text} {other} at same two = record {
     number = at.number;
-    few = (let few = at.few in omega (arith, ap length same, length-take at.number (tokens_by first other), length-take at.number (tokens_by first text)));
+    few = (let few = at.few in
+        omega (arith, ap length same, length-take at.number (tokens_by first other),
+        length-take at.number (tokens_by first text)));
     offset_is = bound-same at.number (tokens_by first other) (tokens_by first text) same ∙ at.offset_is;
     two = two;
   }
 
   -- what is sure in a text is so in one that ends before, but two characters later
-  pub sure_cut : (text : List ℕ) (from at : ℕ) → IsText text → IsCharBoundary text at → IsSure first text from → has_two text from at ≡ true → IsSure first (take at text) from
+  pub sure_cut : (text : List ℕ) (from at : ℕ) → IsText text → IsCharBoundary text at → IsSure first text from
+      → has_two text from at ≡ true → IsSure first (take at text) from
   sure_cut text from at is cut here two =
       let k : ℕ = here.number in
       let left : List ℕ = take at text in
       let size : length left ≡ at = length-take-le at text cut.0 in
-      let left_is : IsText left = record { utf8 = IsUtf8-take text at is.utf8 cut; fits = omega (arith, size, cut.0, is.fits) } in
+      let left_is : IsText left =
+          record { utf8 = IsUtf8-take text at is.utf8 cut; fits = omega (arith, size, cut.0, is.fits) } in
       let short : take at left ≡ take at text = take_all at left (omega (arith, size)) in
-      let middle : IsUtf8 (take (at - from) (drop from text)) = IsUtf8-between text from at is.utf8 (omega (arith, has_two-before text from at two)) (sure_place text from is here) cut in
-      let past : AgreePast (bound (tokens_by first text) k) text left = subst (λ (p : ℕ). AgreePast p text left) (sym here.offset_is) (has_two-agree text left from at middle short two) in
-      let same : take k (tokens_by first left) ≡ take k (tokens_by first text) = tokens_local law k text left is left_is here.few past in
-      sure_same here same (λ some. subst (λ (n : ℕ). has_two left from n ≡ true) (sym size) (has_two-same left text from at short ∙ two))
+      let middle : IsUtf8 (take (at - from) (drop from text)) =
+          IsUtf8-between text from at is.utf8 (omega (arith, has_two-before text from at two))
+          (sure_place text from is here) cut in
+      let past : AgreePast (bound (tokens_by first text) k) text left =
+          subst (λ (p : ℕ). AgreePast p text left) (sym here.offset_is)
+          (has_two-agree text left from at middle short two) in
+      let same : take k (tokens_by first left) ≡ take k (tokens_by first text) =
+          tokens_local law k text left is left_is here.few past in
+      sure_same here same
+          (λ some. subst (λ (n : ℕ). has_two left from n ≡ true) (sym size)
+          (has_two-same left text from at short ∙ two))
 
   -- the bound of the end of a text is one of the text
-  pub sure_on : (text : List ℕ) (from more : ℕ) → IsText text → IsSure first text from → IsSettled (drop from text) (tokens_by first (drop from text)) more → IsSure first text (from + more)
+  pub sure_on : (text : List ℕ) (from more : ℕ) → IsText text → IsSure first text from
+      → IsSettled (drop from text) (tokens_by first (drop from text)) more → IsSure first text (from + more)
   sure_on text from more is at settled =
       let k : ℕ = at.number in
       let j : ℕ = settled.at_bound.0 in
       let tokens : List Token = tokens_by first text in
       let cut : IsCutAt first text tokens k = at_bound law k text is in
-      let rest : drop k tokens ≡ tokens_by first (drop from text) = cut.rest ∙ ap (λ (p : ℕ). tokens_by first (drop p text)) at.offset_is in
+      let rest : drop k tokens ≡ tokens_by first (drop from text) =
+          cut.rest ∙ ap (λ (p : ℕ). tokens_by first (drop p text)) at.offset_is in
       let few : j ≤ length (tokens_by first (drop from text)) = settled.at_bound.1 in
       let place : bound (drop k tokens) j ≡ more = ap (λ (ts : List Token). bound ts j) rest ∙ settled.at_bound.2 in
       record {
@@ -88,24 +117,30 @@ module _ (edition : Edition) where
 
   -- ---- what comes past a bound decides
 
-  pub tail_decides : (text : List ℕ) (at : ℕ) → IsText text → IsCharBoundary text at → TailDecides edition (take at text) (drop at text)
+  pub tail_decides : (text : List ℕ) (at : ℕ) → IsText text → IsCharBoundary text at
+      → TailDecides edition (take at text) (drop at text)
   tail_decides text at is cut =
       let left : List ℕ = take at text in
-      let left_is : IsText left = record { utf8 = IsUtf8-take text at is.utf8 cut; fits = omega (arith, length-take at text, is.fits) } in
+      let left_is : IsText left =
+          record { utf8 = IsUtf8-take text at is.utf8 cut; fits = omega (arith, length-take at text, is.fits) } in
       λ k few two. (sure_touch law left (drop at text) (bound (tokens_by first left) k) left_is
       (rw (take-append-drop at text) is) record { number = k; few = few; offset_is = refl; two = λ some. two }).1
 
-  pub near : (text : List ℕ) (sure at : ℕ) → IsText text → IsCharBoundary text at → IsSure first (take at text) sure → IsSeamFrom edition text at sure
+  pub near : (text : List ℕ) (sure at : ℕ) → IsText text → IsCharBoundary text at → IsSure first (take at text) sure
+      → IsSeamFrom edition text at sure
   near text sure at is cut here =
       let left : List ℕ = take at text in
-      let left_is : IsText left = record { utf8 = IsUtf8-take text at is.utf8 cut; fits = omega (arith, length-take at text, is.fits) } in
+      let left_is : IsText left =
+          record { utf8 = IsUtf8-take text at is.utf8 cut; fits = omega (arith, length-take at text, is.fits) } in
       let split = sure_touch law left (drop at text) sure left_is (rw (take-append-drop at text) is) here in
       let few : sure ≤ at = omega (arith, split.0, length-take-le at text cut.0) in
-      let past : drop sure text ≡ drop sure left ++ drop at text = rw (take-append-drop at text) at (drop-append-le sure left (drop at text) split.0) in
+      let past : drop sure text ≡ drop sure left ++ drop at text =
+          rw (take-append-drop at text) at (drop-append-le sure left (drop at text) split.0) in
       record {
         inside = few;
         boundary = IsCharBoundary-from_drop text sure (omega (arith, cut.0))
-            (rw past (IsUtf8-append (drop sure left) (drop at text) (IsUtf8-drop left sure left_is.utf8 (sure_place left sure left_is here))
+            (rw past (IsUtf8-append (drop sure left) (drop at text)
+                (IsUtf8-drop left sure left_is.utf8 (sure_place left sure left_is here))
             (IsUtf8-drop text at is.utf8 cut)));
         touch = rw (drop_of-take sure at text) at split.1;
       }
@@ -113,11 +148,13 @@ module _ (edition : Edition) where
   -- ---- a text past a piece
 
   -- no other text is joined so
-  pub joined-only : {text piece one other : List ℕ} → IsJoined edition text piece one → IsJoined edition text piece other → other ≡ one
+  pub joined-only : {text piece one other : List ℕ} → IsJoined edition text piece one
+      → IsJoined edition text piece other → other ≡ one
   joined-only w0 w1 = grind (arith, common_steps)
 
   -- what was sure is so in the new text
-  grown_by : (text more : List ℕ) (from : ℕ) → IsText text → IsSure first text from → length text + length more < 2 ^ 32 → IsUtf8 (text ++ more)
+  grown_by : (text more : List ℕ) (from : ℕ) → IsText text → IsSure first text from → length text + length more < 2 ^ 32
+      → IsUtf8 (text ++ more)
       → IsText (text ++ more) × IsSure first (text ++ more) from
   grown_by text more from is at room utf8 =
       let whole : IsText (text ++ more) = record { utf8 = utf8; fits = omega (arith, length-append text more) } in (
@@ -126,27 +163,35 @@ module _ (edition : Edition) where
             (λ some. two_more text more from is (sure_place text from is at) (at.two some)),
       )
 
-  pub grown : {text piece new : List ℕ} (from : ℕ) → IsJoined edition text piece new → IsText text → IsSure first text from
+  pub grown : {text piece new : List ℕ} (from : ℕ) → IsJoined edition text piece new → IsText text
+      → IsSure first text from
       → length text + (length piece + 1) < 2 ^ 32 → IsUtf8 new → IsText new × IsSure first new from
   grown {text} {piece} from (the.touching touch) is at room utf8 = grown_by text piece from is at (omega arith) utf8
-  grown {text} {piece} from (the.spaced apart parted) is at room utf8 = grown_by text (codes " " ++ piece) from is at (omega arith) utf8
-  grown {text} {piece} from (the.on_a_line apart spaced parted) is at room utf8 = grown_by text (codes "\n" ++ piece) from is at (omega arith) utf8
+  grown {text} {piece} from (the.spaced apart parted) is at room utf8 =
+      grown_by text (codes " " ++ piece) from is at (omega arith) utf8
+  grown {text} {piece} from (the.on_a_line apart spaced parted) is at room utf8 =
+      grown_by text (codes "\n" ++ piece) from is at (omega arith) utf8
 
   -- the end of the text is sure in the new one if two characters follow it
-  sure_end : (text more : List ℕ) (others : List Token) → IsText text → tokens_by first (text ++ more) ≡ tokens_by first text ++ others
+  sure_end : (text more : List ℕ) (others : List Token) → IsText text → tokens_by first (text ++ more) ≡
+      tokens_by first text ++ others
       → has_two (text ++ more) (length text) (length (text ++ more)) ≡ true → IsSure first (text ++ more) (length text)
   sure_end text more others is e two = record {
     number = length (tokens_by first text);
     few = omega (arith, ap length e, length-append (tokens_by first text) others);
-    offset_is = ap (λ (ts : List Token). bound ts (length (tokens_by first text))) e ∙ (bound-append (tokens_by first text) others ∙ bound-last law text is);
+    offset_is = ap (λ (ts : List Token). bound ts (length (tokens_by first text))) e
+        ∙ (bound-append (tokens_by first text) others ∙ bound-last law text is);
     two = λ some. two;
   }
 
-  joined_end : {text piece new : List ℕ} → IsJoined edition text piece new → IsText text → has_two new (length text) (length new) ≡ true → IsSure first new (length text)
+  joined_end : {text piece new : List ℕ} → IsJoined edition text piece new → IsText text
+      → has_two new (length text) (length new) ≡ true → IsSure first new (length text)
   joined_end {text} {piece} (the.touching touch) is two = sure_end text piece _ is touch two
   joined_end {text} {piece} (the.spaced apart parted) is two = sure_end text (codes " " ++ piece) _ is parted two
-  joined_end {text} {piece} (the.on_a_line apart spaced parted) is two = sure_end text (codes "\n" ++ piece) _ is parted two
+  joined_end {text} {piece} (the.on_a_line apart spaced parted) is two =
+      sure_end text (codes "\n" ++ piece) _ is parted two
 
-  pub sure_joined : {text piece new seen : List ℕ} {at : ℕ} → IsJoined edition text piece new → IsText text → seen ≡ new → at ≡ length text
+  pub sure_joined : {text piece new seen : List ℕ} {at : ℕ} → IsJoined edition text piece new → IsText text → seen ≡ new
+      → at ≡ length text
       → has_two seen at (length seen) ≡ true → IsSure first seen at
   sure_joined joined is e f two = rw (e, f) (joined_end joined is (rw (e, f) at two))

@@ -1,6 +1,8 @@
 -- What a cursor takes, which is what its iterator takes, longer by the bytes that are pending.
 use Rattle.std.proofs.lemmas.Grind.{common_steps}
-use Rattle.std.proofs.Common.{◌≡◌, ◌≢◌, ℕ, ◌+◌, ◌<◌, ◌≤◌, ◌^◌, ◌==◌, List, [], length, length-drop, drop, false, refl, sym, ap, subst, ◌∙◌, arith}
+use Rattle.std.proofs.Common.{
+    ◌≡◌, ◌≢◌, ℕ, ◌+◌, ◌<◌, ◌≤◌, ◌^◌, ◌==◌, List, [], length, length-drop, drop, false, refl, sym, ap, subst, ◌∙◌, arith
+}
 use Rattle.std.specs.{Prelude.{All}, Str.{IsCharBoundary}}
 use Rattle.std.proofs.lemmas.{Bool.{ne_eqb}, List.Elements.{All-head}, Str.{IsUtf8-drop}}
 use Rattle.rustc_lexer.specs.{FrontmatterAllowed, Token, TokenKind, Eof, LanguageText.{Mode, mode_in, newest}}
@@ -26,17 +28,22 @@ pub record Advances (s t : State) (token : Token) : Type 0 where
 nothing_left : (mode : Mode) (text : List ℕ) → IsText text → tokens_of mode text ≡ [] → text ≡ []
 nothing_left mode text w2 w3 = grind (arith, common_steps, tokens-cons)
 
-module _ (pending : ℕ) (tokens : State) (is : IsCursor pending tokens) (s : State) (view : state pending tokens.rest tokens.mode ≡ s) where
+module _ (pending : ℕ) (tokens : State) (is : IsCursor pending tokens) (s : State)
+    (view : state pending tokens.rest tokens.mode ≡ s) where
   -- past some of the text that is left, with at most these bytes pending as well
-  pub passed : (rest : List ℕ) → rest ≡ s.rest → (len left : ℕ) → IsCharBoundary rest len → left ≤ pending + len → (t : State) → t ≡ record tokens { rest = drop len tokens.rest } → IsCursor left t
+  pub passed : (rest : List ℕ) → rest ≡ s.rest → (len left : ℕ) → IsCharBoundary rest len → left ≤ pending + len
+      → (t : State) → t ≡ record tokens { rest = drop len tokens.rest } → IsCursor left t
   passed rest offset len left boundary few t e = grind (arith, common_steps, length-drop, IsUtf8-drop)
 
   -- at the end of the text
   pub ends : tokens_left tokens ≡ [] → take_next s ≡ (record { kind = Eof; len = 0 }, s)
-  ends none = advance-end pending tokens.rest tokens.mode s view (ap (λ xs. length xs == 0) (nothing_left tokens.mode tokens.rest is.text none))
+  ends none = advance-end pending tokens.rest tokens.mode s view
+      (ap (λ xs. length xs == 0) (nothing_left tokens.mode tokens.rest is.text none))
 
   pub none_left : tokens_left tokens ≡ [] → (tokens_left s ≡ []) × (s.rest ≡ [])
-  none_left none = subst (λ (x : State). (tokens_left x ≡ []) × (x.rest ≡ [])) view (none, nothing_left tokens.mode tokens.rest is.text none)
+  none_left none =
+      subst (λ (x : State). (tokens_left x ≡ []) × (x.rest ≡ [])) view
+      (none, nothing_left tokens.mode tokens.rest is.text none)
 
   -- what the iterator takes, and the cursor
   module _ (taken : Token) (t : State) (takes : TakesToken tokens taken t) where
@@ -55,11 +62,13 @@ module _ (pending : ℕ) (tokens : State) (is : IsCursor pending tokens) (s : St
     more : (length tokens.rest == 0) ≡ false
     more = ne_eqb (length tokens.rest) 0 (λ none. omega (arith, some, none))
 
-    alone_is : ◌≡◌ {A = Token × State} (taken, t) (token_past tokens.pending first, past_token tokens.rest tokens.mode first)
+    alone_is : ◌≡◌ {A = Token × State} (taken, t)
+        (token_past tokens.pending first, past_token tokens.rest tokens.mode first)
     alone_is = sym takes.advances ∙ advance-some tokens.pending tokens.rest tokens.mode tokens refl more
 
     taken_is : taken ≡ first
-    taken_is = ap (λ (r : Token × State). r.0) alone_is ∙ (ap (λ n. token_past n first) is.alone ∙ token_past-zero first)
+    taken_is = ap (λ (r : Token × State). r.0) alone_is
+        ∙ (ap (λ n. token_past n first) is.alone ∙ token_past-zero first)
 
     next_is : t ≡ past_token tokens.rest tokens.mode first
     next_is = ap (λ (r : Token × State). r.1) alone_is
@@ -74,7 +83,8 @@ module _ (pending : ℕ) (tokens : State) (is : IsCursor pending tokens) (s : St
     state_is = ap (λ (x : State). state 0 x.rest x.mode) next_is ∙ sym (ap (λ (r : Token × State). r.1) whole)
 
     no_end : (token_past pending taken).kind ≢ Eof
-    no_end h = token_at-not_end tokens.mode tokens.rest is.text some (sym (ap (λ (k : Token). k.kind) taken_is) ∙ kind_past-end pending taken.kind h)
+    no_end h = token_at-not_end tokens.mode tokens.rest is.text some
+        (sym (ap (λ (k : Token). k.kind) taken_is) ∙ kind_past-end pending taken.kind h)
 
     takes_alone : TakesToken (state 0 tokens.rest tokens.mode) taken new
     takes_alone = grind (arith, common_steps, next_is)
@@ -86,7 +96,9 @@ module _ (pending : ℕ) (tokens : State) (is : IsCursor pending tokens) (s : St
     advances_alone none = grind (arith, common_steps, whole, token_past-zero, advances)
 
     pub suffix_within : HasSuffixWithin taken
-    suffix_within = (All-head HasSuffix taken (tokens_left t) (subst (All HasSuffix) takes.first (suffixes tokens.rest tokens.mode is.text))).0
+    suffix_within =
+        (All-head HasSuffix taken (tokens_left t)
+        (subst (All HasSuffix) takes.first (suffixes tokens.rest tokens.mode is.text))).0
 
     pub whole_fits : pending + taken.len < 2 ^ 32
     whole_fits = omega (arith, is.fits, takes.boundary.0)
@@ -95,5 +107,6 @@ module _ (pending : ℕ) (tokens : State) (is : IsCursor pending tokens) (s : St
     still_cursor left few = grind (arith, common_steps, length-drop, next_is, edition-after, IsUtf8-drop)
 
 -- a cursor at the start of a text
-pub at_start : (allowed : FrontmatterAllowed) (text : List ℕ) → IsText text → (s : State) → s ≡ state 0 text (mode_in allowed newest) → IsCursor 0 s
+pub at_start : (allowed : FrontmatterAllowed) (text : List ℕ) → IsText text → (s : State)
+    → s ≡ state 0 text (mode_in allowed newest) → IsCursor 0 s
 at_start allowed text is s e = grind (arith, common_steps)

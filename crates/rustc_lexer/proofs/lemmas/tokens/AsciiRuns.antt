@@ -1,8 +1,13 @@
 -- A run of characters whose front is in ASCII, by its bytes.
-use Rattle.std.proofs.Common.{◌≡◌, ℕ, suc, ◌<◌, ◌≤◌, Bool, true, false, true≢false, List, [], ◌∷◌, ◌++◌, length, drop, nat_lt, refl, sym, ap, ◌∙◌, arith, subst}
+use Rattle.std.proofs.Common.{
+    ◌≡◌, ℕ, suc, ◌<◌, ◌≤◌, Bool, true, false, true≢false, List, [], ◌∷◌, ◌++◌, length, drop, nat_lt, refl, sym, ap, ◌∙◌,
+    arith, subst
+}
 use Rattle.std.specs.{Char.{encode_utf8}, List.{prefix_len}, Str.{chars, encode_utf8_all, IsUtf8, IsCharBoundary}}
 use Rattle.std.proofs.lemmas.Bool.{ltb-false, ltb-true}
-use Rattle.std.proofs.lemmas.Str.{chars-nil, chars_past_char, encodes-chars, IsUtf8-past_char, byte_from_char, encode_ascii, IsCharBoundary-from_drop}
+use Rattle.std.proofs.lemmas.Str.{
+    chars-nil, chars_past_char, encodes-chars, IsUtf8-past_char, byte_from_char, encode_ascii, IsCharBoundary-from_drop
+}
 use Rattle.std.proofs.lemmas.{List.Sums.{prefix_len-le-length}, Grind.{common_steps}}
 use Rattle.rustc_lexer.specs.{means.{ByteRuns.{is_wide}, Scan.{past, next_is, run_len}}, laws.Choice.{by_either}}
 use Rattle.rustc_lexer.specs.laws.Past.{past-one}
@@ -43,7 +48,8 @@ pub record Skips (q p : ℕ → Bool) (text left : List ℕ) : Type 0 where
   pub run : past_run p (chars text) ≡ past_run p (chars left)
   pub stops : next_is q left ≡ false
 
-pub skips : (q p : ℕ → Bool) → IsPart q p → (text : List ℕ) → IsUtf8 text → Skips q p text (drop (prefix_len q text) text)
+pub skips : (q p : ℕ → Bool) → IsPart q p → (text : List ℕ) → IsUtf8 text
+    → Skips q p text (drop (prefix_len q text) text)
 skips q p part [] is = record { utf8 = is; run = refl; stops = refl }
 skips q p part (b ∷ bs) is = by_either (q b)
     (λ e.
@@ -61,17 +67,20 @@ skips q p part (b ∷ bs) is = by_either (q b)
     subst (λ n. Skips q p (b ∷ bs) (drop n (b ∷ bs))) (sym none) record { utf8 = is; run = refl; stops = e })
 
 -- where the next character is not of the class the run ends
-pub run_over : (q p : ℕ → Bool) (text left : List ℕ) → Skips q p text left → next_is p (chars left) ≡ false → left ≡ past (run_len p (chars text)) text
+pub run_over : (q p : ℕ → Bool) (text left : List ℕ) → Skips q p text left → next_is p (chars left) ≡ false
+    → left ≡ past (run_len p (chars text)) text
 unfolding past
 run_over q p text left at out = sym (at.run ∙ run_ends p left at.utf8 out)
 
 -- neither a byte of the class is next, nor one that is not in ASCII
-none_next : (q p : ℕ → Bool) → IsPart q p → (left : List ℕ) → IsUtf8 left → next_is q left ≡ false → next_is is_wide left ≡ false
+none_next : (q p : ℕ → Bool) → IsPart q p → (left : List ℕ) → IsUtf8 left → next_is q left ≡ false
+    → next_is is_wide left ≡ false
     → next_is p (chars left) ≡ false
 none_next q p part w3 is stops narrow = grind (arith, common_steps, chars-nil, ltb-true, chars-ascii)
 
 -- where the bytes of the class at the front of a text end, it may be cut, and the run of the class goes on from there
-module _ (q p : ℕ → Bool) (part : IsPart q p) (text bytes : List ℕ) (end : ℕ) (is : IsUtf8 text) (read : bytes ≡ text) (counted : end ≡ prefix_len q bytes) where
+module _ (q p : ℕ → Bool) (part : IsPart q p) (text bytes : List ℕ) (end : ℕ) (is : IsUtf8 text) (read : bytes ≡ text)
+    (counted : end ≡ prefix_len q bytes) where
   e : end ≡ prefix_len q text
   e = counted ∙ ap (prefix_len q) read
 
@@ -87,12 +96,14 @@ module _ (q p : ℕ → Bool) (part : IsPart q p) (text bytes : List ℕ) (end :
     unfolding there e
     left_there = subst (λ xs. Skips q p text xs) (sym f) there
 
-    pub goes_on : (rest : List ℕ) → rest ≡ past (run_len p (chars left)) left → rest ≡ past (run_len p (chars text)) text
+    pub goes_on : (rest : List ℕ) → rest ≡ past (run_len p (chars left)) left
+        → rest ≡ past (run_len p (chars text)) text
     unfolding past there e
     goes_on rest g = g ∙ (ap (λ xs. past_run p (chars xs)) f ∙ sym there.run)
 
     pub stops_here : next_is is_wide left ≡ false → left ≡ past (run_len p (chars text)) text
-    stops_here narrow = run_over q p text left left_there (none_next q p part left left_there.utf8 left_there.stops narrow)
+    stops_here narrow =
+        run_over q p text left left_there (none_next q p part left left_there.utf8 left_there.stops narrow)
 
 -- a class in ASCII: its characters are its bytes
 module _ (p : ℕ → Bool) (small : (c : ℕ) → p c ≡ true → c < 128) where
@@ -108,7 +119,9 @@ module _ (p : ℕ → Bool) (small : (c : ℕ) → p c ≡ true → c < 128) whe
       first_byte [] e f = absurd (true≢false (sym f))
       first_byte (c ∷ cs) e f =
           let in_ascii : c < 128 = small c f in
-          let same : d ≡ c = byte_from_char (d ∷ ds) (encode_utf8_all cs) c (sym (encodes-chars (d ∷ ds) is) ∙ ap encode_utf8_all e) in_ascii in
+          let same : d ≡ c =
+              byte_from_char (d ∷ ds) (encode_utf8_all cs) c (sym (encodes-chars (d ∷ ds) is) ∙ ap encode_utf8_all e)
+              in_ascii in
           omega arith
 
       none : 128 ≤ d → (t : Bool) → next_is p (chars (d ∷ ds)) ≡ t → next_is p (chars (d ∷ ds)) ≡ false
@@ -116,7 +129,8 @@ module _ (p : ℕ → Bool) (small : (c : ℕ) → p c ≡ true → c < 128) whe
       none wide true e = absurd (let in_ascii = first_byte (chars (d ∷ ds)) refl e in omega arith)
 
   -- such a byte at the front is a character
-  pub front_small : (text : List ℕ) → IsUtf8 text → next_is p text ≡ true → IsCharBoundary text 1 × (drop 1 text ≡ past 1 text) × (length (drop 1 text) < length text)
+  pub front_small : (text : List ℕ) → IsUtf8 text → next_is p text ≡ true → IsCharBoundary text 1
+      × (drop 1 text ≡ past 1 text) × (length (drop 1 text) < length text)
   front_small [] is e = absurd (true≢false (sym e))
   front_small (d ∷ ds) is e =
       let in_ascii = small d e in (
@@ -129,10 +143,12 @@ module _ (p : ℕ → Bool) (small : (c : ℕ) → p c ≡ true → c < 128) whe
   whole_part : IsPart p p
   whole_part = record { small = small; same = λ b less. refl }
 
-  pub may_cut_small : (text bytes : List ℕ) (end : ℕ) → IsUtf8 text → bytes ≡ text → end ≡ prefix_len p bytes → IsCharBoundary text end
+  pub may_cut_small : (text bytes : List ℕ) (end : ℕ) → IsUtf8 text → bytes ≡ text → end ≡ prefix_len p bytes
+      → IsCharBoundary text end
   may_cut_small text bytes end is read counted = may_cut p p whole_part text bytes end is read counted
 
-  pub past_small : (text bytes : List ℕ) (end : ℕ) → IsUtf8 text → bytes ≡ text → end ≡ prefix_len p bytes → (left : List ℕ) → left ≡ drop end text → left ≡ past (run_len p (chars text)) text
+  pub past_small : (text bytes : List ℕ) (end : ℕ) → IsUtf8 text → bytes ≡ text → end ≡ prefix_len p bytes
+      → (left : List ℕ) → left ≡ drop end text → left ≡ past (run_len p (chars text)) text
   past_small text bytes end is read counted left f =
       let at = left_there p p whole_part text bytes end is read counted left f in
       run_over p p text left at (next_byte left at.utf8 ∙ at.stops)

@@ -1,11 +1,16 @@
 -- A buffer that is filled from the front with the tokens of a text.
-use Rattle.std.proofs.Common.{All, get_or, ◌≡◌, ℕ, zero, suc, ◌+◌, ◌-◌, ◌<◌, ◌≤◌, List, [], ◌∷◌, ◌++◌, length, map, take, drop, min, inl, inr, refl, sym, ap, ◌∙◌, arith, slice_set, length-drop}
+use Rattle.std.proofs.Common.{
+    All, get_or, ◌≡◌, ℕ, zero, suc, ◌+◌, ◌-◌, ◌<◌, ◌≤◌, List, [], ◌∷◌, ◌++◌, length, map, take, drop, min, inl, inr,
+    refl, sym, ap, ◌∙◌, arith, slice_set, length-drop
+}
 use Rattle.std.proofs.lemmas.Bool.{cases_lt}
 use Rattle.std.proofs.lemmas.List.{take-append-drop, take_more_set, drop-set-lt, drop-drop, length-set, map-append}
 use Rattle.std.proofs.lemmas.{List.Elements.{All-head, All-tail}, Str.{IsCharBoundary-from_drop}}
 use Rattle.std.proofs.{Math.Nat.{min-eq_left, min-eq_right, min-le_right}, lemmas.Grind.{common_steps}}
 use Rattle.rustc_lexer.specs.{Token, Edition, FrontmatterAllowed}
-use Rattle.rustc_lexer.specs.Tokens.{IsFilledTo, state_past, bound, tokens_by, tokens_of, tokens_left, Partitions, TakesToken}
+use Rattle.rustc_lexer.specs.Tokens.{
+    IsFilledTo, state_past, bound, tokens_by, tokens_of, tokens_left, Partitions, TakesToken
+}
 use Rattle.rustc_lexer.specs.{means.Tokens.{IsFilled}, State.{State}, Classes.{IsText}, Locality.{IsGrammar}}
 use Rattle.rustc_lexer.specs.LanguageText.{Mode, part, mode_after, mode_edition, mode_in}
 use Rattle.rustc_lexer.specs.{means.{Edition.{first_token_in}, Taking.{take_next}}, laws.Edition.{edition_grammar}}
@@ -13,24 +18,30 @@ use Rattle.rustc_lexer.specs.laws.Cuts.{IsCutAt, at_bound, tokens-cons}
 use Rattle.rustc_lexer.proofs.lemmas.tokens.Progress.{IsOffset, next-from_drop, none_more, none_past}
 
 -- the first `count` tokens are written, and the rest of the buffer is as it was
-pub record IsWritten {X : Type 0} (written : Token → X) (tokens : List Token) (buffer filled : List X) (count : ℕ) : Type 0 where
+pub record IsWritten {X : Type 0} (written : Token → X) (tokens : List Token) (buffer filled : List X)
+    (count : ℕ) : Type 0 where
   pub front : take count filled ≡ map written (take count tokens)
   pub back : drop count filled ≡ drop count buffer
   pub few : count ≤ length tokens
   pub within : count ≤ length buffer
   pub long : length filled ≡ length buffer
 
-pub none_written : {X : Type 0} (written : Token → X) (tokens : List Token) (buffer : List X) → IsWritten written tokens buffer buffer 0
-none_written written tokens buffer = record { front = refl; back = refl; few = omega arith; within = omega arith; long = refl }
+pub none_written : {X : Type 0} (written : Token → X) (tokens : List Token) (buffer : List X)
+    → IsWritten written tokens buffer buffer 0
+none_written written tokens buffer =
+    record { front = refl; back = refl; few = omega arith; within = omega arith; long = refl }
 
-module _ {X : Type 0} (written : Token → X) (tokens left : List Token) (buffer filled : List X) (count : ℕ) (token : Token) (is : IsWritten written tokens buffer filled count) (next : drop count tokens ≡ token ∷ left) (fits : count < length filled) where
+module _ {X : Type 0} (written : Token → X) (tokens left : List Token) (buffer filled : List X) (count : ℕ)
+    (token : Token) (is : IsWritten written tokens buffer filled count) (next : drop count tokens ≡ token ∷ left)
+    (fits : count < length filled) where
   pub one_written : (x : X) → x ≡ written token → IsWritten written tokens buffer (slice_set filled count x) (count + 1)
   one_written x e =
       grind (arith, common_steps, next-from_drop, take_more_set, map-append, drop-set-lt, drop-drop, length-set)
 
 pub whole_buffer : {X : Type 0} (written : Token → X) (tokens : List Token) (buffer filled : List X) (count : ℕ)
     → IsWritten written tokens buffer filled count → filled ≡ map written (take count tokens) ++ drop count buffer
-whole_buffer written tokens buffer filled count is = sym (take-append-drop count filled) ∙ (ap (λ l. l ++ drop count filled) is.front ∙ ap (λ l. map written (take count tokens) ++ l) is.back)
+whole_buffer written tokens buffer filled count is = sym (take-append-drop count filled)
+    ∙ (ap (λ l. l ++ drop count filled) is.front ∙ ap (λ l. map written (take count tokens) ++ l) is.back)
 
 -- either no token is left, or no room
 pub all_written : {X : Type 0} (written : Token → X) (tokens : List Token) (buffer filled : List X) (count : ℕ)
@@ -38,24 +49,29 @@ pub all_written : {X : Type 0} (written : Token → X) (tokens : List Token) (bu
 all_written written tokens buffer filled count is all = grind (arith, common_steps, min-eq_right, whole_buffer)
 
 -- the tokens that begin before an offset are written, and no other is left to be, or no room
-pub begun_more : (tokens : List Token) (count at end : ℕ) → at ≡ bound tokens count → at < end → ((k : ℕ) → k < count → bound tokens k < end) → (k : ℕ) → k < count + 1 → bound tokens k < end
+pub begun_more : (tokens : List Token) (count at end : ℕ) → at ≡ bound tokens count → at < end
+    → ((k : ℕ) → k < count → bound tokens k < end) → (k : ℕ) → k < count + 1 → bound tokens k < end
 begun_more tokens count at end offset more begun k less = grind (arith, common_steps, cases_lt)
 
 pub written_to : {X : Type 0} (written : Token → X) (end : ℕ) (tokens : List Token) (buffer filled : List X) (count : ℕ)
-    → IsWritten written tokens buffer filled count → ((k : ℕ) → k < count → bound tokens k < end) → (count < length filled → end ≤ bound tokens count)
+    → IsWritten written tokens buffer filled count → ((k : ℕ) → k < count → bound tokens k < end)
+        → (count < length filled → end ≤ bound tokens count)
     → IsFilledTo written end tokens buffer filled count
 written_to written end tokens buffer filled count is begun done = grind (arith, common_steps, whole_buffer)
 
 -- ---- where the tokens end in the text
 
-module _ {first : List ℕ → Token} (law : IsGrammar first) (text : List ℕ) (is : IsText text) (count at : ℕ) (offset : at ≡ bound (tokens_by first text) count) where
+module _ {first : List ℕ → Token} (law : IsGrammar first) (text : List ℕ) (is : IsText text) (count at : ℕ)
+    (offset : at ≡ bound (tokens_by first text) count) where
   cut : IsCutAt first text (tokens_by first text) count
   cut = at_bound law count text is
 
   pub stands : IsOffset text at
-  stands = rw offset record { inside = cut.inside; boundary = IsCharBoundary-from_drop text _ cut.inside cut.past.utf8; front = cut.front; past = cut.past }
+  stands = rw offset record { inside = cut.inside; boundary = IsCharBoundary-from_drop text _ cut.inside cut.past.utf8;
+      front = cut.front; past = cut.past }
 
-  pub next_token : at < length text → drop count (tokens_by first text) ≡ first (drop at text) ∷ tokens_by first (drop (first (drop at text)).len (drop at text))
+  pub next_token : at < length text → drop count (tokens_by first text) ≡ first (drop at text) ∷ tokens_by first
+      (drop (first (drop at text)).len (drop at text))
   next_token more = grind (arith, length-drop at text, cut.rest, offset, tokens-cons, stands)
 
   pub next_offset : at < length text → at + (first (drop at text)).len ≡ bound (tokens_by first text) (count + 1)
@@ -85,14 +101,18 @@ filled_all {first} law written text is end whole buffer filled count to = record
 -- ---- the state past some tokens
 
 -- how an iterator reads is decided by the flag and the edition that it holds
-pub mode_held : (allowed : FrontmatterAllowed) (edition : Edition) (mode : Mode) → mode_in allowed edition ≡ mode → mode ≡ mode_in allowed (mode_edition mode)
+pub mode_held : (allowed : FrontmatterAllowed) (edition : Edition) (mode : Mode) → mode_in allowed edition ≡ mode
+    → mode ≡ mode_in allowed (mode_edition mode)
 mode_held allowed edition mode w3 = grind (arith, common_steps)
 
 -- each token has a byte at least
-pub count_bound : (tokens : List Token) → All (λ t. 0 < t.len) tokens → (count : ℕ) → count ≤ length tokens → count ≤ bound tokens count
+pub count_bound : (tokens : List Token) → All (λ t. 0 < t.len) tokens → (count : ℕ) → count ≤ length tokens
+    → count ≤ bound tokens count
 count_bound tokens some zero few = omega arith
 count_bound [] some (suc count) few = absurd (omega arith)
-count_bound (t ∷ ts) some (suc count) few = let ih = count_bound ts (All-tail (λ (t : Token). 0 < t.len) t ts some) count (omega arith) in let one = All-head (λ (t : Token). 0 < t.len) t ts some in omega arith
+count_bound (t ∷ ts) some (suc count) few = let ih =
+    count_bound ts (All-tail (λ (t : Token). 0 < t.len) t ts some) count (omega arith) in
+    let one = All-head (λ (t : Token). 0 < t.len) t ts some in omega arith
 
 pub shorter_left : (text left : List ℕ) (tokens : List Token) → Partitions text tokens → (buffer count : ℕ)
     → count ≡ min buffer (length tokens) → left ≡ drop (bound tokens count) text → 0 < buffer → 0 < length text
@@ -102,7 +122,8 @@ shorter_left text left tokens parts buffer count e cut some_buffer some_text =
 
 -- ---- one token after another
 
-module _ (s at past : State) (count : ℕ) (token : Token) (there : at ≡ state_past count s) (left : tokens_left at ≡ drop count (tokens_left s))
+module _ (s at past : State) (count : ℕ) (token : Token) (there : at ≡ state_past count s)
+    (left : tokens_left at ≡ drop count (tokens_left s))
     (takes : TakesToken at token past) where
   more_is : count + 1 ≡ suc count
   more_is = omega arith
@@ -111,19 +132,24 @@ module _ (s at past : State) (count : ℕ) (token : Token) (there : at ≡ state
   next_is = sym left ∙ takes.first
 
   pub past_more : past ≡ state_past (count + 1) s
-  past_more = sym (ap (λ (r : Token × State). r.1) takes.advances) ∙ (ap (λ (x : State). (take_next x).1) there ∙ sym (ap (λ n. state_past n s) more_is))
+  past_more = sym (ap (λ (r : Token × State). r.1) takes.advances)
+      ∙ (ap (λ (x : State). (take_next x).1) there ∙ sym (ap (λ n. state_past n s) more_is))
 
   pub left_more : tokens_left past ≡ drop (count + 1) (tokens_left s)
   left_more = ap (drop 1) (sym next_is) ∙ drop-drop 1 count (tokens_left s)
 
-  pub rest_more : at.rest ≡ drop (bound (tokens_left s) count) s.rest → past.rest ≡ drop (bound (tokens_left s) (count + 1)) s.rest
+  pub rest_more : at.rest ≡ drop (bound (tokens_left s) count) s.rest
+      → past.rest ≡ drop (bound (tokens_left s) (count + 1)) s.rest
   rest_more cut = grind (arith, common_steps, next-from_drop, drop-drop, more_is)
 
 -- ---- one token of a part after another
 
-module _ (edition : Edition) (text : List ℕ) (is : IsText text) (s : State) (mode : s.mode ≡ part edition) (rest : s.rest ≡ text) (some : 0 < length text) where
-  left_is : tokens_left s ≡ first_token_in edition text ∷ tokens_by (first_token_in edition) (drop (first_token_in edition text).len text)
-  left_is = ap (λ (m : Mode). tokens_of m s.rest) mode ∙ (ap (tokens_of (part edition)) rest ∙ tokens-cons (edition_grammar edition) text is some)
+module _ (edition : Edition) (text : List ℕ) (is : IsText text) (s : State) (mode : s.mode ≡ part edition)
+    (rest : s.rest ≡ text) (some : 0 < length text) where
+  left_is : tokens_left s ≡ first_token_in edition text ∷ tokens_by (first_token_in edition)
+      (drop (first_token_in edition text).len text)
+  left_is = ap (λ (m : Mode). tokens_of m s.rest) mode
+      ∙ (ap (tokens_of (part edition)) rest ∙ tokens-cons (edition_grammar edition) text is some)
 
   pub token_taken : (t : State) (token : Token) → TakesToken s token t → token ≡ first_token_in edition text
   token_taken t token takes = ap (λ (ts : List Token). get_or ts 0 token) (sym takes.first ∙ left_is)
@@ -132,16 +158,19 @@ module _ (edition : Edition) (text : List ℕ) (is : IsText text) (s : State) (m
   some_left = let long = ap (λ (ts : List Token). length ts) left_is in omega (arith, long)
 
 -- the tokens of a text in an edition are written so far, and all of these begin before the end
-pub record IsFilling {X : Type 0} (form : Token → X) (edition : Edition) (text : List ℕ) (end : ℕ) (buffer filled : List X) (count : ℕ) (s : State) : Type 0 where
+pub record IsFilling {X : Type 0} (form : Token → X) (edition : Edition) (text : List ℕ) (end : ℕ)
+    (buffer filled : List X) (count : ℕ) (s : State) : Type 0 where
   pub mode : s.mode ≡ part edition
   pub rest : s.rest ≡ drop (bound (tokens_by (first_token_in edition) text) count) text
   pub written : IsWritten form (tokens_by (first_token_in edition) text) buffer filled count
   pub begun : (k : ℕ) → k < count → bound (tokens_by (first_token_in edition) text) k < end
 
 -- one more of them
-pub filled_more : {X : Type 0} (written : Token → X) (edition : Edition) (text : List ℕ) (end : ℕ) (buffer filled : List X) (count : ℕ) (s t : State) (token : Token) (x : X)
+pub filled_more : {X : Type 0} (written : Token → X) (edition : Edition) (text : List ℕ) (end : ℕ)
+    (buffer filled : List X) (count : ℕ) (s t : State) (token : Token) (x : X)
     → IsText text → end ≤ length text → IsFilling written edition text end buffer filled count s
-    → length text - end < length s.rest → count < length filled → TakesToken s token t → x ≡ written token → IsFilling written edition text end buffer (slice_set filled count x) (count + 1) t
+    → length text - end < length s.rest → count < length filled → TakesToken s token t → x ≡ written token
+        → IsFilling written edition text end buffer (slice_set filled count x) (count + 1) t
 filled_more written edition text end buffer filled count s t token x is inside at more room takes e =
     let law = edition_grammar edition in
     let first : List ℕ → Token = first_token_in edition in
@@ -149,11 +178,18 @@ filled_more written edition text end buffer filled count s t token x is inside a
     let early : offset < end = omega (arith, more, ap length at.rest, length-drop offset text) in
     let here : offset < length text = omega (arith, early, inside) in
     let past = (stands law text is count offset refl).past in
-    let token_is : token ≡ first (drop offset text) = token_taken edition (drop offset text) past s at.mode at.rest (omega (arith, here, length-drop offset text)) t token takes in
+    let token_is : token ≡ first (drop offset text) =
+        token_taken edition (drop offset text) past s at.mode at.rest (omega (arith, here, length-drop offset text)) t
+        token takes in
     record {
       mode = takes.mode ∙ ap (λ (m : Mode). mode_after m token.kind) at.mode;
-      rest = takes.rest ∙ (ap (drop token.len) at.rest ∙ (drop-drop token.len offset text ∙ ap (λ n. drop n text) (ap (λ (t : Token). offset + t.len) token_is ∙ next_offset law text is count offset refl here)));
-      written = one_written written (tokens_by first text) _ buffer filled count (first (drop offset text)) at.written (next_token law text is count offset refl here) room x (e ∙ ap written token_is);
+      rest = takes.rest
+          ∙ (ap (drop token.len) at.rest
+          ∙ (drop-drop token.len offset text
+          ∙ ap (λ n. drop n text)
+          (ap (λ (t : Token). offset + t.len) token_is ∙ next_offset law text is count offset refl here)));
+      written = one_written written (tokens_by first text) _ buffer filled count (first (drop offset text)) at.written
+          (next_token law text is count offset refl here) room x (e ∙ ap written token_is);
       begun = begun_more (tokens_by first text) count offset end refl early at.begun;
     }
 

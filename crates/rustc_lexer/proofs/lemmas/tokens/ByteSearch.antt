@@ -1,8 +1,13 @@
 -- The run of a class that stops only at bytes of ASCII, by a search of the bytes.
-use Rattle.std.proofs.Common.{◌≡◌, ℕ, ◌+◌, ◌<◌, ◌≤◌, ◌==◌, ◌||◌, ◌&&◌, not, cond, Bool, true, false, true≢false, List, [], ◌∷◌, ◌++◌, append-nil, length, drop, get_or, refl, sym, ap, ap₂, ◌∙◌, arith, inl, inr, drop-drop, map, bit_or, Some, None}
+use Rattle.std.proofs.Common.{
+    ◌≡◌, ℕ, ◌+◌, ◌<◌, ◌≤◌, ◌==◌, ◌||◌, ◌&&◌, not, cond, Bool, true, false, true≢false, List, [], ◌∷◌, ◌++◌, append-nil,
+    length, drop, get_or, refl, sym, ap, ap₂, ◌∙◌, arith, inl, inr, drop-drop, map, bit_or, Some, None
+}
 use Rattle.std.specs.{Char.{encode_utf8}, List.{position_or_len, prefix_len}, Str.{chars, encode_utf8_all, IsUtf8}}
 use Rattle.std.proofs.Math.ListN.{drop_of_length-le}
-use Rattle.std.proofs.lemmas.Bool.{cond-true, eq-eqb, eqb-true, false_from_ne_true, or_cases, not_from_true, not_from_false}
+use Rattle.std.proofs.lemmas.Bool.{
+    cond-true, eq-eqb, eqb-true, false_from_ne_true, or_cases, not_from_true, not_from_false
+}
 use Rattle.std.proofs.{Math.Seq.{drop-append_seam}, lemmas.List.Folds.{prefix_len-append}}
 use Rattle.std.proofs.lemmas.List.Sums.{position_or_len_is, prefix_len_is}
 use Rattle.std.proofs.lemmas.{Str.{encode_ascii, inside_one, encodes-chars}, Grind.{common_steps}}
@@ -24,25 +29,34 @@ module _ (stops : ℕ → Bool) (small : (b : ℕ) → stops b ≡ true → b < 
       (λ k l. not_from_false _ (false_from_ne_true _ (λ e. inside k l e))) (λ l. absurd (omega arith))
     where
       inside : (k : ℕ) → k < length (encode_utf8 c) → stops (get_or (encode_utf8 c) k 0) ≡ true → ⊥
-      inside k l e = true≢false (sym e ∙ (ap stops (sym (inside_one c [] (encode_utf8 c) k (sym (append-nil (encode_utf8 c))) l (small _ e))) ∙ f))
+      inside k l e = true≢false
+          (sym e ∙ (ap stops (sym (inside_one c [] (encode_utf8 c) k (sym (append-nil (encode_utf8 c))) l (small _ e)))
+          ∙ f))
 
-  char_past : (c : ℕ) (rest : List ℕ) → stops c ≡ false → drop (position_or_len stops (encode_utf8 c ++ rest)) (encode_utf8 c ++ rest) ≡ drop
+  char_past : (c : ℕ) (rest : List ℕ) → stops c ≡ false
+      → drop (position_or_len stops (encode_utf8 c ++ rest)) (encode_utf8 c ++ rest) ≡ drop
       (position_or_len stops rest) rest
   char_past c rest f =
-      let n : position_or_len stops (encode_utf8 c ++ rest) ≡ length (encode_utf8 c) + position_or_len stops rest = prefix_len-append others
+      let n : position_or_len stops (encode_utf8 c ++ rest) ≡ length (encode_utf8 c) + position_or_len stops rest =
+          prefix_len-append others
       (encode_utf8 c) rest ∙ cond-true _ _ _ (eq-eqb _ _ (char_passes c f)) in
-      ap (λ k. drop k (encode_utf8 c ++ rest)) n ∙ (sym (drop-drop (position_or_len stops rest) (length (encode_utf8 c)) (encode_utf8 c ++ rest))
+      ap (λ k. drop k (encode_utf8 c ++ rest)) n
+          ∙ (sym (drop-drop (position_or_len stops rest) (length (encode_utf8 c)) (encode_utf8 c ++ rest))
       ∙ ap (drop (position_or_len stops rest)) (drop-append_seam (encode_utf8 c) rest))
 
   by_chars : (cs : List ℕ) → past_run others cs ≡ drop (position_or_len stops (encode_utf8_all cs)) (encode_utf8_all cs)
   by_chars [] = refl
   by_chars (c ∷ cs) = by_either (stops c)
       (λ f. past_run-out others c cs (not_from_true (stops c) f) ∙ rw (encode_ascii c (small c f), f) refl)
-      (λ f. past_run-in others c cs (not_from_false (stops c) f) ∙ (by_chars cs ∙ sym (char_past c (encode_utf8_all cs) f)))
+      (λ f. past_run-in others c cs (not_from_false (stops c) f)
+          ∙ (by_chars cs ∙ sym (char_past c (encode_utf8_all cs) f)))
 
-  pub up_to : (text : List ℕ) (n : ℕ) → IsUtf8 text → position_or_len stops text ≡ n → past (run_len others (chars text)) text ≡ drop n text
+  pub up_to : (text : List ℕ) (n : ℕ) → IsUtf8 text → position_or_len stops text ≡ n
+      → past (run_len others (chars text)) text ≡ drop n text
   unfolding past
-  up_to text n is at = by_chars (chars text) ∙ ap₂ (λ k xs. drop k xs) (ap (position_or_len stops) (encodes-chars text is) ∙ at) (encodes-chars text is)
+  up_to text n is at =
+      by_chars (chars text) ∙ ap₂ (λ k xs. drop k xs) (ap (position_or_len stops) (encodes-chars text is) ∙ at)
+      (encodes-chars text is)
 
 pub byte_small : (stop b : ℕ) → stop < 128 → is_byte stop b ≡ true → b < 128
 byte_small stop b l e = omega (arith, eqb-true b stop e)
@@ -51,27 +65,36 @@ byte_small stop b l e = omega (arith, eqb-true b stop e)
 pub begins-byte : (stop : ℕ) (s : List ℕ) → next_is (is_byte stop) s ≡ begins (stop ∷ []) s
 begins-byte w0 w1 = grind (arith, common_steps)
 
-pub begins_small : (stop : ℕ) (text : List ℕ) → stop < 128 → IsUtf8 text → begins (stop ∷ []) (chars text) ≡ next_is (is_byte stop) text
-begins_small stop text small is = sym (begins-byte stop (chars text)) ∙ next_byte (is_byte stop) (λ b e. byte_small stop b small e) text is
+pub begins_small : (stop : ℕ) (text : List ℕ) → stop < 128 → IsUtf8 text → begins (stop ∷ []) (chars text) ≡
+    next_is (is_byte stop) text
+begins_small stop text small is = sym (begins-byte stop (chars text))
+    ∙ next_byte (is_byte stop) (λ b e. byte_small stop b small e) text is
 
 -- two characters in front, one after the other
-pub begins_two : (a b : ℕ) (text tail : List ℕ) → IsUtf8 text → tail ≡ past 1 text → begins (a ∷ b ∷ []) (chars text) ≡ (begins (a ∷ []) (chars text) && begins (b ∷ []) (chars tail))
+pub begins_two : (a b : ℕ) (text tail : List ℕ) → IsUtf8 text → tail ≡ past 1 text → begins (a ∷ b ∷ []) (chars text) ≡
+    (begins (a ∷ []) (chars text) && begins (b ∷ []) (chars tail))
 begins_two a b text tail is at = grind (arith, common_steps, chars-past)
 
 pub byte2_small : (one two b : ℕ) → one < 128 → two < 128 → is_byte2 one two b ≡ true → b < 128
-byte2_small one two b l m e = elim (or_cases (b == one) (b == two) e) [ inl f ↦ omega (arith, eqb-true b one f) | inr f ↦ omega (arith, eqb-true b two f) ]
+byte2_small one two b l m e =
+    elim (or_cases (b == one) (b == two) e) [ inl f ↦ omega (arith, eqb-true b one f) | inr f ↦
+    omega (arith, eqb-true b two f) ]
 
 -- where a search of the bytes finds one, and where it finds none
-pub found_at : (stops : ℕ → Bool) (text bytes : List ℕ) (n : ℕ) → bytes ≡ text → IsFirstByte stops bytes (Some n) → position_or_len stops text ≡ n
-found_at stops text bytes n read h = ap (position_or_len stops) (sym read) ∙ position_or_len_is stops bytes n 0 (omega arith)
+pub found_at : (stops : ℕ → Bool) (text bytes : List ℕ) (n : ℕ) → bytes ≡ text → IsFirstByte stops bytes (Some n)
+    → position_or_len stops text ≡ n
+found_at stops text bytes n read h = ap (position_or_len stops) (sym read)
+    ∙ position_or_len_is stops bytes n 0 (omega arith)
     (λ k l. false_from_ne_true _ (h.0.before k (omega arith) l)) (λ l. h.1)
 
 pub found_nowhere : (stops : ℕ → Bool) (small : (b : ℕ) → stops b ≡ true → b < 128) (text bytes : List ℕ) → IsUtf8 text
     → bytes ≡ text → IsFirstByte stops bytes None → [] ≡ past (run_len (others stops small) (chars text)) text
 found_nowhere stops small text bytes is read h =
-    let none : position_or_len stops bytes ≡ length bytes = position_or_len_is stops bytes (length bytes) 0 (omega arith)
+    let none : position_or_len stops bytes ≡ length bytes =
+        position_or_len_is stops bytes (length bytes) 0 (omega arith)
     (λ k l. false_from_ne_true _ (h k (omega arith) l)) (λ l. absurd (omega arith)) in
-    sym (up_to stops small text (length bytes) is (ap (position_or_len stops) (sym read) ∙ none) ∙ drop_of_length-le text (omega (arith, ap length read)))
+    sym (up_to stops small text (length bytes) is (ap (position_or_len stops) (sym read) ∙ none)
+        ∙ drop_of_length-le text (omega (arith, ap length read)))
 
 -- ---- a look at the first n bytes
 
@@ -81,8 +104,10 @@ pub in_first : (stops : ℕ → Bool) (bytes : List ℕ) (n found : ℕ) → n �
 in_first stops bytes n found few le mask some =
     let room : 0 + n ≤ length bytes = omega arith in
     let low = mask_lowest stops bytes 0 n found room mask few some in
-    let at : (k : ℕ) → k < n → bit found k ≡ stops (get_or bytes k 0) = λ k l. mask_in stops bytes 0 n found room mask k k (omega arith) l in (
-      record { low = omega arith; high = omega arith; before = λ k from to e. true≢false (sym e ∙ (sym (at k (omega arith)) ∙ low.1.least k to)) },
+    let at : (k : ℕ) → k < n → bit found k ≡ stops (get_or bytes k 0) =
+        λ k l. mask_in stops bytes 0 n found room mask k k (omega arith) l in (
+      record { low = omega arith; high = omega arith;
+          before = λ k from to e. true≢false (sym e ∙ (sym (at k (omega arith)) ∙ low.1.least k to)) },
       sym
           (at _ low.0) ∙ low.1.set,
     )

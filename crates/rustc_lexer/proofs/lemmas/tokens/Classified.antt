@@ -31,11 +31,13 @@ module _ (allowed : FrontmatterAllowed) (edition : Edition) (text : List ℕ) (s
     pub still : state 0 (drop new.at text) (mode_in allowed edition) ≡ s
     still = subst (λ p. state 0 (drop p text) (mode_in allowed edition) ≡ s) (sym says.at) view
 
-    pub takes_left : (bytes left : List ℕ) (past : ℕ) (token : Token) → IsUtf8 bytes → bytes ≡ text → left ≡ drop new.at text → new.at < length text
+    pub takes_left : (bytes left : List ℕ) (past : ℕ) (token : Token) → IsUtf8 bytes → bytes ≡ text
+        → left ≡ drop new.at text → new.at < length text
         → allowed ≡ No → token ≡ first_token_in edition left → past ≡ new.at + token.len
         → TakesToken s token (state 0 (drop past text) (mode_in allowed edition))
     takes_left bytes left past token is same e some never first o =
-        takes_part allowed edition text new.at s never still past token record { utf8 = subst IsUtf8 same is; fits = says.tells.fits }
+        takes_part allowed edition text new.at s never still past token record
+            { utf8 = subst IsUtf8 same is; fits = says.tells.fits }
         says.tells.bound some (first ∙ ap (first_token_in edition) e) o
 
 pub ruleset classified_lemmas = (takes_classified, still)

@@ -1,6 +1,11 @@
 -- What an edition has in place of some tokens.
-use Rattle.std.proofs.Common.{◌≡◌, ◌≢◌, ◌<◌, ℕ, suc, Bool, true, false, List, [], ◌∷◌, length, ◌⊎◌, refl, codes, ap, ◌∙◌, IsCharBoundary, arith}
-use Rattle.rustc_lexer.specs.{Edition, Token, TokenKind, E2015, E2018, E2021, E2024, Pound, GuardedStrPrefix, RawLifetime, UnknownPrefix, UnknownPrefixLifetime}
+use Rattle.std.proofs.Common.{
+    ◌≡◌, ◌≢◌, ◌<◌, ℕ, suc, Bool, true, false, List, [], ◌∷◌, length, ◌⊎◌, refl, codes, ap, ◌∙◌, IsCharBoundary, arith
+}
+use Rattle.rustc_lexer.specs.{
+    Edition, Token, TokenKind, E2015, E2018, E2021, E2024, Pound, GuardedStrPrefix, RawLifetime, UnknownPrefix,
+    UnknownPrefixLifetime
+}
 use Rattle.rustc_lexer.specs.laws.{Edition.{edition_grammar}, Language.{lexeme-sound}, LanguageIn.{unhashed}}
 use Rattle.rustc_lexer.specs.{declared.lexemes.family.Family.TheVariants.{Hash}, Tables.{is_emoji}}
 use Rattle.unicode_ident.proofs.Computing.{unicode_ident}
@@ -11,7 +16,8 @@ use Rattle.std.proofs.lemmas.Grind.{common_steps}
 use Rattle.std.specs.Fmt.{decimal, digits}
 
 -- the years as words
-pub year_words : (decimal 2015 ≡ codes "2015") × (decimal 2018 ≡ codes "2018") × (decimal 2021 ≡ codes "2021") × (decimal 2024 ≡ codes "2024")
+pub year_words : (decimal 2015 ≡ codes "2015") × (decimal 2018 ≡ codes "2018") × (decimal 2021 ≡ codes "2021")
+    × (decimal 2024 ≡ codes "2024")
 unfolding digits
 year_words = (refl, refl, refl, refl)
 
@@ -27,8 +33,10 @@ pub older : (edition : Edition) (cs : List ℕ) (t : Token) → is_newer t.kind 
 older edition cs t old = grind (arith, common_steps)
 
 -- the token of an edition at the front of a text may be cut off
-pub boundary-of : (edition : Edition) (text : List ℕ) (token : Token) → IsText text → 0 < length text → token ≡ first_token_in edition text → IsCharBoundary text token.len
-boundary-of edition text token is some e = grind (arith, common_steps, e, (edition_grammar edition).boundary text is some)
+pub boundary-of : (edition : Edition) (text : List ℕ) (token : Token) → IsText text → 0 < length text
+    → token ≡ first_token_in edition text → IsCharBoundary text token.len
+boundary-of edition text token is some e =
+    grind (arith, common_steps, e, (edition_grammar edition).boundary text is some)
 
 -- ---- tokens of the newest edition that another one has too
 
@@ -40,24 +48,31 @@ kept_first : (cs : List ℕ) → ((first : ℕ) (s : List ℕ) → cs ≡ first 
     → before_2024 (lexeme cs).0 (bytes_of (lexeme cs).1 cs) ≡ token (lexeme cs).0 (bytes_of (lexeme cs).1 cs)
 kept_first [] none = refl
 kept_first (c ∷ s) none =
-    unhashed (lexeme-sound (c ∷ s)) (λ e. none c s refl (ap family_of e ∙ hash_family)) (bytes_of (suc (past_first c s).1) (c ∷ s))
+    unhashed (lexeme-sound (c ∷ s)) (λ e. none c s refl (ap family_of e ∙ hash_family))
+        (bytes_of (suc (past_first c s).1) (c ∷ s))
 
 -- where no hash stands in front
-pub first_newer : (edition : Edition) (text : List ℕ) → BeginsWithNoHash text → (edition ≡ E2024) ⊎ (edition ≡ E2021) → first_token text ≡ first_token_in edition text
+pub first_newer : (edition : Edition) (text : List ℕ) → BeginsWithNoHash text → (edition ≡ E2024) ⊎ (edition ≡ E2021)
+    → first_token text ≡ first_token_in edition text
 unfolding first_token
 first_newer edition text w2 w3 = grind (arith, common_steps, kept_first)
 
 -- the two oldest have the same
-pub first_oldest : (edition : Edition) (text : List ℕ) → (edition ≡ E2018) ⊎ (edition ≡ E2015) → first_token_in E2018 text ≡ first_token_in edition text
+pub first_oldest : (edition : Edition) (text : List ℕ) → (edition ≡ E2018) ⊎ (edition ≡ E2015)
+    → first_token_in E2018 text ≡ first_token_in edition text
 first_oldest edition text w2 = grind (arith, common_steps)
 
 -- a token whose kind each edition keeps
-pub first_by : (guards : Bool) (text : List ℕ) (t : Token) → IsFirstToken text t → is_newer t.kind ≡ false → IsFirstBy guards text t
+pub first_by : (guards : Bool) (text : List ℕ) (t : Token) → IsFirstToken text t → is_newer t.kind ≡ false
+    → IsFirstBy guards text t
 first_by guards text t is old = grind (arith, common_steps, older)
 
 -- a hash before a quote or a hash, where the edition reserves it
-pub guard_by : (text : List ℕ) → IsFirstToken text record { kind = GuardedStrPrefix; len = 2 } → IsFirstBy true text record { kind = GuardedStrPrefix; len = 2 }
-guard_by text is = record { token = λ edition e. rw e is.token; inside = is.inside; boundary = is.boundary; suffix = is.suffix }
+pub guard_by : (text : List ℕ) → IsFirstToken text record { kind = GuardedStrPrefix; len = 2 }
+    → IsFirstBy true text record { kind = GuardedStrPrefix; len = 2 }
+guard_by text is =
+    record { token = λ edition e. rw e is.token; inside = is.inside; boundary = is.boundary; suffix = is.suffix }
 
-pub pound_by : (text : List ℕ) → IsFirstToken text record { kind = GuardedStrPrefix; len = 2 } → IsCharBoundary text 1 → IsFirstBy false text record { kind = Pound; len = 1 }
+pub pound_by : (text : List ℕ) → IsFirstToken text record { kind = GuardedStrPrefix; len = 2 } → IsCharBoundary text 1
+    → IsFirstBy false text record { kind = Pound; len = 1 }
 pound_by text is bound = grind (arith, common_steps)

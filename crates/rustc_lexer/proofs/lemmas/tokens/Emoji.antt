@@ -1,5 +1,8 @@
 -- A search of ranges that rise tells whether a character is in one of them.
-use Rattle.std.proofs.Common.{◌≡◌, ℕ, zero, suc, ◌+◌, ◌<◌, ◌≤◌, Bool, true, false, ◌&&◌, not, nat_le, nat_lt, List, [], ◌∷◌, length, refl, sym, ap, ◌∙◌, arith, Result, Ok, Err, is_ok, slice_index_or}
+use Rattle.std.proofs.Common.{
+    ◌≡◌, ℕ, zero, suc, ◌+◌, ◌<◌, ◌≤◌, Bool, true, false, ◌&&◌, not, nat_le, nat_lt, List, [], ◌∷◌, length, refl, sym,
+    ap, ◌∙◌, arith, Result, Ok, Err, is_ok, slice_index_or
+}
 use Rattle.std.proofs.Math.Bool.{and-false, or-true}
 use Rattle.std.proofs.lemmas.Bool.{and_parts, le-leb, lt-leb, leb-true, lt-ltb, le-ltb, ltb-true, ltb-false}
 use Rattle.std.proofs.lemmas.List.Sorted.{IsNonDecreasingBy-from_all_adjacent}
@@ -27,7 +30,8 @@ within : (c : ℕ) (r : Range) → is_within r c ≡ is_equal (side c r)
 unfolding is_equal
 within c r = grind (arith, common_steps, lt-leb, ltb-true, and-false, le-leb, ltb-false)
 
-adjacent : (c n : ℕ) (rs : List Range) → rises_from n rs ≡ true → (k : ℕ) (d : Range) → k + 1 < length rs → index c (slice_index_or rs k d) ≤ index c (slice_index_or rs (k + 1) d)
+adjacent : (c n : ℕ) (rs : List Range) → rises_from n rs ≡ true → (k : ℕ) (d : Range) → k + 1 < length rs
+    → index c (slice_index_or rs k d) ≤ index c (slice_index_or rs (k + 1) d)
 adjacent c n [] up k d lt = absurd (omega arith)
 adjacent c n (r ∷ []) up k d lt = absurd (omega arith)
 adjacent c n (r ∷ s ∷ rs) up zero d lt = grind (arith, common_steps, and_parts, ltb-false, le-ltb, lt-ltb, leb-true)
@@ -36,17 +40,20 @@ adjacent c n (r ∷ s ∷ rs) up (suc k) d lt =
     let e : suc k + 1 ≡ suc (k + 1) = omega arith in
     rw e (adjacent c (r.1 + 1) (s ∷ rs) after k d (omega arith))
 
-in_at : (c : ℕ) (rs : List Range) (i : ℕ) → i < length rs → ((d : Range) → side c (slice_index_or rs i d) ≡ Equal) → in_ranges rs c ≡ true
+in_at : (c : ℕ) (rs : List Range) (i : ℕ) → i < length rs → ((d : Range) → side c (slice_index_or rs i d) ≡ Equal)
+    → in_ranges rs c ≡ true
 unfolding is_equal
 in_at c [] i lt h = absurd (omega arith)
 in_at c (r ∷ rs) zero lt h = rw (within c r ∙ ap is_equal (h r)) refl
 in_at c (r ∷ rs) (suc i) lt h = rw (in_at c rs i (omega arith) h) (or-true (is_within r c))
 
-out_of_all : (c : ℕ) (rs : List Range) → ((k : ℕ) (d : Range) → k < length rs → is_equal (side c (slice_index_or rs k d)) ≡ false) → in_ranges rs c ≡ false
+out_of_all : (c : ℕ) (rs : List Range)
+    → ((k : ℕ) (d : Range) → k < length rs → is_equal (side c (slice_index_or rs k d)) ≡ false) → in_ranges rs c ≡ false
 out_of_all c [] h = refl
 out_of_all c (r ∷ rs) h = rw (within c r ∙ h 0 r (omega arith)) (out_of_all c rs (λ k d lt. h (suc k) d (omega arith)))
 
-searched : (c : ℕ) (rs : List Range) (r : Result ℕ ℕ) → rises_from 0 rs ≡ true → IsSearchInRange r (length rs) → IsBinarySearchResult (side c) rs r → is_ok r ≡ in_ranges rs c
+searched : (c : ℕ) (rs : List Range) (r : Result ℕ ℕ) → rises_from 0 rs ≡ true → IsSearchInRange r (length rs)
+    → IsBinarySearchResult (side c) rs r → is_ok r ≡ in_ranges rs c
 unfolding is_equal
 searched c rs (Ok i) up bound found = sym (in_at c rs i bound found)
 searched c rs (Err i) up bound found = sym (out_of_all c rs (λ k d lt. outside k d lt))
@@ -63,7 +70,8 @@ searched c rs (Err i) up bound found = sym (out_of_all c rs (λ k d lt. outside 
 pub past_ascii : (c : ℕ) (ascii : Bool) (r : Result ℕ ℕ) → ascii ≡ nat_lt c 128 → ascii ≡ false
     → IsSearchInRange r (length emoji_ranges) → IsBinarySearchResult (side c) emoji_ranges r → is_ok r ≡ is_emoji c
 unfolding is_emoji emoji_ranges
-past_ascii c ascii r e f bound found = rw (le-leb 128 c (ltb-false c 128 (sym e ∙ f))) (searched c emoji_ranges r refl bound found)
+past_ascii c ascii r e f bound found =
+    rw (le-leb 128 c (ltb-false c 128 (sym e ∙ f))) (searched c emoji_ranges r refl bound found)
 
 pub in_ascii : (c : ℕ) (ascii : Bool) → ascii ≡ nat_lt c 128 → ascii ≡ true → not ascii ≡ is_emoji c
 unfolding is_emoji

@@ -1,5 +1,7 @@
 -- The families that characters choose: by the table in ASCII, and by the classes past it.
-use Rattle.std.proofs.Common.{◌≡◌, ℕ, ◌<◌, ◌≤◌, ◌==◌, not, true, false, true≢false, List, [], ◌∷◌, get_or, refl, sym, ap, ◌∙◌, arith}
+use Rattle.std.proofs.Common.{
+    ◌≡◌, ℕ, ◌<◌, ◌≤◌, ◌==◌, not, true, false, true≢false, List, [], ◌∷◌, get_or, refl, sym, ap, ◌∙◌, arith
+}
 use Rattle.std.specs.Str.{chars}
 use Rattle.std.proofs.lemmas.{Bool.{ne_eqb}, List.FromFn.{get_or-map-range_with_len}}
 use Rattle.unicode_ident.specs.Ident.{is_xid_start}
@@ -11,9 +13,11 @@ use Rattle.rustc_lexer.specs.{laws.LanguageRuns.{among}, means.Lexeme.{family_of
 use Rattle.rustc_lexer.specs.{means.Scan.{scanned}, laws.Scan.{scanned-same}}
 
 -- what the family of the first character reads
-pub by_family : (f : Family) (c : ℕ) (tail : List ℕ) (read : TokenKind × List ℕ) → f ≡ family_of c → read ≡ scanned (read_by f c) tail → read ≡ scanned (past_first c) tail
+pub by_family : (f : Family) (c : ℕ) (tail : List ℕ) (read : TokenKind × List ℕ) → f ≡ family_of c
+    → read ≡ scanned (read_by f c) tail → read ≡ scanned (past_first c) tail
 unfolding past_first
-by_family f c tail read g e = e ∙ sym (scanned-same (past_first c) (read_by f c) tail (ap (λ h. read_by h c (chars tail)) (sym g)))
+by_family f c tail read g e =
+    e ∙ sym (scanned-same (past_first c) (read_by f c) tail (ap (λ h. read_by h c (chars tail)) (sym g)))
 
 -- ---- the table of families
 
@@ -26,7 +30,8 @@ table c small = get_or-map-range_with_len family_of 0 128 c c Slash small (omega
 -- no word begins with white space
 no_start : (d : ℕ) → is_whitespace d ≡ true → not (is_xid_start d) ≡ true
 unfolding unicode_ident
-no_start d e = among (λ x. not (is_xid_start x)) (0x9 ∷ 0xA ∷ 0xB ∷ 0xC ∷ 0xD ∷ 0x20 ∷ 0x85 ∷ 0x200E ∷ 0x200F ∷ 0x2028 ∷ 0x2029 ∷ []) refl d e
+no_start d e = among (λ x. not (is_xid_start x))
+    (0x9 ∷ 0xA ∷ 0xB ∷ 0xC ∷ 0xD ∷ 0x20 ∷ 0x85 ∷ 0x200E ∷ 0x200F ∷ 0x2028 ∷ 0x2029 ∷ []) refl d e
 
 no_space : (c : ℕ) → is_xid_start c ≡ true → is_whitespace c ≡ false
 no_space c e = by_either (is_whitespace c)

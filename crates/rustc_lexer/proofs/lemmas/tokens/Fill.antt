@@ -1,5 +1,9 @@
--- What the clauses `count` and `state` of `Tokens::fill`, with those of `as_str` before it, tell of the iterator after it.
-use Rattle.std.proofs.Common.{◌≡◌, ℕ, zero, suc, ◌+◌, ◌<◌, ◌≤◌, [], length, drop, min, refl, sym, ap, subst, ◌∙◌, arith, length-drop, pos_of_ne-zero}
+-- What the clauses `count` and `state` of `Tokens::fill`, with those of `as_str` before it, tell of the iterator after
+-- it.
+use Rattle.std.proofs.Common.{
+    ◌≡◌, ℕ, zero, suc, ◌+◌, ◌<◌, ◌≤◌, [], length, drop, min, refl, sym, ap, subst, ◌∙◌, arith, length-drop,
+    pos_of_ne-zero
+}
 use Rattle.std.proofs.{lemmas.{List.{nil_from_length}, Str.{IsUtf8-drop}}, Math.Nat.{min-le_right}}
 use Rattle.rustc_lexer.specs.{Token, Classes.{IsText}, LanguageText.{Mode, mode_edition}, State.{State}}
 use Rattle.rustc_lexer.specs.Tokens.{advance, bound, state_past, tokens_left, tokens_of, TakesToken}
@@ -15,7 +19,8 @@ record IsPast (s t : State) (count : ℕ) : Type 0 where
   rest : t.rest ≡ drop (bound (tokens_left s) count) s.rest
   edition : mode_edition t.mode ≡ mode_edition s.mode
 
-is_past : (s : State) → IsText s.rest → s.pending ≡ 0 → (count : ℕ) → count ≤ length (tokens_left s) → IsPast s (state_past count s) count
+is_past : (s : State) → IsText s.rest → s.pending ≡ 0 → (count : ℕ) → count ≤ length (tokens_left s)
+    → IsPast s (state_past count s) count
 is_past s is none zero few = record { text = is; pending = none; left = refl; rest = refl; edition = refl }
 is_past s is none (suc count) few =
     let before = is_past s is none count (omega arith) in
@@ -27,13 +32,18 @@ is_past s is none (suc count) few =
     let first : TakesToken at token (past_token at.rest at.mode token) = takes_first at
     (past_token at.rest at.mode token) token before.pending before.text some refl refl in
     let next_is : (advance at).1 ≡ past_token at.rest at.mode token = ap (λ (r : Token × State). r.1) first.advances in
-    let takes : TakesToken at token (state_past (suc count) s) = subst (λ (x : State). TakesToken at token x) (sym next_is) first in
+    let takes : TakesToken at token (state_past (suc count) s) =
+        subst (λ (x : State). TakesToken at token x) (sym next_is) first in
     let more : count + 1 ≡ suc count = omega arith in
     record {
-      text = subst IsText (sym takes.rest) (record { utf8 = IsUtf8-drop at.rest token.len before.text.utf8 takes.boundary; fits = let fits = before.text.fits in omega (arith, length-drop token.len at.rest, fits) });
+      text = subst IsText (sym takes.rest)
+          (record { utf8 = IsUtf8-drop at.rest token.len before.text.utf8 takes.boundary;
+          fits = let fits = before.text.fits in omega (arith, length-drop token.len at.rest, fits) });
       pending = ap (λ (x : State). x.pending) next_is;
-      left = left_more s at (state_past (suc count) s) count token refl before.left takes ∙ ap (λ n. drop n (tokens_left s)) more;
-      rest = rest_more s at (state_past (suc count) s) count token refl before.left takes before.rest ∙ ap (λ n. drop (bound (tokens_left s) n) s.rest) more;
+      left = left_more s at (state_past (suc count) s) count token refl before.left takes
+          ∙ ap (λ n. drop n (tokens_left s)) more;
+      rest = rest_more s at (state_past (suc count) s) count token refl before.left takes before.rest
+          ∙ ap (λ n. drop (bound (tokens_left s) n) s.rest) more;
       edition = ap (λ (m : Mode). mode_edition m) takes.mode ∙ (edition-after at.mode token.kind ∙ before.edition);
     }
 
@@ -46,7 +56,8 @@ pub record Leaves (s t : State) (room count : ℕ) : Type 0 where
   pub edition : mode_edition t.mode ≡ mode_edition s.mode
   pub progress : 0 < room → 0 < length s.rest → length t.rest < length s.rest
 
-pub past_fill : (s t : State) (room count : ℕ) → IsText s.rest → s.pending ≡ 0 → count ≡ min room (length (tokens_left s)) → t ≡ state_past count s → Leaves s t room count
+pub past_fill : (s t : State) (room count : ℕ) → IsText s.rest → s.pending ≡ 0
+    → count ≡ min room (length (tokens_left s)) → t ≡ state_past count s → Leaves s t room count
 past_fill s t room count is none as_many past =
     let few : count ≤ length (tokens_left s) = omega (arith, as_many, min-le_right room (length (tokens_left s))) in
     let all = is_past s is none count few in

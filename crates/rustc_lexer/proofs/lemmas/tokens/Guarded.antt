@@ -1,5 +1,8 @@
 -- Guarded strings: what is taken of a text.
-use Rattle.std.proofs.Common.{◌≡◌, ℕ, suc, ◌+◌, ◌-◌, Bool, true, false, if◌then◌else◌, List, [], ◌∷◌, length, drop, sym, ap, ◌∙◌, arith, subst, Option, Some, None}
+use Rattle.std.proofs.Common.{
+    ◌≡◌, ℕ, suc, ◌+◌, ◌-◌, Bool, true, false, if◌then◌else◌, List, [], ◌∷◌, length, drop, sym, ap, ◌∙◌, arith, subst,
+    Option, Some, None
+}
 use Rattle.std.specs.Str.{chars, IsUtf8, IsCharBoundary}
 use Rattle.std.proofs.lemmas.{Str.{IsCharBoundary-from_drop}, Grind.{common_steps}}
 use Rattle.rustc_lexer.specs.{GuardedStr, means.Guarded.{guarded_body, string_past, guarded_by, take_guarded}}
@@ -10,7 +13,8 @@ use Rattle.rustc_lexer.proofs.lemmas.tokens.{ByteSearch.{begins-byte}, Raw.{hash
 use Rattle.rustc_lexer.specs.laws.{Scan.{scanned-after}, State.{state}}
 
 -- what follows the n hashes at the front
-module _ (rest front : List ℕ) (n : ℕ) (is : IsUtf8 rest) (count : n ≡ hash_run (chars rest)) (cut : front ≡ drop n rest) where
+module _ (rest front : List ℕ) (n : ℕ) (is : IsUtf8 rest) (count : n ≡ hash_run (chars rest))
+    (cut : front ≡ drop n rest) where
   front_is : front ≡ past n rest
   front_is = cut ∙ hash_cut rest is n (omega arith)
 
@@ -26,26 +30,32 @@ module _ (rest front : List ℕ) (n : ℕ) (is : IsUtf8 rest) (count : n ≡ has
   pub no_string : begins (34 ∷ []) (chars front) ≡ false → None ≡ string_past n (chars rest)
   no_string e = sym (ap chosen (quote_next ∙ e))
 
-  module _ (body left : List ℕ) (closed : Bool) (body_cut : body ≡ past 1 front) (read : (closed, left) ≡ scanned (guarded_body n) body) where
+  module _ (body left : List ℕ) (closed : Bool) (body_cut : body ≡ past 1 front)
+      (read : (closed, left) ≡ scanned (guarded_body n) body) where
     body_is : body ≡ past (suc n) rest
-    body_is = let one : n + 1 ≡ suc n = omega arith in body_cut ∙ (ap (past 1) front_is ∙ (past-past 1 n rest is ∙ ap (λ (k : ℕ). past k rest) one))
+    body_is = let one : n + 1 ≡ suc n = omega arith in
+        body_cut ∙ (ap (past 1) front_is ∙ (past-past 1 n rest is ∙ ap (λ (k : ℕ). past k rest) one))
 
     whole_is : (closed, left) ≡ scanned (after (suc n) (guarded_body n)) rest
     whole_is = read ∙ sym (scanned-after (suc n) (guarded_body n) rest body is body_is)
 
     taken_is : bytes_of (suc n + body_read.1) (chars rest) ≡ length rest - length left
-    taken_is = let l = length-past (suc n + body_read.1) rest is in let e = ap (λ (r : Bool × List ℕ). length r.1) whole_is in omega arith
+    taken_is = let l = length-past (suc n + body_read.1) rest is in
+        let e = ap (λ (r : Bool × List ℕ). length r.1) whole_is in omega arith
 
     pub string_boundary : IsCharBoundary rest (length rest - length left)
     string_boundary =
         IsCharBoundary-from_drop rest (length rest - length left) (omega arith)
-        (subst IsUtf8 (past-drop (suc n + body_read.1) rest is ∙ ap (λ (k : ℕ). drop k rest) taken_is) (IsUtf8-past (suc n + body_read.1) rest is))
+        (subst IsUtf8 (past-drop (suc n + body_read.1) rest is ∙ ap (λ (k : ℕ). drop k rest) taken_is)
+            (IsUtf8-past (suc n + body_read.1) rest is))
 
-    pub string_here : begins (34 ∷ []) (chars front) ≡ true → Some (closed, length rest - length left) ≡ string_past n (chars rest)
+    pub string_here : begins (34 ∷ []) (chars front) ≡ true → Some (closed, length rest - length left) ≡
+        string_past n (chars rest)
     string_here e = grind (arith, common_steps, whole_is, taken_is, quote_next)
 
 -- a cursor with bytes pending before what is left, where n hashes are next
-module _ (pending : ℕ) (left : List ℕ) (mode : Mode) (s : State) (rest : List ℕ) (view : state pending left mode ≡ s) (offset : rest ≡ s.rest) (n : ℕ) (count : n ≡ hash_run (chars rest)) where
+module _ (pending : ℕ) (left : List ℕ) (mode : Mode) (s : State) (rest : List ℕ) (view : state pending left mode ≡ s)
+    (offset : rest ≡ s.rest) (n : ℕ) (count : n ≡ hash_run (chars rest)) where
   here : rest ≡ left
   here = offset ∙ sym (ap (λ (x : State). x.rest) view)
 
@@ -57,8 +67,11 @@ module _ (pending : ℕ) (left : List ℕ) (mode : Mode) (s : State) (rest : Lis
   guarded-is o read = grind (arith, common_steps)
 
   pub none_here : None ≡ string_past n (chars rest) → take_guarded s ≡ (None, state (pending + n) (drop n left) mode)
-  none_here read = guarded-is None read ∙ ap (λ (xs : List ℕ). let r : Option GuardedStr × State = (None, state (pending + n) (drop n xs) mode) in r) here
+  none_here read =
+      guarded-is None read
+      ∙ ap (λ (xs : List ℕ). let r : Option GuardedStr × State = (None, state (pending + n) (drop n xs) mode) in r) here
 
   pub some_here : (closed : Bool) (t : ℕ) → Some (closed, t) ≡ string_past n (chars rest)
-      → take_guarded s ≡ (Some record { n_hashes = n; terminated = closed; token_len = pending + t }, state 0 (drop t left) mode)
+      → take_guarded s ≡
+          (Some record { n_hashes = n; terminated = closed; token_len = pending + t }, state 0 (drop t left) mode)
   some_here closed t read = grind (arith, common_steps, guarded-is (Some (closed, t)) read, here)

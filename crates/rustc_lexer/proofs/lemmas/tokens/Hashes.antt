@@ -1,5 +1,8 @@
 -- A hash, by the byte after it.
-use Rattle.std.proofs.Common.{◌≡◌, ◌≢◌, ℕ, ◌<◌, ◌≤◌, Bool, drop, refl, subst, true, false, true≢false, List, [], ◌∷◌, ◌++◌, length, sym, ap, ◌∙◌, arith}
+use Rattle.std.proofs.Common.{
+    ◌≡◌, ◌≢◌, ℕ, ◌<◌, ◌≤◌, Bool, drop, refl, subst, true, false, true≢false, List, [], ◌∷◌, ◌++◌, length, sym, ap, ◌∙◌,
+    arith
+}
 use Rattle.std.specs.Str.{encode_utf8_all, IsCharBoundary, IsUtf8}
 use Rattle.std.proofs.lemmas.Bool.{eqb-true, or_cases}
 use Rattle.std.proofs.lemmas.Str.{chars-nil, encode_ascii, encodes-chars, IsCharBoundary-from_drop}
@@ -24,15 +27,19 @@ hash-code : (c : ℕ) → family_of c ≡ Hash → c ≡ 35
 hash-code c e = grind arith
 
 -- a text that begins with no hash, by its first byte
-pub no_hash : (text : List ℕ) (b : ℕ) (rest : List ℕ) → IsUtf8 text → text ≡ b ∷ rest → family_of b ≢ Hash → BeginsWithNoHash text
+pub no_hash : (text : List ℕ) (b : ℕ) (rest : List ℕ) → IsUtf8 text → text ≡ b ∷ rest → family_of b ≢ Hash
+    → BeginsWithNoHash text
 no_hash text b rest is e other first cs read family =
     let code : first ≡ 35 = hash-code first family in
     let whole : b ∷ rest ≡ first ∷ encode_utf8_all cs =
-    sym e ∙ (sym (encodes-chars text is) ∙ (ap encode_utf8_all read ∙ ap (λ (xs : List ℕ). xs ++ encode_utf8_all cs) (encode_ascii first (omega arith)))) in
+    sym e ∙ (sym (encodes-chars text is)
+        ∙ (ap encode_utf8_all read ∙ ap (λ (xs : List ℕ). xs ++ encode_utf8_all cs)
+        (encode_ascii first (omega arith)))) in
     let same : first ≡ b = cc in
     other (ap family_of (sym same) ∙ family)
 
-pub no_hash-wide : (text : List ℕ) (b : ℕ) (rest : List ℕ) → IsUtf8 text → text ≡ b ∷ rest → 128 ≤ b → BeginsWithNoHash text
+pub no_hash-wide : (text : List ℕ) (b : ℕ) (rest : List ℕ) → IsUtf8 text → text ≡ b ∷ rest → 128 ≤ b
+    → BeginsWithNoHash text
 no_hash-wide text b rest is e wide = no_hash text b rest is e (λ family. let code = hash-code b family in omega arith)
 
 pub no_hash-empty : (text : List ℕ) → length text ≡ 0 → BeginsWithNoHash text
@@ -43,26 +50,31 @@ pub prefix_first : (text : List ℕ) (b : ℕ) (rest : List ℕ) → IsUtf8 text
     → Hash ≡ family_of b → next_is opens_guarded rest ≡ true
     → IsFirstToken text record { kind = GuardedStrPrefix; len = 2 }
 prefix_first text b [] is e small family opens = absurd (true≢false (sym opens))
-prefix_first text b (d ∷ ds) is e small family opens = first text b (d ∷ ds) GuardedStrPrefix 1 is e small (omega arith) decided
+prefix_first text b (d ∷ ds) is e small family opens =
+    first text b (d ∷ ds) GuardedStrPrefix 1 is e small (omega arith) decided
   where
     decided : IsUtf8 (d ∷ ds) → (GuardedStrPrefix, ds) ≡ scanned (past_first b) (d ∷ ds)
     decided inner =
         by_family Hash b (d ∷ ds) _ family
-        (grind (arith, common_steps, next_byte opens_guarded opens_guarded-small (d ∷ ds) inner, past-ascii d ds inner (opens_guarded-small d opens)))
+        (grind (arith, common_steps, next_byte opens_guarded opens_guarded-small (d ∷ ds) inner,
+            past-ascii d ds inner (opens_guarded-small d opens)))
 
 pub pound_first : (text : List ℕ) (b : ℕ) (rest : List ℕ) → IsUtf8 text → text ≡ b ∷ rest → b < 128 → Hash ≡ family_of b
     → next_is opens_guarded rest ≡ false → IsFirstToken text record { kind = Pound; len = 1 }
 pound_first text b rest is e small family none = first text b rest Pound 0 is e small (omega arith) decided
   where
     decided : IsUtf8 rest → (Pound, rest) ≡ scanned (past_first b) rest
-    decided inner = by_family Hash b rest _ family (grind (arith, common_steps, next_byte opens_guarded opens_guarded-small rest inner, past-zero rest inner))
+    decided inner = by_family Hash b rest _ family
+        (grind (arith, common_steps, next_byte opens_guarded opens_guarded-small rest inner, past-zero rest inner))
 
 -- the same in each edition
 pub hash_alone : (guards : Bool) (text : List ℕ) (b : ℕ) (rest : List ℕ) → IsUtf8 text → text ≡ b ∷ rest → b < 128
     → Hash ≡ family_of b → next_is opens_guarded rest ≡ false → IsFirstBy guards text record { kind = Pound; len = 1 }
-hash_alone guards text b rest is e small family none = first_by guards text _ (pound_first text b rest is e small family none) refl
+hash_alone guards text b rest is e small family none =
+    first_by guards text _ (pound_first text b rest is e small family none) refl
 
-pub hash_older : (text : List ℕ) (b : ℕ) (rest : List ℕ) → IsUtf8 text → text ≡ b ∷ rest → b < 128 → Hash ≡ family_of b → IsFirstBy false text record { kind = Pound; len = 1 }
+pub hash_older : (text : List ℕ) (b : ℕ) (rest : List ℕ) → IsUtf8 text → text ≡ b ∷ rest → b < 128 → Hash ≡ family_of b
+    → IsFirstBy false text record { kind = Pound; len = 1 }
 hash_older text b rest is e small family =
     by_either (next_is opens_guarded rest)
     (λ opens. pound_by text (prefix_first text b rest is e small family opens) past)

@@ -1,5 +1,8 @@
 -- The two runs of an identifier: what it may go on with, and past an emoji all else.
-use Rattle.std.proofs.Common.{◌≡◌, ℕ, ◌+◌, ◌==◌, ◌&&◌, not, Bool, true, false, if◌then◌else◌, List, [], ◌∷◌, length, take, drop, refl, sym, ap, ◌∙◌, arith, zero-add, codes, ltb, lt-ltb}
+use Rattle.std.proofs.Common.{
+    ◌≡◌, ℕ, ◌+◌, ◌==◌, ◌&&◌, not, Bool, true, false, if◌then◌else◌, List, [], ◌∷◌, length, take, drop, refl, sym, ap,
+    ◌∙◌, arith, zero-add, codes, ltb, lt-ltb
+}
 use Rattle.std.specs.{List.{list_all}, Str.{chars, encode_utf8_all, IsUtf8}}
 use Rattle.std.proofs.lemmas.{Bool.Decides.{nat_tests}, Grind.{common_steps}, Str.{length-le-encodes}}
 use Rattle.rustc_lexer.specs.{Ident, UnknownPrefix}
@@ -36,24 +39,32 @@ module _ (tail rest : List ℕ) (is : IsUtf8 tail) (e : rest ≡ past (len (char
   rest_is : chars rest ≡ drop (len (chars tail)) (chars tail)
   rest_is = ap chars e ∙ chars-past (len (chars tail)) tail is
 
-  pub ident_or_unknown_prefix-invalid : next_is is_emoji (chars rest) ≡ true → scanned invalid_ident rest ≡ scanned ident_or_unknown_prefix tail
+  pub ident_or_unknown_prefix-invalid : next_is is_emoji (chars rest) ≡ true
+      → scanned invalid_ident rest ≡ scanned ident_or_unknown_prefix tail
   ident_or_unknown_prefix-invalid h = grind (arith, common_steps, rest_is, word_all, past-past, word_runs)
 
-  pub ident_or_unknown_prefix-valid : next_is is_emoji (chars rest) ≡ false → ((if next_is ends_prefix (chars rest) then UnknownPrefix else Ident), rest) ≡ scanned ident_or_unknown_prefix tail
+  pub ident_or_unknown_prefix-valid : next_is is_emoji (chars rest) ≡ false
+      → ((if next_is ends_prefix (chars rest) then UnknownPrefix else Ident), rest) ≡
+      scanned ident_or_unknown_prefix tail
   ident_or_unknown_prefix-valid h = grind (arith, common_steps, rest_is, word_none, word_all)
 
 -- a hash and what follows it
-module _ (tail word : List ℕ) (is : IsUtf8 tail) (e : word ≡ past 1 tail) (hash : begins (codes "#") (chars tail) ≡ true) where
+module _ (tail word : List ℕ) (is : IsUtf8 tail) (e : word ≡ past 1 tail)
+    (hash : begins (codes "#") (chars tail) ≡ true) where
   hash_ident-is : begins_hash_ident (chars tail) ≡ next_is is_id_start (chars word)
-  hash_ident-is = ap (λ (b : Bool). b && next_is is_id_start (drop 1 (chars tail))) hash ∙ ap (next_is is_id_start) (sym (ap chars e ∙ chars-past 1 tail is))
+  hash_ident-is = ap (λ (b : Bool). b && next_is is_id_start (drop 1 (chars tail))) hash
+      ∙ ap (next_is is_id_start) (sym (ap chars e ∙ chars-past 1 tail is))
 
   pub hash_ident-none : chars word ≡ [] → begins_hash_ident (chars tail) ≡ false
   hash_ident-none none = hash_ident-is ∙ ap (next_is is_id_start) none
 
-  pub hash_ident-by : (c : ℕ) (cs : List ℕ) (b : Bool) → chars word ≡ c ∷ cs → b ≡ is_id_start c → begins_hash_ident (chars tail) ≡ b
+  pub hash_ident-by : (c : ℕ) (cs : List ℕ) (b : Bool) → chars word ≡ c ∷ cs → b ≡ is_id_start c
+      → begins_hash_ident (chars tail) ≡ b
   hash_ident-by c cs b f g = hash_ident-is ∙ (ap (next_is is_id_start) f ∙ sym g)
 
-  pub past-hash_ident : (ident left : List ℕ) → ident ≡ past 1 word → left ≡ past (run_len is_id_continue (chars ident)) ident → left ≡ past (2 + run_len is_id_continue (drop 2 (chars tail))) tail
+  pub past-hash_ident : (ident left : List ℕ) → ident ≡ past 1 word
+      → left ≡ past (run_len is_id_continue (chars ident)) ident
+      → left ≡ past (2 + run_len is_id_continue (drop 2 (chars tail))) tail
   past-hash_ident ident left f g = grind (arith, common_steps, past-two, chars-past, past-past)
 
 -- ---- a text of one run
@@ -65,6 +76,7 @@ all_run p (c ∷ s) = by_either (p c)
     (λ e. rw e (all_run p s))
     (λ e. rw e (let long = length-le-encodes (c ∷ s) in grind (arith, nat_tests)))
 
-pub all_past : (p : ℕ → Bool) (text rest : List ℕ) → rest ≡ past (run_len p (chars text)) text → (length rest == 0) ≡ list_all p (chars text)
+pub all_past : (p : ℕ → Bool) (text rest : List ℕ) → rest ≡ past (run_len p (chars text)) text
+    → (length rest == 0) ≡ list_all p (chars text)
 unfolding past
 all_past p text rest e = rw e (all_run p (chars text))

@@ -1,9 +1,14 @@
 -- What the grammar says of the text of a token by its kind, and of the suffix of a literal.
-use Rattle.std.proofs.Common.{◌≡◌, ◌↔◌, ◌≤◌, Bool, true, false, true≢false, List, ℕ, [], ◌∷◌, ◌++◌, codes, drop, take, length, refl, sym, ap, ap₂, arith, ◌∙◌, chars, Ok, Option, Result, Some, None, IsSome}
+use Rattle.std.proofs.Common.{
+    ◌≡◌, ◌↔◌, ◌≤◌, Bool, true, false, true≢false, List, ℕ, [], ◌∷◌, ◌++◌, codes, drop, take, length, refl, sym, ap, ap₂,
+    arith, ◌∙◌, chars, Ok, Option, Result, Some, None, IsSome
+}
 use Rattle.std.proofs.lemmas.{List.{append-nil}, Str.{chars-append, chars-encodes, encode_ascii, encodes-append}}
 use Rattle.std.proofs.lemmas.Grind.{common_steps}
 use Rattle.std.specs.Str.{encode_utf8_all}
-use Rattle.rustc_lexer.specs.{Edition, LiteralKind, RawStrError, Token, TokenKind, Ident, RawIdent, UnknownPrefix, Literal, Eof}
+use Rattle.rustc_lexer.specs.{
+    Edition, LiteralKind, RawStrError, Token, TokenKind, Ident, RawIdent, UnknownPrefix, Literal, Eof
+}
 use Rattle.rustc_lexer.specs.{Answers.{raw_check}, Classes.{bytes, is_ident, Chars, IsText, Utf8}}
 use Rattle.rustc_lexer.specs.Language as the
 use Rattle.rustc_lexer.specs.Language.{IsTokenBefore}
@@ -24,22 +29,28 @@ abbrev IsQuietLiteral : LiteralKind → Type 0
 IsQuietLiteral kind = (is_faulty kind ≡ false) × ((n : ℕ) (text : Utf8) → HasText (Literal kind n) text)
 
 number-quiet : {next w : Chars} {kind : LiteralKind} → HasNumberForm next kind w → IsQuietLiteral kind
-number-quiet is = number-kind IsQuietLiteral (λ base empty. (refl, λ n text. tt)) (λ base empty. (refl, λ n text. tt)) is
+number-quiet is =
+    number-kind IsQuietLiteral (λ base empty. (refl, λ n text. tt)) (λ base empty. (refl, λ n text. tt)) is
 
 -- a literal that may have a suffix is not faulty
-suffixed : {next w : Chars} {kind : LiteralKind} {may : Bool} → IsLiteralBefore next kind may w → may ≡ true → is_faulty kind ≡ false
+suffixed : {next w : Chars} {kind : LiteralKind} {may : Bool} → IsLiteralBefore next kind may w → may ≡ true
+    → is_faulty kind ≡ false
 suffixed w0 w1 = grind (arith, common_steps, number-quiet)
 
 -- a raw string that is not refused is what the check of raw strings accepts
-accepted : {rest cs w : Chars} {o : Option ℕ} {p : ℕ} {r : Result Unit RawStrError} → IsRaw rest o w → IsRawAnswer p cs r → r ≡ Ok tt → cs ≡ w ++ rest → IsSome o
+accepted : {rest cs w : Chars} {o : Option ℕ} {p : ℕ} {r : Result Unit RawStrError} → IsRaw rest o w
+    → IsRawAnswer p cs r → r ≡ Ok tt → cs ≡ w ++ rest → IsSome o
 accepted w0 w1 w2 w3 = grind (arith, common_steps, raw-read)
 
 accepts : {rest w : Chars} (p : ℕ) (o : Option ℕ) → IsRaw rest o w → IsSome o → IsRawAnswer p (w ++ rest) (Ok tt)
 accepts p (Some n) is some = call.good is
 accepts p None is some = absurd (true≢false (sym some))
 
-checked : {next rest w : Chars} {o : Option ℕ} → IsRaw next o w → (o ≡ None → rest ≡ []) → (p : ℕ) (text : Utf8) → drop p (chars text) ≡ w ++ rest → (raw_check text p ≡ Ok tt) ↔ IsSome o
-checked {rest = rest} {o = o} is end p text e = grind (arith, common_steps, (the_raw text p).only tt (Ok tt), raw-alike is rest (λ none over. end none), accepted, accepts)
+checked : {next rest w : Chars} {o : Option ℕ} → IsRaw next o w → (o ≡ None → rest ≡ []) → (p : ℕ) (text : Utf8)
+    → drop p (chars text) ≡ w ++ rest → (raw_check text p ≡ Ok tt) ↔ IsSome o
+checked {rest = rest} {o = o} is end p text e =
+    grind (arith, common_steps, (the_raw text p).only tt (Ok tt), raw-alike is rest (λ none over. end none), accepted,
+    accepts)
 
 -- the text of a literal is as its kind says
 literal-text : {next w : Chars} {kind : LiteralKind} {may : Bool} → IsLiteralBefore next kind may w → (rest : Chars)
@@ -78,7 +89,9 @@ says (the.end none) = refl
 says (the.ident is stop end) = is
 says (the.unknown_prefix is end new) = is
 says (the.raw_ident {w} is stop) = (w, refl, is)
-says (the.literal {w = w} is) = record { within = omega arith; ends = λ bad. refl; text = λ text e. literal-text is [] (λ f. refl) (bytes w) text (e ∙ sym (append-nil w)) }
+says (the.literal {w = w} is) =
+    record { within = omega arith; ends = λ bad. refl; text = λ text e. literal-text is [] (λ f. refl) (bytes w) text
+    (e ∙ sym (append-nil w)) }
 says (the.literal_with {w = w} {suffix = suffix} is suffix_is) =
     grind (arith, common_steps, bytes-append, suffixed, literal-text)
 says (the.symbol {c} is) = quiet (symbol_kind c) (c ∷ []) (by_symbol is_quiet symbols c refl refl)
@@ -103,12 +116,17 @@ hash_r = ap₂ (λ a b. a ++ (b ++ [])) (encode_ascii 114 (omega arith)) (encode
 chars_r : chars (codes "r#") ≡ codes "r#"
 chars_r = ap chars (sym hash_r) ∙ chars-encodes (codes "r#") refl
 
-has_text : (kind : TokenKind) (w : Chars) (text : Utf8) → Says kind w → text ≡ encode_utf8_all w → chars text ≡ w → HasText kind text
+has_text : (kind : TokenKind) (w : Chars) (text : Utf8) → Says kind w → text ≡ encode_utf8_all w → chars text ≡ w
+    → HasText kind text
 has_text Ident w text said e f = rw f said
 has_text RawIdent w text (word, is_raw, is) e f =
-    let cut : text ≡ codes "r#" ++ encode_utf8_all word = e ∙ (ap encode_utf8_all is_raw ∙ (encodes-append (codes "r#") word ∙ ap (λ bs. bs ++ encode_utf8_all word) hash_r)) in
+    let cut : text ≡ codes "r#" ++ encode_utf8_all word =
+        e ∙ (ap encode_utf8_all is_raw
+        ∙ (encodes-append (codes "r#") word ∙ ap (λ bs. bs ++ encode_utf8_all word) hash_r)) in
     let own : chars (encode_utf8_all word) ≡ word =
-    ap (drop 2) (ap (λ cs. cs ++ chars (encode_utf8_all word)) (sym chars_r) ∙ (sym (chars-append (codes "r#") (encode_utf8_all word) (codes "r#", (refl, hash_r))) ∙ (ap chars (sym cut) ∙ (f ∙ is_raw)))) in
+    ap (drop 2) (ap (λ cs. cs ++ chars (encode_utf8_all word)) (sym chars_r)
+        ∙ (sym (chars-append (codes "r#") (encode_utf8_all word) (codes "r#", (refl, hash_r)))
+        ∙ (ap chars (sym cut) ∙ (f ∙ is_raw)))) in
     (encode_utf8_all word, cut, ap is_ident own ∙ is)
 has_text (Literal kind suffix_start) w text said e f = said.text text f
 has_text Eof w text said e f = ap length (e ∙ ap encode_utf8_all said)
@@ -119,7 +137,9 @@ pub record IsSaid (whole : List ℕ) (token : Token) : Type 0 where
   pub text : HasText token.kind (take token.len whole)
   pub suffix : HasSuffix token
 
-pub first-said : {mode : Mode} {cs : Chars} {token : Token} {tokens : List Token} → AreTokens mode cs (token ∷ tokens) → (text : List ℕ) → IsText text → chars text ≡ cs → IsSaid text token
+pub first-said : {mode : Mode} {cs : Chars} {token : Token} {tokens : List Token} → AreTokens mode cs (token ∷ tokens)
+    → (text : List ℕ) → IsText text → chars text ≡ cs → IsSaid text token
 first-said (grammar.something {mode} {kind} {c} {w} {next} p free rest) text is e =
     grind (arith, common_steps, split text (c ∷ w) next is e, has_text, says-in, suffix)
-first-said (grammar.frontmatter_first body is_opening is_end rest) text is e = record { text = tt; suffix = (omega arith, tt) }
+first-said (grammar.frontmatter_first body is_opening is_end rest) text is e =
+    record { text = tt; suffix = (omega arith, tt) }

@@ -9,7 +9,8 @@ use Rattle.rustc_lexer.specs.laws.Past.{past-past, past-drop, IsUtf8-past, lengt
 use Rattle.rustc_lexer.proofs.lemmas.tokens.Kinds.{first_token-suffix}
 
 -- the token, once what follows the first character is known
-module _ (text tail rest : List ℕ) (c : ℕ) (kind : TokenKind) (is : IsUtf8 text) (cs : chars text ≡ c ∷ chars tail) (e : tail ≡ past 1 text) (f : (kind, rest) ≡ scanned (past_first c) tail) where
+module _ (text tail rest : List ℕ) (c : ℕ) (kind : TokenKind) (is : IsUtf8 text) (cs : chars text ≡ c ∷ chars tail)
+    (e : tail ≡ past 1 text) (f : (kind, rest) ≡ scanned (past_first c) tail) where
   abbrev taken : ℕ
   taken = (past_first c (chars tail)).1
 
@@ -26,15 +27,19 @@ module _ (text tail rest : List ℕ) (c : ℕ) (kind : TokenKind) (is : IsUtf8 t
   boundary =
       let cut : bytes_of (1 + taken) (chars text) ≡ length text - length rest = let b = bytes in omega arith in
       let front : bytes_of (1 + taken) (chars text) ≤ length text = let b = bytes in omega arith in
-      subst (IsCharBoundary text) cut (IsCharBoundary-from_drop text _ front (subst (λ (xs : List ℕ). IsUtf8 xs) (past-drop (1 + taken) text is) (IsUtf8-past (1 + taken) text is)))
+      subst (IsCharBoundary text) cut
+          (IsCharBoundary-from_drop text _ front
+          (subst (λ (xs : List ℕ). IsUtf8 xs) (past-drop (1 + taken) text is) (IsUtf8-past (1 + taken) text is)))
 
   token-is : record { kind = kind; len = length text - length rest } ≡ first_token text
   unfolding first_token
   token-is = grind (arith, common_steps, bytes)
 
   pub made : IsFirstToken text record { kind = kind; len = length text - length rest }
-  made = record { token = token-is; inside = omega (arith, left-le); boundary = boundary; suffix = subst (λ (t : Token). HasSuffixWithin t) (sym token-is) (first_token-suffix text) }
+  made = record { token = token-is; inside = omega (arith, left-le); boundary = boundary;
+      suffix = subst (λ (t : Token). HasSuffixWithin t) (sym token-is) (first_token-suffix text) }
 
 pub token-at_end : (text : List ℕ) → chars text ≡ [] → record { kind = Eof; len = 0 } ≡ first_token text
 unfolding first_token
-token-at_end text e = ap (λ (ds : List ℕ). let t : Token = record { kind = (lexeme ds).0; len = bytes_of (lexeme ds).1 ds } in t) (sym e)
+token-at_end text e =
+    ap (λ (ds : List ℕ). let t : Token = record { kind = (lexeme ds).0; len = bytes_of (lexeme ds).1 ds } in t) (sym e)

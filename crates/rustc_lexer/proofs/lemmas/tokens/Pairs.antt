@@ -1,5 +1,8 @@
 -- A pattern, of which four bytes are looked for at 16 offsets at a time.
-use Rattle.std.proofs.Common.{◌≡◌, ℕ, zero, suc, ◌+◌, ◌-◌, ◌<◌, ◌≤◌, ◌^◌, ◌==◌, ◌&&◌, Bool, true, false, true≢false, List, [], ◌∷◌, map, length, drop, drop-drop, length-drop, get_or, refl, sym, ap, ap₂, ◌∙◌, subst, arith, bit_and, inl, inr}
+use Rattle.std.proofs.Common.{
+    ◌≡◌, ℕ, zero, suc, ◌+◌, ◌-◌, ◌<◌, ◌≤◌, ◌^◌, ◌==◌, ◌&&◌, Bool, true, false, true≢false, List, [], ◌∷◌, map, length,
+    drop, drop-drop, length-drop, get_or, refl, sym, ap, ap₂, ◌∙◌, subst, arith, bit_and, inl, inr
+}
 use Rattle.std.proofs.lemmas.{Bool.{and_parts, cases_lt, false_from_ne_true}, List.{get_or-drop, length-map}}
 use Rattle.std.proofs.lemmas.{Simd.{length-chunk, mask_l-lt}, Nat.Bits.{bit_at_above}}
 use lib.Count.{count_trailing_zeros}
@@ -10,10 +13,13 @@ use Rattle.rustc_lexer.specs.laws.{Least.{more-zero, offset-on, one_more-more}}
 use Rattle.rustc_lexer.proofs.lemmas.tokens.Bits.{bit-and, bit-zero, lowest_in, lowest_is}
 
 -- a mask of the first 16 bytes
-pub few : (p : ℕ → Bool) (bytes : List ℕ) (mask : ℕ) → 16 ≤ length bytes → mask ≡ mask_l (map p (chunk 0 16 bytes)) → mask < 2 ^ 16
+pub few : (p : ℕ → Bool) (bytes : List ℕ) (mask : ℕ) → 16 ≤ length bytes → mask ≡ mask_l (map p (chunk 0 16 bytes))
+    → mask < 2 ^ 16
 few p bytes mask inside e =
-    let long : length (map p (chunk 0 16 bytes)) ≡ 16 = length-map (chunk 0 16 bytes) p ∙ length-chunk 0 16 bytes (omega arith) in
-    subst (λ n. mask < 2 ^ n) long (subst (λ m. m < 2 ^ length (map p (chunk 0 16 bytes))) (sym e) (mask_l-lt (map p (chunk 0 16 bytes))))
+    let long : length (map p (chunk 0 16 bytes)) ≡ 16 = length-map (chunk 0 16 bytes) p
+        ∙ length-chunk 0 16 bytes (omega arith) in
+    subst (λ n. mask < 2 ^ n) long
+        (subst (λ m. m < 2 ^ length (map p (chunk 0 16 bytes))) (sym e) (mask_l-lt (map p (chunk 0 16 bytes))))
 
 -- the pattern begins nowhere below `n`
 abbrev pub AreApart : List ℕ → List ℕ → ℕ → Type 0
@@ -28,14 +34,17 @@ pub record IsLooking (pattern bytes left : List ℕ) : Type 0 where
 pub look_start : (pattern bytes : List ℕ) → IsLooking pattern bytes bytes
 look_start pattern bytes =
     let none : length bytes - length bytes ≡ 0 = omega arith in
-    record { inside = omega arith; left_is = ap (λ n. drop n bytes) (sym none); apart = λ k l. absurd (omega (arith, none, l)) }
+    record { inside = omega arith; left_is = ap (λ n. drop n bytes) (sym none);
+        apart = λ k l. absurd (omega (arith, none, l)) }
 
 pub near : (x : ℕ) → 0 < x → x < 2 ^ 16 → count_trailing_zeros 64 x < 16
 unfolding bit
-near x some small = lowest_in x 16 some (omega (arith, small)) (λ k far. ap (λ n. n == 1) (bit_at_above x 16 k small far))
+near x some small =
+    lowest_in x 16 some (omega (arith, small)) (λ k far. ap (λ n. n == 1) (bit_at_above x 16 k small far))
 
 -- a byte of what begins with the pattern
-begins-at : (pattern s : List ℕ) (i : ℕ) → begins pattern s ≡ true → i < length pattern → is_byte (get_or pattern i 0) (get_or s i 0) ≡ true
+begins-at : (pattern s : List ℕ) (i : ℕ) → begins pattern s ≡ true → i < length pattern
+    → is_byte (get_or pattern i 0) (get_or s i 0) ≡ true
 begins-at [] s i e l = absurd (omega (arith, l))
 begins-at (c ∷ cs) [] i e l = absurd (true≢false (sym e))
 begins-at (c ∷ cs) (d ∷ s) zero e l = (and_parts (d == c) (begins cs s) e).0
@@ -44,17 +53,22 @@ begins-at (c ∷ cs) (d ∷ s) (suc i) e l = begins-at cs s i (and_parts (d == c
 -- whether four bytes of a pattern are in their places from an offset on
 abbrev pub four_at : ℕ → ℕ → ℕ → ℕ → ℕ → List ℕ → ℕ → Bool
 four_at first second third last span bytes k =
-    ((is_byte first (get_or bytes k 0) && is_byte last (get_or bytes (span + k) 0)) && is_byte second (get_or bytes (1 + k) 0)) && is_byte third (get_or bytes (2 + k) 0)
+    ((is_byte first (get_or bytes k 0) && is_byte last (get_or bytes (span + k) 0)) && is_byte second
+        (get_or bytes (1 + k) 0)) && is_byte third (get_or bytes (2 + k) 0)
 
 -- where the pattern begins, they are
-pub candidate : (first second third last span c : ℕ) (more left : List ℕ) → first ≡ c → second ≡ get_or more 0 0 → third ≡ get_or more 1 0 → last ≡ get_or more (length more - 1) 0 → span ≡ length more
+pub candidate : (first second third last span c : ℕ) (more left : List ℕ) → first ≡ c → second ≡ get_or more 0 0
+    → third ≡ get_or more 1 0 → last ≡ get_or more (length more - 1) 0 → span ≡ length more
     → 2 ≤ length more → (found : ℕ) → ((k : ℕ) → k < 16 → bit found k ≡ four_at first second third last span left k)
     → (k : ℕ) → k < 16 → begins (c ∷ more) (drop k left) ≡ true → bit found k ≡ true
 candidate first second third last span c more left e1 e2 e3 e4 e5 some found are k l begun =
     let byte : (i : ℕ) → i < length (c ∷ more) → is_byte (get_or (c ∷ more) i 0) (get_or left (k + i) 0) ≡ true =
-    λ i m. ap (is_byte (get_or (c ∷ more) i 0)) (sym (get_or-drop k left i 0)) ∙ begins-at (c ∷ more) (drop k left) i begun m in
-    let place : (i j b : ℕ) → i < length (c ∷ more) → k + i ≡ j → b ≡ get_or (c ∷ more) i 0 → is_byte b (get_or left j 0) ≡ true =
-    λ i j b m sum same. subst (λ (n : ℕ). is_byte b (get_or left n 0) ≡ true) sum (subst (λ (x : ℕ). is_byte x (get_or left (k + i) 0) ≡ true) (sym same) (byte i m)) in
+    λ i m. ap (is_byte (get_or (c ∷ more) i 0)) (sym (get_or-drop k left i 0))
+        ∙ begins-at (c ∷ more) (drop k left) i begun m in
+    let place : (i j b : ℕ) → i < length (c ∷ more) → k + i ≡ j → b ≡ get_or (c ∷ more) i 0
+        → is_byte b (get_or left j 0) ≡ true =
+    λ i j b m sum same. subst (λ (n : ℕ). is_byte b (get_or left n 0) ≡ true) sum
+        (subst (λ (x : ℕ). is_byte x (get_or left (k + i) 0) ≡ true) (sym same) (byte i m)) in
     let one = place 0 k first (omega arith) (omega arith) e1 in
     let two = place 1 (1 + k) second (omega (arith, some)) (omega arith) e2 in
     let three = place 2 (2 + k) third (omega (arith, some)) (omega arith) e3 in
@@ -62,7 +76,8 @@ candidate first second third last span c more left e1 e2 e3 e4 e5 some found are
     are k l ∙ rw (one, four, two, three) refl
 
 -- a look at 16 offsets
-module _ (first second third last span : ℕ) (bytes : List ℕ) (firsts : ℕ) (firsts_are : (k : ℕ) → k < 16 → bit firsts k ≡ is_byte first (get_or bytes k 0)) where
+module _ (first second third last span : ℕ) (bytes : List ℕ) (firsts : ℕ) (firsts_are : (k : ℕ) → k < 16
+    → bit firsts k ≡ is_byte first (get_or bytes k 0)) where
   seen : (n : ℕ) (s : List ℕ) (k : ℕ) → s ≡ drop n bytes → get_or s k 0 ≡ get_or bytes (n + k) 0
   seen n s k e = ap (λ (xs : List ℕ). get_or xs k 0) e ∙ get_or-drop n bytes k 0
 
@@ -71,27 +86,35 @@ module _ (first second third last span : ℕ) (bytes : List ℕ) (firsts : ℕ) 
       let none : is_byte first (get_or bytes k 0) ≡ false = sym (firsts_are k l) ∙ (ap (λ m. bit m k) e ∙ bit-zero k) in
       bit-zero k ∙ sym (rw none refl)
 
-  module _ (lasts : ℕ) (tail : List ℕ) (tail_is : tail ≡ drop span bytes) (lasts_are : (k : ℕ) → k < 16 → bit lasts k ≡ is_byte last (get_or tail k 0)) where
-    both_are : (k : ℕ) → k < 16 → bit (bit_and firsts lasts) k ≡ (is_byte first (get_or bytes k 0) && is_byte last (get_or bytes (span + k) 0))
-    both_are k l = bit-and firsts lasts k ∙ ap₂ (λ a b. a && b) (firsts_are k l) (lasts_are k l ∙ ap (is_byte last) (seen span tail k tail_is))
+  module _ (lasts : ℕ) (tail : List ℕ) (tail_is : tail ≡ drop span bytes) (lasts_are : (k : ℕ) → k < 16
+      → bit lasts k ≡ is_byte last (get_or tail k 0)) where
+    both_are : (k : ℕ) → k < 16 → bit (bit_and firsts lasts) k ≡
+        (is_byte first (get_or bytes k 0) && is_byte last (get_or bytes (span + k) 0))
+    both_are k l = bit-and firsts lasts k
+        ∙ ap₂ (λ a b. a && b) (firsts_are k l) (lasts_are k l ∙ ap (is_byte last) (seen span tail k tail_is))
 
     pub no_last : bit_and firsts lasts ≡ 0 → (k : ℕ) → k < 16 → bit 0 k ≡ four_at first second third last span bytes k
     no_last e k l =
-        let none : (is_byte first (get_or bytes k 0) && is_byte last (get_or bytes (span + k) 0)) ≡ false = sym (both_are k l) ∙ (ap (λ m. bit m k) e ∙ bit-zero k) in
+        let none : (is_byte first (get_or bytes k 0) && is_byte last (get_or bytes (span + k) 0)) ≡ false =
+            sym (both_are k l) ∙ (ap (λ m. bit m k) e ∙ bit-zero k) in
         bit-zero k ∙ sym (rw none refl)
 
     pub all_four : (seconds thirds : ℕ) (right next : List ℕ) → right ≡ drop 1 bytes → next ≡ drop 2 bytes
-        → ((k : ℕ) → k < 16 → bit seconds k ≡ is_byte second (get_or right k 0)) → ((k : ℕ) → k < 16 → bit thirds k ≡ is_byte third (get_or next k 0))
-        → (k : ℕ) → k < 16 → bit (bit_and (bit_and (bit_and firsts lasts) seconds) thirds) k ≡ four_at first second third last span bytes k
+        → ((k : ℕ) → k < 16 → bit seconds k ≡ is_byte second (get_or right k 0))
+            → ((k : ℕ) → k < 16 → bit thirds k ≡ is_byte third (get_or next k 0))
+        → (k : ℕ) → k < 16 → bit (bit_and (bit_and (bit_and firsts lasts) seconds) thirds) k ≡
+            four_at first second third last span bytes k
     all_four seconds thirds right next right_is next_is seconds_are thirds_are k l =
         let both : ℕ = bit_and firsts lasts in
         bit-and (bit_and both seconds) thirds k
         ∙ ap₂ (λ a b. a && b)
-        (bit-and both seconds k ∙ ap₂ (λ a b. a && b) (both_are k l) (seconds_are k l ∙ ap (is_byte second) (seen 1 right k right_is)))
+        (bit-and both seconds k
+            ∙ ap₂ (λ a b. a && b) (both_are k l) (seconds_are k l ∙ ap (is_byte second) (seen 1 right k right_is)))
         (thirds_are k l ∙ ap (is_byte third) (seen 2 next k next_is))
 
 -- the loop goes on, or ends
-module _ (pattern bytes left : List ℕ) (at : IsLooking pattern bytes left) (found : ℕ) (stands : (k : ℕ) → k < 16 → begins pattern (drop k left) ≡ true → bit found k ≡ true) where
+module _ (pattern bytes left : List ℕ) (at : IsLooking pattern bytes left) (found : ℕ)
+    (stands : (k : ℕ) → k < 16 → begins pattern (drop k left) ≡ true → bit found k ≡ true) where
   abbrev here : ℕ
   here = length bytes - length left
 
@@ -100,8 +123,11 @@ module _ (pattern bytes left : List ℕ) (at : IsLooking pattern bytes left) (fo
     | inl before ↦ at.apart k before
     | inr past ↦
         let sum : here + (k - here) ≡ k = omega arith in
-        let same : drop (k - here) left ≡ drop k bytes = ap (drop (k - here)) at.left_is ∙ (drop-drop (k - here) here bytes ∙ ap (λ n. drop n bytes) sum) in
-        ap (begins pattern) (sym same) ∙ false_from_ne_true _ (λ t. true≢false (sym (stands (k - here) (omega arith) t) ∙ none (k - here) (omega arith)))
+        let same : drop (k - here) left ≡ drop k bytes = ap (drop (k - here)) at.left_is
+            ∙ (drop-drop (k - here) here bytes ∙ ap (λ n. drop n bytes) sum) in
+        ap (begins pattern) (sym same)
+            ∙ false_from_ne_true _
+            (λ t. true≢false (sym (stands (k - here) (omega arith) t) ∙ none (k - here) (omega arith)))
   ]
 
   pub look_on : found ≡ 0 → (rest : List ℕ) → 16 ≤ length left → rest ≡ drop 16 left → IsLooking pattern bytes rest
@@ -112,7 +138,8 @@ module _ (pattern bytes left : List ℕ) (at : IsLooking pattern bytes left) (fo
       record {
         inside = omega (arith, size, inside);
         left_is = cut ∙ (ap (drop 16) at.left_is ∙ (drop-drop 16 here bytes ∙ ap (λ n. drop n bytes) (sym far)));
-        apart = subst (AreApart pattern bytes) (sym far) (up_to 16 (omega arith) (λ j l. ap (λ m. bit m j) e ∙ bit-zero j));
+        apart = subst (AreApart pattern bytes) (sym far)
+            (up_to 16 (omega arith) (λ j l. ap (λ m. bit m j) e ∙ bit-zero j));
       }
 
   pub look_end : 0 < found → found < 2 ^ 16 → AreApart pattern bytes (here + count_trailing_zeros 64 found)
@@ -122,8 +149,11 @@ module _ (pattern bytes left : List ℕ) (at : IsLooking pattern bytes left) (fo
       up_to _ (omega arith) low.least
 
 -- no byte that is passed over begins the pattern
-pub apart_first : (pattern s : List ℕ) (n : ℕ) → n ≤ length s → AreApart pattern s n → first pattern s ≡ more n (first pattern (drop n s))
+pub apart_first : (pattern s : List ℕ) (n : ℕ) → n ≤ length s → AreApart pattern s n
+    → first pattern s ≡ more n (first pattern (drop n s))
 apart_first pattern s zero le apart = more-zero (first pattern s)
 apart_first pattern [] (suc n) le apart = absurd (omega arith)
 apart_first pattern (c ∷ s) (suc n) le apart =
-    offset-on (begins pattern) c s (apart 0 (omega arith)) ∙ (ap one_more (apart_first pattern s n (omega arith) (λ k l. apart (suc k) (omega arith))) ∙ one_more-more n (first pattern (drop n s)))
+    offset-on (begins pattern) c s (apart 0 (omega arith))
+        ∙ (ap one_more (apart_first pattern s n (omega arith) (λ k l. apart (suc k) (omega arith)))
+        ∙ one_more-more n (first pattern (drop n s)))

@@ -1,19 +1,26 @@
 -- Where an iterator stands in its text, for its callers.
-use Rattle.std.proofs.Common.{◌≡◌, ℕ, ◌+◌, ◌-◌, ◌∙◌, List, length, take, drop, drop-drop, length-drop, ap, IsCharBoundary, arith}
+use Rattle.std.proofs.Common.{
+    ◌≡◌, ℕ, ◌+◌, ◌-◌, ◌∙◌, List, length, take, drop, drop-drop, length-drop, ap, IsCharBoundary, arith
+}
 use Rattle.std.proofs.lemmas.{Str.{IsCharBoundary-from_rest}, Grind.{common_steps}}
 use Rattle.rustc_lexer.specs.{Token, Document.{tokens_start}, laws.State.{StandsAt}, State.{State}, Tokens.{TakesToken}}
 
 -- past a token it stands where the token ends
-pub stands_past : (text : List ℕ) (offset : ℕ) (s t : State) (token : Token) → StandsAt text offset s → TakesToken s token t → StandsAt text (offset + token.len) t
+pub stands_past : (text : List ℕ) (offset : ℕ) (s t : State) (token : Token) → StandsAt text offset s
+    → TakesToken s token t → StandsAt text (offset + token.len) t
 stands_past text offset s t token at takes = grind (arith, common_steps, IsCharBoundary-from_rest, drop-drop)
 
 -- the slice from `start` to the end of the token is the front of what is left
-pub piece_is : (text rest piece : List ℕ) (start n : ℕ) → piece ≡ take (start + n - start) (drop start text) → drop start text ≡ rest → piece ≡ take n rest
+pub piece_is : (text rest piece : List ℕ) (start n : ℕ) → piece ≡ take (start + n - start) (drop start text)
+    → drop start text ≡ rest → piece ≡ take n rest
 piece_is text rest piece start n e left = grind (arith, common_steps)
 
 -- where the tokens of a document begin, by the text that is left before any is taken
-pub document_start : (text rest : List ℕ) (s : State) → IsCharBoundary text (tokens_start text) → rest ≡ s.rest → s.rest ≡ drop (tokens_start text) text → length text - length rest ≡ tokens_start text
-document_start text rest s boundary left is = let b = boundary.0 in omega (arith, ap length (left ∙ is), length-drop (tokens_start text) text)
+pub document_start : (text rest : List ℕ) (s : State) → IsCharBoundary text (tokens_start text) → rest ≡ s.rest
+    → s.rest ≡ drop (tokens_start text) text → length text - length rest ≡ tokens_start text
+document_start text rest s boundary left is = let b = boundary.0 in
+    omega (arith, ap length (left ∙ is), length-drop (tokens_start text) text)
 
-pub document_offset : (text rest : List ℕ) (s : State) → IsCharBoundary text (tokens_start text) → rest ≡ s.rest → s.rest ≡ drop (tokens_start text) text → StandsAt text (length text - length rest) s
+pub document_offset : (text rest : List ℕ) (s : State) → IsCharBoundary text (tokens_start text) → rest ≡ s.rest
+    → s.rest ≡ drop (tokens_start text) text → StandsAt text (length text - length rest) s
 document_offset text rest s boundary left is = grind (arith, common_steps, document_start)

@@ -1,5 +1,8 @@
 -- Lexing from the left: the tokens so far are the first ones of the text.
-use Rattle.std.proofs.Common.{◌≡◌, ℕ, zero, suc, ◌+◌, ◌<◌, ◌≤◌, List, [], ◌∷◌, ◌++◌, length, take, drop, refl, sym, ap, ◌∙◌, arith, length-drop, length-append, IsUtf8, IsCharBoundary, take_all}
+use Rattle.std.proofs.Common.{
+    ◌≡◌, ℕ, zero, suc, ◌+◌, ◌<◌, ◌≤◌, List, [], ◌∷◌, ◌++◌, length, take, drop, refl, sym, ap, ◌∙◌, arith, length-drop,
+    length-append, IsUtf8, IsCharBoundary, take_all
+}
 use Rattle.std.proofs.lemmas.{List.{drop_all}, Str.{IsCharBoundary-from_drop}, Grind.{common_steps}}
 use Rattle.rustc_lexer.specs.{Token, Classes.{IsText}, Locality.{Grammar, IsGrammar}, Tokens.{bound, tokens_by}}
 use Rattle.rustc_lexer.specs.laws.Cuts.{IsCutAt, at_bound, tokens-cons, tokens-nil}
@@ -32,7 +35,8 @@ pub record IsOffset (text : List ℕ) (offset : ℕ) : Type 0 where
   pub front : IsUtf8 (take offset text)
   pub past : IsText (drop offset text)
 
-pub lexed_offset : {first : List ℕ → Token} (law : IsGrammar first) (text : List ℕ) (items : List Token) (offset : ℕ) → IsText text → IsLexedTo first text items offset → IsOffset text offset
+pub lexed_offset : {first : List ℕ → Token} (law : IsGrammar first) (text : List ℕ) (items : List Token) (offset : ℕ)
+    → IsText text → IsLexedTo first text items offset → IsOffset text offset
 lexed_offset law text items offset is at = grind (arith, common_steps, at_bound, IsCharBoundary-from_drop)
 
 pub lexed_more : {first : List ℕ → Token} (law : IsGrammar first) (text : List ℕ) (items : List Token) (offset : ℕ)
@@ -44,22 +48,28 @@ lexed_more {first} law text items offset is at more =
     let cut : IsCutAt first text (tokens_by first text) n = at_bound law n text is in
     let spot : IsOffset text offset = lexed_offset law text items offset is at in
     let some : 0 < length (drop offset text) = omega (arith, length-drop offset text) in
-    let here : drop n (tokens_by first text) ≡ x ∷ tokens_by first (drop x.len (drop offset text)) = cut.rest ∙ (ap (λ p. tokens_by first (drop p text)) (sym at.offset_is) ∙ tokens-cons law (drop offset text) spot.past some) in
+    let here : drop n (tokens_by first text) ≡ x ∷ tokens_by first (drop x.len (drop offset text)) =
+        cut.rest ∙ (ap (λ p. tokens_by first (drop p text)) (sym at.offset_is)
+        ∙ tokens-cons law (drop offset text) spot.past some) in
     let next : IsNext (tokens_by first text) n x = next-from_drop _ n x _ here in
     let long : length (items ++ x ∷ []) ≡ suc n = omega (arith, length-append items (x ∷ [])) in
     record {
       number = let i = next.number in omega arith;
-      items_are = ap (λ ts. ts ++ x ∷ []) at.items_are ∙ (sym next.more ∙ ap (λ k. take k (tokens_by first text)) (sym long));
+      items_are = ap (λ ts. ts ++ x ∷ []) at.items_are
+          ∙ (sym next.more ∙ ap (λ k. take k (tokens_by first text)) (sym long));
       offset_is = rw (long, next.end, at.offset_is) refl;
     }
 
 pub none_more : (all : List Token) (count : ℕ) → drop count all ≡ [] → length all ≤ count
-none_more all count none = let n = length-drop count all in let m = ap (λ (ts : List Token). length ts) none in omega arith
+none_more all count none = let n = length-drop count all in let m = ap (λ (ts : List Token). length ts) none in
+    omega arith
 
 -- past the end of the text no token is left
-pub none_past : {first : List ℕ → Token} (law : IsGrammar first) (text : List ℕ) (n : ℕ) → IsText text → length text ≤ bound (tokens_by first text) n
+pub none_past : {first : List ℕ → Token} (law : IsGrammar first) (text : List ℕ) (n : ℕ) → IsText text
+    → length text ≤ bound (tokens_by first text) n
     → length (tokens_by first text) ≤ n
-none_past {first} law text n is all = none_more _ n ((at_bound law n text is).rest ∙ (ap (tokens_by first) (drop_all _ text all) ∙ tokens-nil first))
+none_past {first} law text n is all =
+    none_more _ n ((at_bound law n text is).rest ∙ (ap (tokens_by first) (drop_all _ text all) ∙ tokens-nil first))
 
 pub lexed_whole : {first : List ℕ → Token} (law : IsGrammar first) (text : List ℕ) (items : List Token) (offset : ℕ)
     → IsText text → IsLexedTo first text items offset → length text ≤ offset → items ≡ tokens_by first text
@@ -67,5 +77,6 @@ lexed_whole {first} law text items offset is at all = at.items_are ∙ take_all 
     (none_past law text (length items) is (omega (arith, at.offset_is)))
 
 -- what a step on the rest of a text gives, by the grammar that the stepper had at first
-pub stepped : {first now : List ℕ → Token} (text : List ℕ) (offset : ℕ) {left : List ℕ} {token : Token} → token ≡ now left → now ≡ first → left ≡ drop offset text → token ≡ first (drop offset text)
+pub stepped : {first now : List ℕ → Token} (text : List ℕ) (offset : ℕ) {left : List ℕ} {token : Token}
+    → token ≡ now left → now ≡ first → left ≡ drop offset text → token ≡ first (drop offset text)
 stepped {first} {now} text offset {left} {token} e f h = e ∙ (ap (λ (g : List ℕ → Token). g left) f ∙ ap first h)

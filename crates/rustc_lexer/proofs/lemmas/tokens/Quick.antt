@@ -1,5 +1,8 @@
 -- Tokens that are decided by their bytes.
-use Rattle.std.proofs.Common.{◌≡◌, ℕ, ◌+◌, ◌-◌, ◌<◌, ◌≤◌, ◌==◌, not, Bool, true, false, if◌then◌else◌, List, ◌∷◌, length, drop, codes, refl, sym, ap, ◌∙◌, arith, subst, length-drop}
+use Rattle.std.proofs.Common.{
+    ◌≡◌, ℕ, ◌+◌, ◌-◌, ◌<◌, ◌≤◌, ◌==◌, not, Bool, true, false, if◌then◌else◌, List, ◌∷◌, length, drop, codes, refl, sym,
+    ap, ◌∙◌, arith, subst, length-drop
+}
 use Rattle.std.specs.{List.{prefix_len}, Str.{chars, IsUtf8}}
 use Rattle.std.proofs.lemmas.Bool.{or_parts, or_cases, not-true, not-false, eqb-true, ltb-true, lt-leb}
 use Rattle.std.proofs.lemmas.{Str.{chars-nil}, List.Sums.{prefix_len-le-length}, Grind.{common_steps}}
@@ -50,19 +53,22 @@ record IsPlain (s : List ℕ) : Type 0 where
 is_plain : (s : List ℕ) → next_is ends_prefix (drop (run_len is_id_continue s) s) ≡ false → IsPlain s
 is_plain s w1 = grind (arith, common_steps, no_prefix_end, or_cases, no_raw, eqb-true, is_xid_continue-ascii)
 
-word-plain : (b : ℕ) (s : List ℕ) → next_is ends_prefix (drop (run_len is_id_continue s) s) ≡ false → word b s ≡ ident_or_unknown_prefix s
+word-plain : (b : ℕ) (s : List ℕ) → next_is ends_prefix (drop (run_len is_id_continue s) s) ≡ false
+    → word b s ≡ ident_or_unknown_prefix s
 word-plain b s h = grind (arith, common_steps, by_letter, is_plain s h)
 
 -- ---- the next character, by the next byte
 
 pub turned-emoji : (left : List ℕ) → IsUtf8 left → next_is turns_word left ≡ false
-    → (next_is is_emoji (chars left) ≡ false) × ((next_is ends_prefix (chars left) ≡ false) × (next_is is_wide left ≡ false))
+    → (next_is is_emoji (chars left) ≡ false)
+        × ((next_is ends_prefix (chars left) ≡ false) × (next_is is_wide left ≡ false))
 turned-emoji w0 is e = grind (arith, common_steps, chars-nil, or_parts, ltb-true, not-false, chars-ascii, emoji-ascii)
 
 -- ---- the tokens
 
 -- a token that begins with a byte of ASCII and takes n more bytes
-module _ (b : ℕ) (rest : List ℕ) (kind : TokenKind) (n : ℕ) (is : IsUtf8 (b ∷ rest)) (small : b < 128) (inside : n ≤ length rest) (g : (kind, drop n rest) ≡ scanned (past_first b) rest) where
+module _ (b : ℕ) (rest : List ℕ) (kind : TokenKind) (n : ℕ) (is : IsUtf8 (b ∷ rest)) (small : b < 128)
+    (inside : n ≤ length rest) (g : (kind, drop n rest) ≡ scanned (past_first b) rest) where
   taken : IsFirstToken (b ∷ rest) record { kind = kind; len = 1 + n }
   taken =
       let text = b ∷ rest in
@@ -76,38 +82,52 @@ pub first : (text : List ℕ) (b : ℕ) (rest : List ℕ) (kind : TokenKind) (n 
     → IsFirstToken text record { kind = kind; len = 1 + n }
 first text b rest kind n is e small inside g =
     let whole : IsUtf8 (b ∷ rest) = subst (λ xs. IsUtf8 xs) e is in
-    subst (λ xs. IsFirstToken xs record { kind = kind; len = 1 + n }) (sym e) (taken b rest kind n whole small inside (g (IsUtf8-ascii b rest whole small)))
+    subst (λ xs. IsFirstToken xs record { kind = kind; len = 1 + n }) (sym e)
+        (taken b rest kind n whole small inside (g (IsUtf8-ascii b rest whole small)))
 
 -- a word and what no word goes on with
 pub word_first : (text : List ℕ) (b : ℕ) (rest : List ℕ) (end : ℕ) → IsUtf8 text → text ≡ b ∷ rest → b < 128
     → Word ≡ family_of b → end ≡ prefix_len is_continue_byte rest → not (next_is turns_word (drop end rest)) ≡ true
     → IsFirstToken text record { kind = Ident; len = 1 + end }
-word_first text b rest end is e small family counted ends = first text b rest Ident end is e small (omega (arith, prefix_len-le-length is_continue_byte rest)) decided
+word_first text b rest end is e small family counted ends =
+    first text b rest Ident end is e small (omega (arith, prefix_len-le-length is_continue_byte rest)) decided
   where
     decided : IsUtf8 rest → (Ident, drop end rest) ≡ scanned (past_first b) rest
     decided inner =
         let left : List ℕ = drop end rest in
-        let whole : IsUtf8 left = subst (λ k. IsUtf8 (drop k rest)) (sym counted) (skips is_continue_byte is_id_continue continue_part rest inner).utf8 in
+        let whole : IsUtf8 left =
+            subst (λ k. IsUtf8 (drop k rest)) (sym counted)
+            (skips is_continue_byte is_id_continue continue_part rest inner).utf8 in
         let next = turned-emoji left whole (not-true _ ends) in
-        let offset : left ≡ past (run_len is_id_continue (chars rest)) rest = stops_here is_continue_byte is_id_continue continue_part rest rest end inner refl counted left refl next.1.1 in
+        let offset : left ≡ past (run_len is_id_continue (chars rest)) rest =
+            stops_here is_continue_byte is_id_continue continue_part rest rest end inner refl counted left refl
+            next.1.1 in
         let no_end : next_is ends_prefix (drop (run_len is_id_continue (chars rest)) (chars rest)) ≡ false =
-        sym (ap (next_is ends_prefix) (ap chars offset ∙ chars-past (run_len is_id_continue (chars rest)) rest inner)) ∙ next.1.0 in
-        by_family Word b rest _ family (ap (λ (t : Bool). let k : TokenKind = if t then UnknownPrefix else Ident in (k, left)) (sym next.1.0) ∙ (ident_or_unknown_prefix-valid rest left inner offset next.0 ∙ sym (scanned-same (word b) ident_or_unknown_prefix rest (word-plain b (chars rest) no_end))))
+        sym (ap (next_is ends_prefix) (ap chars offset ∙ chars-past (run_len is_id_continue (chars rest)) rest inner))
+            ∙ next.1.0 in
+        by_family Word b rest _ family (ap (λ (t : Bool). let k : TokenKind = if t then UnknownPrefix else Ident in
+            (k, left)) (sym next.1.0)
+            ∙ (ident_or_unknown_prefix-valid rest left inner offset next.0
+            ∙ sym (scanned-same (word b) ident_or_unknown_prefix rest (word-plain b (chars rest) no_end))))
 
 pub space_first : (text : List ℕ) (b : ℕ) (rest : List ℕ) (end : ℕ) → IsUtf8 text → text ≡ b ∷ rest → b < 128
     → Space ≡ family_of b → end ≡ prefix_len is_space_byte rest → not (next_is is_space_lead (drop end rest)) ≡ true
     → IsFirstToken text record { kind = Whitespace; len = 1 + end }
-space_first text b rest end is e small family counted ends = first text b rest Whitespace end is e small (omega (arith, prefix_len-le-length is_space_byte rest)) decided
+space_first text b rest end is e small family counted ends =
+    first text b rest Whitespace end is e small (omega (arith, prefix_len-le-length is_space_byte rest)) decided
   where
     decided : IsUtf8 rest → (Whitespace, drop end rest) ≡ scanned (past_first b) rest
-    decided inner = by_family Space b rest _ family (ap (λ xs. (Whitespace, xs)) (space_stops_here rest rest end inner refl counted (drop end rest) refl (not-true _ ends)))
+    decided inner = by_family Space b rest _ family
+        (ap (λ xs. (Whitespace, xs))
+        (space_stops_here rest rest end inner refl counted (drop end rest) refl (not-true _ ends)))
 
 pub symbol_first : (text : List ℕ) (b : ℕ) (rest : List ℕ) (kind : TokenKind) → IsUtf8 text → text ≡ b ∷ rest → b < 128
     → Symbol ≡ family_of b → kind ≡ symbol_kind b → IsFirstToken text record { kind = kind; len = 1 }
 symbol_first text b rest kind is e small family same = first text b rest kind 0 is e small (omega arith) decided
   where
     decided : IsUtf8 rest → (kind, rest) ≡ scanned (past_first b) rest
-    decided inner = by_family Symbol b rest _ family (ap (λ (k : TokenKind). (k, rest)) same ∙ sym (scanned-gives (symbol_kind b) rest inner))
+    decided inner = by_family Symbol b rest _ family
+        (ap (λ (k : TokenKind). (k, rest)) same ∙ sym (scanned-gives (symbol_kind b) rest inner))
 
 -- no edition has another token in place of a symbol
 symbol-kept : (b : ℕ) → is_newer (symbol_kind b) ≡ false
@@ -116,7 +136,8 @@ symbol-kept b = not-true _ (by_symbol (λ (kind : TokenKind). not (is_newer kind
 pub symbol_by : (guards : Bool) (text : List ℕ) (b : ℕ) (rest : List ℕ) (kind : TokenKind) → IsUtf8 text
     → text ≡ b ∷ rest → b < 128 → Symbol ≡ family_of b → kind ≡ symbol_kind b
     → IsFirstBy guards text record { kind = kind; len = 1 }
-symbol_by guards text b rest kind is e small family same = first_by guards text _ (symbol_first text b rest kind is e small family same) (ap is_newer same ∙ symbol-kept b)
+symbol_by guards text b rest kind is e small family same =
+    first_by guards text _ (symbol_first text b rest kind is e small family same) (ap is_newer same ∙ symbol-kept b)
 
 -- an identifier, by the byte after it
 pub ident_or_unknown_prefix_ends : (tail rest bytes : List ℕ) → IsUtf8 tail → IsUtf8 rest
@@ -124,4 +145,5 @@ pub ident_or_unknown_prefix_ends : (tail rest bytes : List ℕ) → IsUtf8 tail 
     → (Ident, rest) ≡ scanned ident_or_unknown_prefix tail
 ident_or_unknown_prefix_ends tail rest bytes is whole offset read ends =
     let next = turned-emoji rest whole (sym (ap (next_is turns_word) read) ∙ not-true _ ends) in
-    ap (λ (t : Bool). let k : TokenKind = if t then UnknownPrefix else Ident in (k, rest)) (sym next.1.0) ∙ ident_or_unknown_prefix-valid tail rest is offset next.0
+    ap (λ (t : Bool). let k : TokenKind = if t then UnknownPrefix else Ident in (k, rest)) (sym next.1.0)
+        ∙ ident_or_unknown_prefix-valid tail rest is offset next.0

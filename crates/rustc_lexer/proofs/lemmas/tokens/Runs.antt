@@ -9,7 +9,8 @@ pub run_on : (p : ℕ → Bool) (text tail : List ℕ) (c : ℕ) → IsUtf8 text
 run_on p text tail c is reads cut e = grind (arith, common_steps, past-past)
 
 -- before another one, or at the end, nothing is left of it
-pub run_ends : (p : ℕ → Bool) (text : List ℕ) → IsUtf8 text → next_is p (chars text) ≡ false → past (run_len p (chars text)) text ≡ text
+pub run_ends : (p : ℕ → Bool) (text : List ℕ) → IsUtf8 text → next_is p (chars text) ≡ false
+    → past (run_len p (chars text)) text ≡ text
 run_ends p text is e = ends (chars text) e ∙ past-zero text is
   where
     ends : (cs : List ℕ) → next_is p cs ≡ false → past (run_len p cs) text ≡ past 0 text

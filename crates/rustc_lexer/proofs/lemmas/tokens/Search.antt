@@ -1,6 +1,9 @@
 -- A byte and what follows it, looked for at the places of that byte.
 use Rattle.std.proofs.lemmas.Grind.{common_steps}
-use Rattle.std.proofs.Common.{◌≡◌, ℕ, zero, suc, ◌+◌, ◌-◌, ◌<◌, ◌≤◌, ◌==◌, Bool, true, false, List, [], ◌∷◌, ◌++◌, length, drop, get_or, refl, sym, ap, ◌∙◌, arith, Option, Some, None, length-drop, drop-drop}
+use Rattle.std.proofs.Common.{
+    ◌≡◌, ℕ, zero, suc, ◌+◌, ◌-◌, ◌<◌, ◌≤◌, ◌==◌, Bool, true, false, List, [], ◌∷◌, ◌++◌, length, drop, get_or, refl,
+    sym, ap, ◌∙◌, arith, Option, Some, None, length-drop, drop-drop
+}
 use Rattle.std.proofs.{Math.Seq.{drop-cons, drop-length}, lemmas.Bool.{eq-eqb, eqb-true, false_from_ne_true}}
 use Rattle.std.proofs.lemmas.{Bool.Decides.{Decides-eqb}, List.{get_or-drop}, Slice.Eq.{starts_is}}
 use Rattle.std.specs.List.{starts_with}
@@ -13,10 +16,13 @@ begins-front : (pattern rest : List ℕ) → begins pattern (pattern ++ rest) �
 begins-front [] rest = refl
 begins-front (c ∷ cs) rest = rw (eq-eqb c c refl, begins-front cs rest) refl
 
-pub starts-begins : (tail pattern : List ℕ) (answer : Bool) → answer ≡ starts_with (λ x y. x == y) tail pattern → answer ≡ begins pattern tail
+pub starts-begins : (tail pattern : List ℕ) (answer : Bool) → answer ≡ starts_with (λ x y. x == y) tail pattern
+    → answer ≡ begins pattern tail
 starts-begins tail pattern answer is = by_either (begins pattern tail)
     (λ e. (starts_is Decides-eqb tail pattern answer is).1 _ (begins-whole pattern tail e) ∙ sym e)
-    (λ e. false_from_ne_true answer (λ t. either-way (begins pattern tail) (ap (begins pattern) ((starts_is Decides-eqb tail pattern answer is).0 t) ∙ begins-front pattern _) e) ∙ sym e)
+    (λ e. false_from_ne_true answer
+        (λ t. either-way (begins pattern tail) (ap (begins pattern) ((starts_is Decides-eqb tail pattern answer is).0 t)
+        ∙ begins-front pattern _) e) ∙ sym e)
 
 more-one : (k : ℕ) (o : Option ℕ) → more k (one_more o) ≡ more (k + 1) o
 more-one k o = grind (arith, common_steps)
@@ -31,28 +37,39 @@ at_start pattern rest = record { inside = omega arith; left = more-zero (first p
 
 module _ (d : ℕ) (ds : List ℕ) where
   -- no other byte begins it
-  over : (s : List ℕ) (k : ℕ) → k ≤ length s → ((j : ℕ) → j < k → (get_or s j 0 == d) ≡ true → ⊥) → first (d ∷ ds) s ≡ more k (first (d ∷ ds) (drop k s))
+  over : (s : List ℕ) (k : ℕ) → k ≤ length s → ((j : ℕ) → j < k → (get_or s j 0 == d) ≡ true → ⊥)
+      → first (d ∷ ds) s ≡ more k (first (d ∷ ds) (drop k s))
   over s zero le none = more-zero (first (d ∷ ds) s)
   over [] (suc k) le none = absurd (omega arith)
   over (c ∷ s) (suc k) le none = by_either (c == d)
       (λ e. absurd (none 0 (omega arith) e))
-      (λ e. offset-on (begins (d ∷ ds)) c s (rw e refl) ∙ (ap one_more (over s k (omega arith) (λ j l. none (suc j) (omega arith))) ∙ one_more-more k (first (d ∷ ds) (drop k s))))
+      (λ e. offset-on (begins (d ∷ ds)) c s (rw e refl)
+          ∙ (ap one_more (over s k (omega arith) (λ j l. none (suc j) (omega arith)))
+          ∙ one_more-more k (first (d ∷ ds) (drop k s))))
 
   -- past what is skipped, the first place of the byte
-  module _ (rest cut : List ℕ) (start : ℕ) (skipped : first (d ∷ ds) rest ≡ more start (first (d ∷ ds) (drop start rest))) (e : cut ≡ drop start rest) where
+  module _ (rest cut : List ℕ) (start : ℕ)
+      (skipped : first (d ∷ ds) rest ≡ more start (first (d ∷ ds) (drop start rest))) (e : cut ≡ drop start rest) where
     pub start_none : IsFirstByte (is_byte d) cut None → first (d ∷ ds) rest ≡ None
     start_none none =
-        skipped ∙ (ap (λ (s : List ℕ). more start (first (d ∷ ds) s)) (sym e) ∙ ap (more start) (over cut (length cut) (omega arith) (λ j l. none j (omega arith) l) ∙ ap (λ (s : List ℕ). more (length cut) (first (d ∷ ds) s)) (drop-length cut)))
+        skipped ∙ (ap (λ (s : List ℕ). more start (first (d ∷ ds) s)) (sym e)
+            ∙ ap (more start) (over cut (length cut) (omega arith) (λ j l. none j (omega arith) l)
+            ∙ ap (λ (s : List ℕ). more (length cut) (first (d ∷ ds) s)) (drop-length cut)))
 
     pub start_some : start ≤ length rest → (step : ℕ) → IsFirstByte (is_byte d) cut (Some step)
-        → (start + step < length rest) × (get_or rest (start + step) 0 ≡ d) × (first (d ∷ ds) rest ≡ more (start + step) (first (d ∷ ds) (drop (start + step) rest)))
+        → (start + step < length rest) × (get_or rest (start + step) 0 ≡ d)
+            × (first (d ∷ ds) rest ≡ more (start + step) (first (d ∷ ds) (drop (start + step) rest)))
     start_some inside step here =
         let h = here.0.high in (
           omega (arith, ap length e, length-drop start rest),
-          sym (get_or-drop start rest step 0) ∙ (ap (λ (s : List ℕ). get_or s step 0) (sym e) ∙ eqb-true (get_or cut step 0) d here.1),
+          sym (get_or-drop start rest step 0)
+              ∙ (ap (λ (s : List ℕ). get_or s step 0) (sym e) ∙ eqb-true (get_or cut step 0) d here.1),
           skipped
-              ∙ (ap (λ (s : List ℕ). more start (first (d ∷ ds) s)) (sym e) ∙ (ap (more start) (over cut step (omega arith) (λ j l. here.0.before j (omega arith) l))
-              ∙ (more-more start step (first (d ∷ ds) (drop step cut)) ∙ ap (λ (s : List ℕ). more (start + step) (first (d ∷ ds) s)) (ap (drop step) e ∙ drop-drop step start rest)))),
+              ∙ (ap (λ (s : List ℕ). more start (first (d ∷ ds) s)) (sym e)
+                  ∙ (ap (more start) (over cut step (omega arith) (λ j l. here.0.before j (omega arith) l))
+              ∙ (more-more start step (first (d ∷ ds) (drop step cut))
+                  ∙ ap (λ (s : List ℕ). more (start + step) (first (d ∷ ds) s))
+                  (ap (drop step) e ∙ drop-drop step start rest)))),
         )
 
   module _ (rest cut : List ℕ) (from : ℕ) (at : IsPast (d ∷ ds) rest from) (e : cut ≡ drop from rest) where
@@ -63,7 +80,9 @@ module _ (d : ℕ) (ds : List ℕ) where
     past_end none = sym (cut_left ∙ ap (more from) none)
 
     -- that byte stands `step` bytes on, and then `tail`
-    module _ (step : ℕ) (here : (step < length cut) × (get_or cut step 0 ≡ d) × (first (d ∷ ds) cut ≡ more step (first (d ∷ ds) (drop step cut)))) (tail : List ℕ) (behind : tail ≡ drop (from + step + 1) rest) where
+    module _ (step : ℕ) (here : (step < length cut) × (get_or cut step 0 ≡ d)
+        × (first (d ∷ ds) cut ≡ more step (first (d ∷ ds) (drop step cut)))) (tail : List ℕ)
+        (behind : tail ≡ drop (from + step + 1) rest) where
       inside : from + step < length rest
       inside = let h = here.0 in let i = at.inside in omega (arith, ap length e, length-drop from rest)
 
@@ -71,14 +90,18 @@ module _ (d : ℕ) (ds : List ℕ) where
       at_byte = grind (arith, common_steps, get_or-drop, drop-drop, drop-cons, inside)
 
       so_far : first (d ∷ ds) rest ≡ more (from + step) (first (d ∷ ds) (d ∷ tail))
-      so_far = cut_left ∙ (ap (more from) (here.2 ∙ ap (λ (s : List ℕ). more step (first (d ∷ ds) s)) at_byte) ∙ more-more from step (first (d ∷ ds) (d ∷ tail)))
+      so_far = cut_left
+          ∙ (ap (more from) (here.2 ∙ ap (λ (s : List ℕ). more step (first (d ∷ ds) s)) at_byte)
+          ∙ more-more from step (first (d ∷ ds) (d ∷ tail)))
 
       module _ (answer : Bool) (is : answer ≡ starts_with (λ x y. x == y) tail ds) where
         stands : begins (d ∷ ds) (d ∷ tail) ≡ answer
         stands = rw (eq-eqb d d refl) (sym (starts-begins tail ds answer is))
 
         pub past_found : answer ≡ true → (place : ℕ) → place ≡ from + step + 1 - 1 → Some place ≡ first (d ∷ ds) rest
-        past_found so place there = sym (so_far ∙ ap (more (from + step)) (offset-here (begins (d ∷ ds)) d tail (stands ∙ so)) ∙ ap Some (omega arith))
+        past_found so place there =
+            sym (so_far ∙ ap (more (from + step)) (offset-here (begins (d ∷ ds)) d tail (stands ∙ so))
+            ∙ ap Some (omega arith))
 
         pub past_on : answer ≡ false → IsPast (d ∷ ds) rest (from + step + 1)
         past_on fails = grind (arith, common_steps, inside, so_far, offset-on, stands, more-one)

@@ -1,8 +1,13 @@
 -- Shebang lines: the front of a text, and its first line.
-use Rattle.std.proofs.Common.{◌≡◌, ◌≢◌, ℕ, zero, suc, ◌+◌, ◌-◌, ◌<◌, ◌≤◌, Bool, true, false, if◌then◌else◌, List, [], ◌∷◌, length, take, drop, get_or, codes, length-append, length-take-le, take-append-drop, refl, sym, ap, ◌∙◌, arith, Option, Some, None}
+use Rattle.std.proofs.Common.{
+    ◌≡◌, ◌≢◌, ℕ, zero, suc, ◌+◌, ◌-◌, ◌<◌, ◌≤◌, Bool, true, false, if◌then◌else◌, List, [], ◌∷◌, length, take, drop,
+    get_or, codes, length-append, length-take-le, take-append-drop, refl, sym, ap, ◌∙◌, arith, Option, Some, None
+}
 use Rattle.std.proofs.Common.{inl, inr, subst, ◌==◌, ◌++◌}
 use Rattle.std.specs.{Char.{encode_utf8, len_utf8}, Str.{IsCharBoundary, IsUtf8, chars, encode_utf8_all}}
-use Rattle.std.proofs.{Math.Seq.{drop-cons, drop-length, get_or-append_seam}, lemmas.Bool.{cases_Bool, eqb-true, ne_eqb}}
+use Rattle.std.proofs.{
+    Math.Seq.{drop-cons, drop-length, get_or-append_seam}, lemmas.Bool.{cases_Bool, eqb-true, ne_eqb}
+}
 use Rattle.std.proofs.lemmas.{List.{get_or-take}, Grind.{common_steps}}
 use Rattle.std.proofs.lemmas.Str.{IsCharBoundary-past_char, IsCharBoundary-start, encodes-chars}
 use Rattle.rustc_lexer.specs.Document.{mark_len}
@@ -22,16 +27,20 @@ module _ (s tail : List ℕ) (n : ℕ) (two : n ≡ 2) (front : s ≡ 35 ∷ 33 
   past_front = grind (arith, common_steps)
 
   pub attribute_here : is_attribute (tokens_of (part newest) tail) ≡ true → None ≡ read_shebang s
-  attribute_here e = sym (past_front ∙ ap (λ (b : Bool). let r : Option ℕ = if b then None else Some (2 + line_len tail) in r) e)
+  attribute_here e =
+      sym (past_front ∙ ap (λ (b : Bool). let r : Option ℕ = if b then None else Some (2 + line_len tail) in r) e)
 
-  pub line_here : (len : ℕ) → is_attribute (tokens_of (part newest) tail) ≡ false → len ≡ line_len tail → Some (2 + len) ≡ read_shebang s
-  line_here len e f = ap (λ (k : ℕ). Some (2 + k)) f ∙ sym (past_front ∙ ap (λ (b : Bool). let r : Option ℕ = if b then None else Some (2 + line_len tail) in r) e)
+  pub line_here : (len : ℕ) → is_attribute (tokens_of (part newest) tail) ≡ false → len ≡ line_len tail
+      → Some (2 + len) ≡ read_shebang s
+  line_here len e f = ap (λ (k : ℕ). Some (2 + k)) f
+      ∙ sym (past_front ∙ ap (λ (b : Bool). let r : Option ℕ = if b then None else Some (2 + line_len tail) in r) e)
 
 -- the first line of a text
 inline : (text : List ℕ) (k : ℕ) → ((i : ℕ) → i < k → get_or text i 0 ≢ 10) → AreAll is_inline (take k text)
 inline text zero none = refl
 inline [] (suc k) none = refl
-inline (c ∷ s) (suc k) none = rw (ne_eqb c 10 (none 0 (omega arith)), inline s k (λ i lt. none (suc i) (omega arith))) refl
+inline (c ∷ s) (suc k) none =
+    rw (ne_eqb c 10 (none 0 (omega arith)), inline s k (λ i lt. none (suc i) (omega arith))) refl
 
 module _ (text : List ℕ) where
   line_is : (k : ℕ) → k ≤ length text → IsLineBefore (drop k text) (take k text) → k ≡ line_len text
@@ -42,7 +51,8 @@ module _ (text : List ℕ) where
   no_newline none = line_is (length text) (omega arith) (to_end (inline text (length text) none) (drop-length text))
 
   -- the first newline stands at k
-  module _ (k : ℕ) (inside : k < length text) (newline : get_or text k 0 ≡ 10) (first : (i : ℕ) → i < k → get_or text i 0 ≢ 10) where
+  module _ (k : ℕ) (inside : k < length text) (newline : get_or text k 0 ≡ 10)
+      (first : (i : ℕ) → i < k → get_or text i 0 ≢ 10) where
     there : drop k text ≡ 10 ∷ drop (suc k) text
     there = drop-cons text k 0 inside ∙ ap (λ c. c ∷ drop (suc k) text) newline
 
@@ -52,8 +62,11 @@ module _ (text : List ℕ) where
         (grind (arith, common_steps, drop-cons text (k - 1) 0 (omega arith), there)))
 
     pub without_return : (0 < k → get_or text (k - 1) 0 ≢ 13) → k ≡ line_len text
-    without_return free = line_is k (omega arith) (to_newline (inline text k first) (ap (begins (codes "\n")) there) (λ u e.
-        let long : k ≡ length u + 1 = omega (arith, ap (λ (xs : List ℕ). length xs) e, length-take-le k text (omega arith), length-append u (13 ∷ [])) in
+    without_return free =
+        line_is k (omega arith) (to_newline (inline text k first) (ap (begins (codes "\n")) there) (λ u e.
+        let long : k ≡ length u + 1 =
+            omega (arith, ap (λ (xs : List ℕ). length xs) e, length-take-le k text (omega arith),
+            length-append u (13 ∷ [])) in
         grind (arith, common_steps, get_or-take k text (k - 1) 0 (omega arith), get_or-append_seam u 13 [] 0, free)))
 
 -- a document can be cut after its byte order mark

@@ -1,5 +1,8 @@
 -- A character that a quote closes right behind one character of ASCII, or behind a backslash and one.
-use Rattle.std.proofs.Common.{◌≡◌, ℕ, ◌+◌, ◌-◌, ◌≤◌, ◌<◌, ◌==◌, Bool, true, false, List, [], ◌∷◌, length, drop, codes, refl, sym, ap, ◌∙◌, arith, subst, slice_index}
+use Rattle.std.proofs.Common.{
+    ◌≡◌, ℕ, ◌+◌, ◌-◌, ◌≤◌, ◌<◌, ◌==◌, Bool, true, false, List, [], ◌∷◌, length, drop, codes, refl, sym, ap, ◌∙◌, arith,
+    subst, slice_index
+}
 use Rattle.std.specs.{Int.{from_bool}, Str.{chars, encode_utf8_all, IsUtf8, IsCharBoundary}}
 use Rattle.std.proofs.lemmas.{Bool.{eqb-true, lt-leb}, Str.{encodes-chars, IsCharBoundary-from_drop}}
 use Rattle.std.proofs.{Math.Bool.{or-true}, lemmas.Grind.{common_steps}}
@@ -29,12 +32,14 @@ lone : (b : ℕ) (left : List ℕ) → IsUtf8 (b ∷ 39 ∷ left) → b < 128 �
 lone b left is small other =
     let inner : IsUtf8 (39 ∷ left) = IsUtf8-ascii b (39 ∷ left) is small in
     let last : IsUtf8 left = IsUtf8-ascii 39 left inner (omega arith) in
-    let reads : chars (b ∷ 39 ∷ left) ≡ b ∷ 39 ∷ chars left = chars-ascii b (39 ∷ left) is small ∙ ap (λ cs. b ∷ cs) (chars-ascii 39 left inner (omega arith)) in
+    let reads : chars (b ∷ 39 ∷ left) ≡ b ∷ 39 ∷ chars left = chars-ascii b (39 ∷ left) is small
+        ∙ ap (λ cs. b ∷ cs) (chars-ascii 39 left inner (omega arith)) in
     record {
       utf8 = last;
       character = rw reads refl;
       read = closed (b ∷ 39 ∷ left) left _ 2 reads
-          (past-two (b ∷ 39 ∷ left) (39 ∷ left) left is (past-ascii b (39 ∷ left) is small) (past-ascii 39 left inner (omega arith))) (rw other refl);
+          (past-two (b ∷ 39 ∷ left) (39 ∷ left) left is (past-ascii b (39 ∷ left) is small)
+              (past-ascii 39 left inner (omega arith))) (rw other refl);
     }
 
 -- a backslash, one character and a quote
@@ -55,9 +60,12 @@ escaped e left is small =
           (ap (λ cs. let r : Bool × ℕ = single_quoted_string cs in (r.0, encode_utf8_all (drop r.1 cs))) reads);
     }
 
-module _ (text bytes : List ℕ) (offset : ℕ) (is : IsUtf8 text) (same : bytes ≡ text) (some : 3 ≤ length bytes) (offset_is : offset ≡ 1 + from_bool (slice_index bytes 0 == 92)) (small : slice_index bytes (offset - 1) < 128) (quote : slice_index bytes offset ≡ 39) where
+module _ (text bytes : List ℕ) (offset : ℕ) (is : IsUtf8 text) (same : bytes ≡ text) (some : 3 ≤ length bytes)
+    (offset_is : offset ≡ 1 + from_bool (slice_index bytes 0 == 92)) (small : slice_index bytes (offset - 1) < 128)
+    (quote : slice_index bytes offset ≡ 39) where
   pub short_char : ShortChar text (drop (offset + 1) text)
-  short_char = subst (λ s. ShortChar s (drop (offset + 1) s)) same (by_text bytes (subst IsUtf8 (sym same) is) some offset_is small quote)
+  short_char = subst (λ s. ShortChar s (drop (offset + 1) s)) same
+      (by_text bytes (subst IsUtf8 (sym same) is) some offset_is small quote)
     where
       by_text : (s : List ℕ) → IsUtf8 s → 3 ≤ length s → offset ≡ 1 + from_bool (slice_index s 0 == 92)
           → slice_index s (offset - 1) < 128 → slice_index s offset ≡ 39 → ShortChar s (drop (offset + 1) s)
@@ -72,13 +80,16 @@ module _ (text bytes : List ℕ) (offset : ℕ) (is : IsUtf8 text) (same : bytes
           let closes : d ≡ 39 = subst (λ n. slice_index (b ∷ c ∷ d ∷ ds) n ≡ 39) at q in
           subst (λ n. ShortChar (b ∷ c ∷ d ∷ ds) (drop (n + 1) (b ∷ c ∷ d ∷ ds))) (sym at)
           (subst (λ x. ShortChar (x ∷ c ∷ d ∷ ds) ds) (sym slash)
-          (subst (λ x. ShortChar (92 ∷ c ∷ x ∷ ds) ds) (sym closes) (escaped c ds (subst (λ x. IsUtf8 (92 ∷ c ∷ x ∷ ds)) closes (subst (λ x. IsUtf8 (x ∷ c ∷ d ∷ ds)) slash u)) first))))
+          (subst (λ x. ShortChar (92 ∷ c ∷ x ∷ ds) ds) (sym closes)
+              (escaped c ds (subst (λ x. IsUtf8 (92 ∷ c ∷ x ∷ ds)) closes
+              (subst (λ x. IsUtf8 (x ∷ c ∷ d ∷ ds)) slash u)) first))))
           (λ e.
           let at : offset ≡ 1 = p ∙ ap (λ (t : Bool). 1 + from_bool t) e in
           let first : b < 128 = subst (λ n. slice_index (b ∷ c ∷ d ∷ ds) (n - 1) < 128) at m in
           let closes : c ≡ 39 = subst (λ n. slice_index (b ∷ c ∷ d ∷ ds) n ≡ 39) at q in
           subst (λ n. ShortChar (b ∷ c ∷ d ∷ ds) (drop (n + 1) (b ∷ c ∷ d ∷ ds))) (sym at)
-          (subst (λ x. ShortChar (b ∷ x ∷ d ∷ ds) (d ∷ ds)) (sym closes) (lone b (d ∷ ds) (subst (λ x. IsUtf8 (b ∷ x ∷ d ∷ ds)) closes u) first e)))
+          (subst (λ x. ShortChar (b ∷ x ∷ d ∷ ds) (d ∷ ds)) (sym closes)
+              (lone b (d ∷ ds) (subst (λ x. IsUtf8 (b ∷ x ∷ d ∷ ds)) closes u) first e)))
 
   pub short_cut : offset + 1 ≤ length text → IsCharBoundary text (offset + 1)
   short_cut le = IsCharBoundary-from_drop text (offset + 1) le short_char.utf8

@@ -4,7 +4,8 @@ use Rattle.rustc_lexer.proofs.scan.front_end.Given as goal
 
 abbrev pub invariant-front : goal.invariant-front
 invariant-front g l = record {
-  run : (class : ℕ → Bool) → ((b : ℕ) (passes : Bool) → goal.F-post g l.test b passes → passes ≡ class b) → prefix_len class l.bytes ≡ l.end + prefix_len class (drop l.end l.bytes);
+  run : (class : ℕ → Bool) → ((b : ℕ) (passes : Bool) → goal.F-post g l.test b passes → passes ≡ class b)
+      → prefix_len class l.bytes ≡ l.end + prefix_len class (drop l.end l.bytes);
   inside : l.end ≤ length l.bytes;
 }
 

@@ -21,7 +21,8 @@ returns-then-relexing-eq-STAGE_BEGIN-clause-some c =
       edited.2,
       rw zero_stage lexed,
       λ later. absurd (later zero_stage),
-      λ first before insert law is passed. under_way first before insert law is (rw c.front_of.ensures (passed.near zero_stage)),
+      λ first before insert law is passed. under_way first before insert law is
+          (rw c.front_of.ensures (passed.near zero_stage)),
     ))
 
 pub returns-clause-none : goal.returns-clause-none

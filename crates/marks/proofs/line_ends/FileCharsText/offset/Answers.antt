@@ -7,4 +7,5 @@ pub overflow_sub-result : goal.overflow_sub-result
 overflow_sub-result c = left_within c.self.invariant
 
 pub returns : goal.returns
-returns c = offset_is c.self.inside.text.now c.self.inside.rest.now c.self.invariant ∙ ap (λ (v : List ℕ × List ℕ). offset_of v.0 v.1) c.self.view_is
+returns c = offset_is c.self.inside.text.now c.self.inside.rest.now c.self.invariant
+    ∙ ap (λ (v : List ℕ × List ℕ). offset_of v.0 v.1) c.self.view_is

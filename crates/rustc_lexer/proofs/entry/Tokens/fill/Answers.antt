@@ -15,6 +15,8 @@ places-preserved g c =
     record {
       past = past_more s at past c.places.count token inv.past inv.left takes;
       left = left_more s at past c.places.count token inv.past inv.left takes;
-      written = one_written g.R.FromToken.written (tokens_left s) (tokens_left past) c.args.buffer.now c.places.buffer c.places.count token inv.written
-          (next_is s at past c.places.count token inv.past inv.left takes) fits c.from_token.result c.from_token.ensures;
+      written = one_written g.R.FromToken.written (tokens_left s) (tokens_left past) c.args.buffer.now c.places.buffer
+          c.places.count token inv.written
+          (next_is s at past c.places.count token inv.past inv.left takes) fits c.from_token.result
+              c.from_token.ensures;
     }

@@ -1,6 +1,8 @@
 use Rattle.std.proofs.{Common.{◌≡◌, ◌≤◌, length, refl, sym, ◌∙◌, arith}, lemmas.Str.{IsCharBoundary-from_drop}}
 use Rattle.rustc_lexer.specs.Partition.{bound}
-use Rattle.rustc_lexer.proofs.lemmas.edits.{KeptFront.{kept_is}, ByLengths.{as_many, next_stands, stand_alike, stood_before}}
+use Rattle.rustc_lexer.proofs.lemmas.edits.{
+    KeptFront.{kept_is}, ByLengths.{as_many, next_stands, stand_alike, stood_before}
+}
 use Rattle.rustc_lexer.proofs.relex.front.kept_front.Goals as goal
 use Rattle.rustc_lexer.proofs.relex.front.kept_front.Goals.{then-stand_before, else-stand_before}
 
@@ -11,10 +13,15 @@ loop-at-init g c = elim c.if-stand_before.branch [
     c.stand_before.ensures.boundary w.if-stand_before.true,
     stood_before _ _ _ c.stand_before.ensures.late w.if-stand_before.true,
     λ old ts is near.
-        let at = c.walk_back-back.ensures.bound 0 ts record { lengths_are = is.lengths_are; number = near.0; offset = omega (arith, near.1) } in
-        let there : c.walk_back-back.result.offset ≡ bound ts c.walk_back-back.result.index = omega (arith, at.offset) in (
+        let at = c.walk_back-back.ensures.bound 0 ts record
+            { lengths_are = is.lengths_are; number = near.0; offset = omega (arith, near.1) } in
+        let there : c.walk_back-back.result.offset ≡ bound ts c.walk_back-back.result.index =
+            omega (arith, at.offset) in (
           (at.number, there),
-          λ some. sym (stand_alike old c.args.text.now c.walk_back-back.result.offset c.args.start c.stand_before.result is.utf8 c.utf8.text is.same c.requires.boundary.0 (rw there (is.cuts c.walk_back-back.result.index at.number)) c.stand_before.ensures.late c.stand_before.ensures.two)
+          λ some. sym (stand_alike old c.args.text.now c.walk_back-back.result.offset c.args.start c.stand_before.result
+              is.utf8 c.utf8.text is.same c.requires.boundary.0
+              (rw there (is.cuts c.walk_back-back.result.index at.number)) c.stand_before.ensures.late
+              c.stand_before.ensures.two)
               ∙ w.if-stand_before.true,
         ),
   )
@@ -33,7 +40,8 @@ loop-at-preserved g c = (
   stood_before _ _ _ c.stand_before-in-loop-at.ensures.late c.if-not-stand_before.false,
   λ old ts is near.
       let next = next_stands g.T.Measured.bytes c.args.tokens.now is c.utf8.text c.requires.boundary.0 c.loop-at.at
-      (c.loop-at.invariant.3 old ts is near).0 c.loop-at-test.true _ _ c.len.ensures c.index-tokens-at.is _ c.stand_before-in-loop-at.ensures.late
+      (c.loop-at.invariant.3 old ts is near).0 c.loop-at-test.true _ _ c.len.ensures c.index-tokens-at.is _
+          c.stand_before-in-loop-at.ensures.late
       c.stand_before-in-loop-at.ensures.two in
       (next.0, λ some. sym next.1 ∙ c.if-not-stand_before.false),
 )
@@ -41,14 +49,17 @@ loop-at-preserved g c = (
 pub returns-after-loop-at-clause-front : goal.returns-after-loop-at-clause-front
 returns-after-loop-at-clause-front g c = λ old ts is near.
     let at = c.loop-at.invariant.3 old ts is near in
-    let all : length ts ≤ c.loop-at.at.index = omega (arith, as_many g.T.Measured.bytes c.args.tokens.now ts is.lengths_are, c.loop-at-test.false) in
-    let number = kept_is old ts c.args.start is.utf8 is.cuts c.loop-at.at.index at.0.0 (rw (sym at.0.1) at.1) (λ few. absurd (omega (arith, few, all))) in
+    let all : length ts ≤ c.loop-at.at.index =
+        omega (arith, as_many g.T.Measured.bytes c.args.tokens.now ts is.lengths_are, c.loop-at-test.false) in
+    let number = kept_is old ts c.args.start is.utf8 is.cuts c.loop-at.at.index at.0.0 (rw (sym at.0.1) at.1)
+        (λ few. absurd (omega (arith, few, all))) in
     (number, at.0, at.1)
 
 pub returns-then-not-stand_before-clause-front : goal.returns-then-not-stand_before-clause-front
 returns-then-not-stand_before-clause-front g c = λ old ts is near.
     let at = c.loop-at.invariant.3 old ts is near in
-    let next = next_stands g.T.Measured.bytes c.args.tokens.now is c.utf8.text c.requires.boundary.0 c.loop-at.at at.0 c.loop-at-test.true _ _ c.len.ensures
+    let next = next_stands g.T.Measured.bytes c.args.tokens.now is c.utf8.text c.requires.boundary.0 c.loop-at.at at.0
+        c.loop-at-test.true _ _ c.len.ensures
     c.index-tokens-at.is _ c.stand_before-in-loop-at.ensures.late c.stand_before-in-loop-at.ensures.two in
     let number = kept_is old ts c.args.start is.utf8 is.cuts c.loop-at.at.index at.0.0 (rw (sym at.0.1) at.1)
     (λ few. rw (sym next.0.1) (sym next.1 ∙ c.if-not-stand_before.true)) in

@@ -2,11 +2,13 @@ use Rattle.std.proofs.{Common.{arith, ◌++◌}, lemmas.{Grind.{common_steps}, S
 use Rattle.rustc_lexer.proofs.relex.joined.append.Goals as goal
 
 pub separates-separated-requires-clause-boundary : goal.separates-separated-requires-clause-boundary
-separates-separated-requires-clause-boundary c = IsCharBoundary-at_seam _ c.as_str-at.result.now (c.args.separator.now ++ c.args.piece.now)
+separates-separated-requires-clause-boundary c =
+    IsCharBoundary-at_seam _ c.as_str-at.result.now (c.args.separator.now ++ c.args.piece.now)
     (grind (arith, common_steps)) (IsUtf8-append _ _ c.utf8.separator c.utf8.piece)
 
 pub separates-separated-requires-clause-end : goal.separates-separated-requires-clause-end
-separates-separated-requires-clause-end c = IsCharBoundary-at_seam _ c.args.separator.now c.args.piece.now (grind (arith, common_steps)) c.utf8.piece
+separates-separated-requires-clause-end c =
+    IsCharBoundary-at_seam _ c.args.separator.now c.args.piece.now (grind (arith, common_steps)) c.utf8.piece
 
 pub truncate-requires : goal.truncate-requires
 truncate-requires c =

@@ -5,7 +5,9 @@ use Rattle.rustc_lexer.proofs.lemmas.tokens.Progress.{same_first, stepped}
 use Rattle.rustc_lexer.proofs.entry.stepper.Stepper.fill.Goals as goal
 
 pub range_from-requires : goal.range_from-requires
-range_from-requires g c = λ some. (stands (g.Self.Stepper.law c.args.self.now) c.args.text.now record { utf8 = c.utf8.text; fits = c.requires.fits } c.places.written c.places.at c.places.invariant.offset).boundary
+range_from-requires g c =
+    λ some. (stands (g.Self.Stepper.law c.args.self.now) c.args.text.now record
+    { utf8 = c.utf8.text; fits = c.requires.fits } c.places.written c.places.at c.places.invariant.offset).boundary
 
 pub places-preserved : goal.places-preserved
 places-preserved g c =
@@ -16,12 +18,17 @@ places-preserved g c =
     let inv = c.places.invariant in
     let more : c.places.at < length text = omega arith in
     let buffer : c.places.written < length c.places.buffer = omega arith in
-    let token : c.step-token.result ≡ first (drop c.places.at text) = stepped text c.places.at c.step-token.ensures.token (same_first inv.grammar) c.range_from.ensures.value in
+    let token : c.step-token.result ≡ first (drop c.places.at text) =
+        stepped text c.places.at c.step-token.ensures.token (same_first inv.grammar) c.range_from.ensures.value in
     record {
-      written = one_written g.R.FromToken.written (tokens_by first text) _ c.args.buffer.now c.places.buffer c.places.written (first (drop c.places.at text)) inv.written
-          (next_token law text is c.places.written c.places.at inv.offset more) buffer c.from_token.result (c.from_token.ensures ∙ ap g.R.FromToken.written token);
-      begun = begun_more (tokens_by first text) c.places.written c.places.at c.args.end inv.offset (omega arith) inv.begun;
-      offset = ap (λ (t : Token). c.places.at + t.len) token ∙ next_offset law text is c.places.written c.places.at inv.offset more;
+      written = one_written g.R.FromToken.written (tokens_by first text) _ c.args.buffer.now c.places.buffer
+          c.places.written (first (drop c.places.at text)) inv.written
+          (next_token law text is c.places.written c.places.at inv.offset more) buffer c.from_token.result
+              (c.from_token.ensures ∙ ap g.R.FromToken.written token);
+      begun = begun_more (tokens_by first text) c.places.written c.places.at c.args.end inv.offset
+          (omega arith) inv.begun;
+      offset = ap (λ (t : Token). c.places.at + t.len) token
+          ∙ next_offset law text is c.places.written c.places.at inv.offset more;
       count = omega (arith, c.step-token.ensures.count, inv.count);
       grammar = c.step-token.ensures.grammar ∙ inv.grammar;
     }

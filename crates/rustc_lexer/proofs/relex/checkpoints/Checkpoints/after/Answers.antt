@@ -4,4 +4,5 @@ use Rattle.rustc_lexer.proofs.lemmas.edits.Checkpoints.{kept_stays}
 use Rattle.rustc_lexer.proofs.relex.checkpoints.Checkpoints.after.Goals as goal
 
 pub loop-i-init : goal.loop-i-init
-loop-i-init c = λ old new is are. All-replicate (IsBound new) 63 c.args.kept (kept_stays old new c.args.kept c.args.met c.args.now is)
+loop-i-init c = λ old new is are. All-replicate (IsBound new) 63 c.args.kept
+    (kept_stays old new c.args.kept c.args.met c.args.now is)

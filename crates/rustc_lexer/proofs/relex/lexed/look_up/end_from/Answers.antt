@@ -9,4 +9,6 @@ overflow_add-end c = record {
 }
 
 pub loop-token-preserved : goal.loop-token-preserved
-loop-token-preserved c = ahead_is c.args.tokens.now c.args.start c.loop-token.token-index c.loop-token.end _ c.loop-token.invariant c.loop-token-test.true
+loop-token-preserved c =
+    ahead_is c.args.tokens.now c.args.start c.loop-token.token-index c.loop-token.end _ c.loop-token.invariant
+    c.loop-token-test.true

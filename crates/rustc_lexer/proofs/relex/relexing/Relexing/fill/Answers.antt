@@ -21,22 +21,31 @@ places-preserved g c =
     let at = c.places.self in
     let past = c.next.new.self in
     let token = c.in-Some.token in
-    let step = subst (λ (f : List ℕ → Token). (token ≡ f (drop at.at text)) × TakesSteps f text c.args.edited.now.change.new_stop at 1 past) (same_first inv.grammar) (c.in-Some.ensures.step.0, c.in-Some.ensures.step.1) in
+    let step = subst (λ (f : List ℕ → Token). (token ≡ f (drop at.at text))
+        × TakesSteps f text c.args.edited.now.change.new_stop at 1 past) (same_first inv.grammar)
+        (c.in-Some.ensures.step.0, c.in-Some.ensures.step.1) in
     let boundary = c.requires.may_go_on.boundary in
     record {
       may_go_on = c.in-Some.ensures.may_go_on;
       grammar = c.in-Some.ensures.grammar ∙ inv.grammar;
       count = omega (arith, c.in-Some.ensures.step.2, inv.count);
       steps = step_more law is c.args.edited.now.change.new_stop begin boundary inv.steps step.1;
-      written = one_written g.R.FromToken.written (tokens_by first (drop begin.at text)) _ c.args.buffer.now c.places.buffer c.places.count token inv.written
-          (next_left law is c.args.edited.now.change.new_stop begin boundary inv.steps step.0 step.1.inside) (let less = c.places-test.true in omega arith) c.from_token.result c.from_token.ensures;
+      written = one_written g.R.FromToken.written (tokens_by first (drop begin.at text)) _ c.args.buffer.now
+          c.places.buffer c.places.count token inv.written
+          (next_left law is c.args.edited.now.change.new_stop begin boundary inv.steps step.0 step.1.inside)
+              (let less = c.places-test.true in omega arith) c.from_token.result c.from_token.ensures;
       begins = λ _. elim (cases_lt 0 c.places.count) [
         | inl some ↦ inv.begins some
-        | inr none ↦ (let e : c.places.count ≡ 0 = omega arith in ap (is_over text) (sym (inv.steps.none e)) ∙ c.in-Some.ensures.step.3)
+        | inr none ↦ (let e : c.places.count ≡ 0 = omega arith in
+            ap (is_over text) (sym (inv.steps.none e)) ∙ c.in-Some.ensures.step.3)
       ];
       under_way = λ before insert made begun.
-          let Next : (List ℕ → Token) → Type 0 = λ f. IsMadeOf f before (map g.T.Measured.bytes c.args.edited.now.old_tokens.now) c.args.edited.now.change insert text → IsUnderWay f before c.args.edited.now.change text at → IsUnderWay f before c.args.edited.now.change text past in
-          subst Next (same_first inv.grammar) (λ m s. (c.in-Some.ensures.under_way before insert m s).0) made (inv.under_way before insert made begun);
+          let Next : (List ℕ → Token) → Type 0 =
+              λ f. IsMadeOf f before (map g.T.Measured.bytes c.args.edited.now.old_tokens.now) c.args.edited.now.change
+              insert text → IsUnderWay f before c.args.edited.now.change text at
+              → IsUnderWay f before c.args.edited.now.change text past in
+          subst Next (same_first inv.grammar) (λ m s. (c.in-Some.ensures.under_way before insert m s).0) made
+              (inv.under_way before insert made begun);
     }
 
 pub returns-after-places-clause-under_way : goal.returns-after-places-clause-under_way
@@ -45,6 +54,8 @@ returns-after-places-clause-under_way g c = λ before insert made begun.
 
 pub returns-in_default-clause-under_way : goal.returns-in_default-clause-under_way
 returns-in_default-clause-under_way g c = λ before insert made begun. (
-  subst (λ at. IsUnderWay (g.S.Stepper.grammar c.args.stepper.now).first before c.args.edited.now.change c.args.edited.now.text.now at) (sym c.in_default.ensures.step.0) (c.places.invariant.under_way before insert made begun),
+  subst (λ at. IsUnderWay (g.S.Stepper.grammar c.args.stepper.now).first before c.args.edited.now.change
+      c.args.edited.now.text.now at) (sym c.in_default.ensures.step.0)
+      (c.places.invariant.under_way before insert made begun),
   left_at (g.S.Stepper.law c.args.stepper.now) made begun,
 )
