@@ -26,10 +26,8 @@ pub mod laws
 pub mod means
 pub use declared.edition.Edition.{Edition}
 pub use declared.edition.Edition.TheVariants.*
-pub use declared.token.{
-    Base.Base, DocStyle.DocStyle, FrontmatterAllowed.FrontmatterAllowed, GuardedStr.GuardedStr, LiteralKind.LiteralKind,
-    RawStrError.RawStrError, Token.Token, TokenKind.TokenKind
-}
+pub use declared.token.{Base.Base, DocStyle.DocStyle, FrontmatterAllowed.FrontmatterAllowed, GuardedStr.GuardedStr}
+pub use declared.token.{LiteralKind.LiteralKind, RawStrError.RawStrError, Token.Token, TokenKind.TokenKind}
 pub use declared.token.Base.TheVariants.*
 pub use declared.token.DocStyle.TheVariants.*
 pub use declared.token.FrontmatterAllowed.TheVariants.*
