@@ -1,9 +1,9 @@
 -- What a marked text says, and the calls that write it.
 use Rattle.std.proofs.Common.{
-    ◌≡◌, ℕ, ◌+◌, ◌-◌, ◌==◌, inl, inr, List, [], ◌∷◌, ◌++◌, length, take, drop, refl, ap, subst, ◌∙◌, arith, take-add,
-    take-append-drop, Option, append-nil
+    ◌≡◌, ℕ, ◌+◌, ◌-◌, ◌==◌, inl, inr, List, [], ◌∷◌, ◌++◌, length, take, drop, refl, sym, ap, subst, ◌∙◌, arith,
+    take-add, take-append-drop, Option, append-nil
 }
-use Rattle.std.specs.{Fmt.{WritesInCalls}, Prelude.{OnOk, Result}, Char.{encode_utf8, len_utf8}}
+use Rattle.std.specs.{Fmt.{WritesInCalls}, Prelude.{OnOk, Result, Ok, Err}}
 use Rattle.std.specs.Str.{IsCharBoundary, IsUtf8, chars}
 use Rattle.std.proofs.lemmas.{Bool.{cases_Bool, eqb-true}, Str.{IsCharBoundary-past_char, IsCharBoundary-start}}
 use Rattle.std.proofs.lemmas.{List.Concat.{flat_map-append}, Grind.{common_steps}}
@@ -62,7 +62,13 @@ module _ {W : Type 0} (took : W → List ℕ → W → Type 0) where
       → OnOk r (WritesInCalls took v (with_marks format (Own Comment line ∷ [])) u)
       → OnOk r (WritesInCalls took w (with_marks format (start_parts text)) u)
   writes_start (Ok t) format text mark line n w v u is front past before after =
-      rw (sym (front ∙ ap (λ k. take (k - 0) text) is), sym (past ∙ ap (λ k. drop k text) is))
+      let mark_is : mark ≡ take (mark_len text) text =
+          front ∙ ap (λ (k : ℕ). take k text) (let e : n - 0 ≡ mark_len text = omega (arith, is) in e) in
+      let line_is : line ≡ drop (mark_len text) text = past ∙ ap (λ (k : ℕ). drop k text) is in
+      let are : Own Plain mark ∷ Own Comment line ∷ [] ≡ start_parts text =
+          ap (λ (m : List ℕ). Own Plain m ∷ Own Comment line ∷ []) mark_is
+          ∙ ap (λ (l : List ℕ). Own Plain (take (mark_len text) text) ∷ Own Comment l ∷ []) line_is in
+      subst (λ ps. WritesInCalls took w (with_marks format ps) u) are
           (writes_parts took format (Own Plain mark ∷ []) (Own Comment line ∷ []) w v u before after)
   writes_start (Err e) format text mark line n w v u is front past before after = tt
 

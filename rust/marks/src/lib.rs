@@ -38,8 +38,8 @@
 /// Other callers use the functions at the crate's root.
 // Only contracts use some of its imports and variables.
 #[allow(missing_docs, unused_imports, unused_variables, dead_code)]
-// A loop over the rest of an iterator is a `while let` for the prover.
-#[allow(clippy::while_let_on_iterator)]
+// The prover needs a `while let` for a loop over the rest of an iterator, and two comparisons for a range.
+#[allow(clippy::manual_range_contains, clippy::while_let_on_iterator)]
 #[allow(
     clippy::missing_errors_doc,
     clippy::missing_panics_doc,
