@@ -1,12 +1,12 @@
 -- What a marked text says, and the calls that write it.
 use Rattle.std.proofs.Common.{
-    ◌≡◌, ℕ, ◌+◌, ◌-◌, ◌==◌, inl, inr, List, [], ◌∷◌, ◌++◌, length, take, drop, refl, ap, subst, ◌∙◌, arith, take-add,
-    take-append-drop, Option, append-nil
+    ◌≡◌, ℕ, ◌+◌, ◌-◌, ◌==◌, inl, inr, List, [], ◌∷◌, ◌++◌, length, take, drop, refl, sym, ap, subst, ◌∙◌, arith,
+    take-add, take-append-drop, Option, append-nil
 }
 use Rattle.std.specs.{Fmt.{WritesInCalls}, Prelude.{OnOk, Result}, Char.{encode_utf8, len_utf8}}
 use Rattle.std.specs.Str.{IsCharBoundary, IsUtf8, chars}
 use Rattle.std.proofs.lemmas.{Bool.{cases_Bool, eqb-true}, Str.{IsCharBoundary-past_char, IsCharBoundary-start}}
-use Rattle.std.proofs.lemmas.{List.Concat.{flat_map-append}, Grind.{common_steps}}
+use Rattle.std.proofs.lemmas.{List.Concat.{flat_map-append}, Grind.{common_steps}, Result.{on_ok_weaker}}
 use Rattle.rustc_lexer.specs.declared.{edition.Edition.{Edition}, token.Token.{Token}}
 use Rattle.rustc_lexer.specs.{Document.{document_tokens, mark_len, tokens_start}, Tokens.{bound, Partitions}}
 use Rattle.rustc_literal_escaper.specs.declared.mode.Mode.{Mode}
@@ -61,10 +61,12 @@ module _ {W : Type 0} (took : W → List ℕ → W → Type 0) where
       → WritesInCalls took w (with_marks format (Own Plain mark ∷ [])) v
       → OnOk r (WritesInCalls took v (with_marks format (Own Comment line ∷ [])) u)
       → OnOk r (WritesInCalls took w (with_marks format (start_parts text)) u)
-  writes_start (Ok t) format text mark line n w v u is front past before after =
-      rw (sym (front ∙ ap (λ k. take (k - 0) text) is), sym (past ∙ ap (λ k. drop k text) is))
-          (writes_parts took format (Own Plain mark ∷ []) (Own Comment line ∷ []) w v u before after)
-  writes_start (Err e) format text mark line n w v u is front past before after = tt
+  writes_start r format text mark line n w v u is front past before after =
+      let same : n - 0 ≡ mark_len text = omega arith in
+      let is_mark : mark ≡ take (mark_len text) text = front ∙ ap (λ (k : ℕ). take k text) same in
+      let is_line : line ≡ drop (mark_len text) text = past ∙ ap (λ (k : ℕ). drop k text) is in
+      on_ok_weaker r (λ wrote. rw (sym is_mark, sym is_line)
+      (writes_parts took format (Own Plain mark ∷ []) (Own Comment line ∷ []) w v u before wrote)) after
 
   -- what comes before the first token, and then the tokens
   pub writes_past : (format : Format) (edition : Edition) (w0 w u : W) (text : List ℕ)
