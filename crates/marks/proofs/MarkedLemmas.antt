@@ -6,7 +6,7 @@ use Rattle.std.proofs.Common.{
 use Rattle.std.specs.{Fmt.{WritesInCalls}, Prelude.{OnOk, Result, Ok, Err}}
 use Rattle.std.specs.Str.{IsCharBoundary, IsUtf8, chars}
 use Rattle.std.proofs.lemmas.{Bool.{cases_Bool, eqb-true}, Str.{IsCharBoundary-past_char, IsCharBoundary-start}}
-use Rattle.std.proofs.lemmas.{List.Concat.{flat_map-append}, Grind.{common_steps}}
+use Rattle.std.proofs.lemmas.{List.Concat.{flat_map-append}, Grind.{common_steps}, Result.{on_ok_weaker}}
 use Rattle.rustc_lexer.specs.declared.{edition.Edition.{Edition}, token.Token.{Token}}
 use Rattle.rustc_lexer.specs.{Document.{document_tokens, mark_len, tokens_start}, Tokens.{bound, Partitions}}
 use Rattle.rustc_literal_escaper.specs.declared.mode.Mode.{Mode}
