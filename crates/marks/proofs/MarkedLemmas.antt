@@ -3,7 +3,7 @@ use Rattle.std.proofs.Common.{
     ◌≡◌, ℕ, ◌+◌, ◌-◌, ◌==◌, inl, inr, List, [], ◌∷◌, ◌++◌, length, take, drop, refl, sym, ap, subst, ◌∙◌, arith,
     take-add, take-append-drop, Option, append-nil
 }
-use Rattle.std.specs.{Fmt.{WritesInCalls}, Prelude.{OnOk, Result, Ok, Err}}
+use Rattle.std.specs.{Fmt.{WritesInCalls}, Prelude.{OnOk, Result}, Char.{encode_utf8, len_utf8}}
 use Rattle.std.specs.Str.{IsCharBoundary, IsUtf8, chars}
 use Rattle.std.proofs.lemmas.{Bool.{cases_Bool, eqb-true}, Str.{IsCharBoundary-past_char, IsCharBoundary-start}}
 use Rattle.std.proofs.lemmas.{List.Concat.{flat_map-append}, Grind.{common_steps}, Result.{on_ok_weaker}}
@@ -61,16 +61,12 @@ module _ {W : Type 0} (took : W → List ℕ → W → Type 0) where
       → WritesInCalls took w (with_marks format (Own Plain mark ∷ [])) v
       → OnOk r (WritesInCalls took v (with_marks format (Own Comment line ∷ [])) u)
       → OnOk r (WritesInCalls took w (with_marks format (start_parts text)) u)
-  writes_start (Ok t) format text mark line n w v u is front past before after =
-      let mark_is : mark ≡ take (mark_len text) text =
-          front ∙ ap (λ (k : ℕ). take k text) (let e : n - 0 ≡ mark_len text = omega (arith, is) in e) in
-      let line_is : line ≡ drop (mark_len text) text = past ∙ ap (λ (k : ℕ). drop k text) is in
-      let are : Own Plain mark ∷ Own Comment line ∷ [] ≡ start_parts text =
-          ap (λ (m : List ℕ). Own Plain m ∷ Own Comment line ∷ []) mark_is
-          ∙ ap (λ (l : List ℕ). Own Plain (take (mark_len text) text) ∷ Own Comment l ∷ []) line_is in
-      subst (λ ps. WritesInCalls took w (with_marks format ps) u) are
-          (writes_parts took format (Own Plain mark ∷ []) (Own Comment line ∷ []) w v u before after)
-  writes_start (Err e) format text mark line n w v u is front past before after = tt
+  writes_start r format text mark line n w v u is front past before after =
+      let same : n - 0 ≡ mark_len text = omega arith in
+      let is_mark : mark ≡ take (mark_len text) text = front ∙ ap (λ (k : ℕ). take k text) same in
+      let is_line : line ≡ drop (mark_len text) text = past ∙ ap (λ (k : ℕ). drop k text) is in
+      on_ok_weaker r (λ wrote. rw (sym is_mark, sym is_line)
+      (writes_parts took format (Own Plain mark ∷ []) (Own Comment line ∷ []) w v u before wrote)) after
 
   -- what comes before the first token, and then the tokens
   pub writes_past : (format : Format) (edition : Edition) (w0 w u : W) (text : List ℕ)

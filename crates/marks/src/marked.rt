@@ -46,6 +46,7 @@ pub fn write_marked<W: fmt::Write>(
 }
 
 /// Writes the text before the first token: a byte order mark, and a shebang line as a comment.
+#[tactic(auto, using(crate::proofs::MarkedLemmas::writes_start))]
 fn write_start<W: fmt::Write>(format: Format, start: &str, output: &mut W) -> fmt::Result
     ensures { OnOk result (WritesInCalls W.write_str_gives output.old
         (with_marks format (start_parts start.now)) output.new) }
