@@ -1,8 +1,6 @@
 -- The known bytes of readers and writers, over loops.
-use Rattle.std.proofs.Common.{
-    ◌≡◌, ℕ, ◌+◌, ◌-◌, List, [], ◌++◌, length, take, drop, refl, arith, append_assoc, append-nil, length-append,
-    take-append-drop, take_at, length-drop, take_all, Option
-}
+use Rattle.std.proofs.Common.{◌≡◌, ℕ, ◌+◌, ◌-◌, List, [], ◌++◌, length, take, drop, refl, arith, append_assoc}
+use Rattle.std.proofs.Common.{append-nil, length-append, take-append-drop, take_at, length-drop, take_all, Option}
 use Rattle.std.proofs.lemmas.Grind.{common_steps}
 use Rattle.std.specs.Io.KnownBytes.{Appends, Keeps}
 use Rattle.std.proofs.{Math.Seq.{take-append-add}, lemmas.List.{take-append-le}}
@@ -25,8 +23,11 @@ appends-kept old mid new xs a b = grind (arith, common_steps)
 pub went_more : (old mid new : Option (List ℕ)) (text rest cut : List ℕ) (n : ℕ) → Went old mid text rest
     → Appends mid new (take n rest) → cut ≡ drop n rest → Went old new text cut
 went_more old mid new text rest cut n w a e =
-    record { front = w.front ++ take n rest; whole = grind (arith, common_steps, take-append-drop, append_assoc);
-    grew = appends-more old mid new w.front (take n rest) w.grew a }
+    record {
+      front = w.front ++ take n rest;
+      whole = grind (arith, common_steps, take-append-drop, append_assoc);
+      grew = appends-more old mid new w.front (take n rest) w.grew a;
+    }
 
 pub went_kept : (old mid new : Option (List ℕ)) (text rest : List ℕ) → Went old mid text rest → Keeps mid new
     → Went old new text rest
@@ -48,9 +49,11 @@ front_first old new xs ys text e f = grind (arith, common_steps, length-append, 
 -- a text and then a beginning of another
 pub front_more : (old mid new : Option (List ℕ)) (xs ys text : List ℕ) → xs ++ ys ≡ text → Appends old mid xs
     → AppendsFront mid new ys → AppendsFront old new text
-front_more old mid new xs ys text e a f =
-    (length xs + f.0, grind (arith, common_steps, length-append),
-    grind (arith, common_steps, take-append-add, appends-more))
+front_more old mid new xs ys text e a f = (
+  length xs + f.0,
+  grind (arith, common_steps, length-append),
+  grind (arith, common_steps, take-append-add, appends-more),
+)
 
 -- two texts and then a beginning of a third
 pub front_last : (old mid late new : Option (List ℕ)) (xs ys zs text : List ℕ) → xs ++ (ys ++ zs) ≡ text

@@ -1,14 +1,11 @@
 -- Why a program stops: its exit status, and what it prints.
-use Rattle.std.specs.Prelude.{
-    ℕ, ◌≡◌, Bool, true, not, if◌then◌else◌, List, [], ◌∷◌, ◌++◌, codes, decimal, Option, Some, None, Result, Ok, Err,
-    OnErr
-}
+use Rattle.std.specs.Prelude.{ℕ, ◌≡◌, Bool, true, not, if◌then◌else◌, List, [], ◌∷◌, ◌++◌, codes, decimal, Option, Some}
+use Rattle.std.specs.Prelude.{None, Result, Ok, Err, OnErr}
 use Rattle.std.specs.Io.KnownBytes.{Appends}
 use Rattle.ends.specs.Known.{AppendsFront}
 use Rattle.ends.specs.declared.fault.Fault.{Fault}
-use Rattle.ends.specs.declared.fault.Fault.TheVariants.{
-    Arguments, NotUtf8, TooLong, EditRange, EditTooLong, Memory, Read, Write
-}
+use Rattle.ends.specs.declared.fault.Fault.TheVariants.{Arguments, NotUtf8, TooLong, EditRange, EditTooLong, Memory}
+use Rattle.ends.specs.declared.fault.Fault.TheVariants.{Read, Write}
 
 abbrev pub status_of : Fault → ℕ
 status_of Arguments = 2

@@ -1,8 +1,6 @@
 -- The outcome of a run, by its arguments and the bytes that it reads.
-use Rattle.std.specs.Prelude.{
-    ℕ, ◌<◌, ◌≤◌, ◌^◌, ◌≡◌, ◌≢◌, ◌↔◌, true, List, length, Option, Some, None, IfSome, IfErr, IfOk, IsErrOf, IsSome,
-    IsTrue, Result, Ok, Err
-}
+use Rattle.std.specs.Prelude.{ℕ, ◌<◌, ◌≤◌, ◌^◌, ◌≡◌, ◌≢◌, ◌↔◌, true, List, length, Option, Some, None, IfSome, IfErr}
+use Rattle.std.specs.Prelude.{IfOk, IsErrOf, IsSome, IsTrue, Result, Ok, Err}
 use Rattle.std.proofs.Common.{refl, sym, true≢false}
 use Rattle.std.specs.declared.io.ErrorKind.{ErrorKind}
 use Rattle.std.specs.Str.{IsUtf8}

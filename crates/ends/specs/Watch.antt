@@ -1,7 +1,6 @@
 -- A reader or a writer, how it has failed, and whether it was flushed last.
-use Rattle.std.specs.Prelude.{
-    ℕ, Bool, true, false, ◌==◌, ◌&&◌, not, if◌then◌else◌, List, length, is_some, Option, Some, None, Result, Ok, Err
-}
+use Rattle.std.specs.Prelude.{ℕ, Bool, true, false, ◌==◌, ◌&&◌, not, if◌then◌else◌, List, length, is_some, Option, Some}
+use Rattle.std.specs.Prelude.{None, Result, Ok, Err}
 use Rattle.std.specs.IoError.{error_kind}
 use Rattle.std.specs.declared.io.Error.{Error}
 use Rattle.std.specs.declared.io.ErrorKind.{ErrorKind}

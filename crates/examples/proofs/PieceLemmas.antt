@@ -14,7 +14,7 @@ module _ {W : Type 0} (took : W → List ℕ → W → Type 0) where
   -- a piece in its style, and then those that are left
   pub writes_piece : (w0 w1 w2 w3 w : W) (left others : List Placed) (piece : Placed) (before text after : List ℕ)
       → left ≡ piece ∷ others → before ≡ open_style piece.token.kind → text ≡ piece.text
-          → after ≡ close_style piece.token.kind
+      → after ≡ close_style piece.token.kind
       → took w0 before w1 → took w1 text w2 → took w2 after w3
       → WritesInCalls took w3 (styled others) w → WritesInCalls took w0 (styled left) w
   writes_piece w0 w1 w2 w3 w left others piece before text after first opens is closes a b c d =

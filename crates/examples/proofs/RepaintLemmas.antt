@@ -1,8 +1,7 @@
 -- What is shown of a text after an edit.
-use Rattle.std.proofs.Common.{
-    ◌≡◌, ℕ, zero, suc, ◌+◌, ◌-◌, ◌<◌, ◌≤◌, true, List, [], ◌∷◌, ◌++◌, length, map, take, drop, refl, sym, ap, subst,
-    ◌∙◌, arith, drop-drop, take-take, take-append-drop, length-take-le, IsUtf8, Result, Ok, Err, IfOk, OnOk
-}
+use Rattle.std.proofs.Common.{◌≡◌, ℕ, zero, suc, ◌+◌, ◌-◌, ◌<◌, ◌≤◌, true, List, [], ◌∷◌, ◌++◌, length, map, take, drop}
+use Rattle.std.proofs.Common.{refl, sym, ap, subst, ◌∙◌, arith, drop-drop, take-take, take-append-drop, length-take-le}
+use Rattle.std.proofs.Common.{IsUtf8, Result, Ok, Err, IfOk, OnOk}
 use Rattle.std.proofs.lemmas.{Grind.{common_steps}, List.{drop-take}}
 use Rattle.rustc_lexer.specs.declared.{relex.relexing.{Change.{Change}, Relexed.{Relexed}}, token.Token.{Token}}
 use Rattle.rustc_lexer.specs.{Tokens.{bound, tokens_by}, Edits.{IsEdit, IsMeeting, IsRelexed, apply, part_by}}
@@ -21,8 +20,8 @@ pieces-within : (text : List ℕ) (whole start : ℕ) (ts : List Token) → star
 pieces-within text whole start [] few = refl
 pieces-within text whole start (t ∷ ts) few =
     let own : take t.len (drop start (take whole text)) ≡ take t.len (drop start text) =
-        sym (drop-take start t.len (take whole text))
-        ∙ (ap (drop start) (take-take (start + t.len) whole text (omega arith)) ∙ drop-take start t.len text) in
+    sym (drop-take start t.len (take whole text))
+    ∙ (ap (drop start) (take-take (start + t.len) whole text (omega arith)) ∙ drop-take start t.len text) in
     rw (own, pieces-within text whole (start + t.len) ts (omega arith)) refl
 
 -- the pieces of a rest that stands at another place
@@ -32,7 +31,7 @@ pieces-moved : (added removed : ℕ) (text other : List ℕ) (from to : ℕ) (ts
 pieces-moved added removed text other from to [] same at fits = refl
 pieces-moved added removed text other from to (t ∷ ts) same at fits =
     let next : drop (from + t.len) text ≡ drop (to + t.len) other = sym (drop-drop t.len from text)
-        ∙ (ap (drop t.len) same ∙ drop-drop t.len to other) in
+    ∙ (ap (drop t.len) same ∙ drop-drop t.len to other) in
     cc (pieces-moved added removed text other (from + t.len) (to + t.len) ts next (omega arith) (omega arith))
 
 -- a list is what stands before a number, so many more, and the rest
@@ -80,12 +79,18 @@ module _ {first : List ℕ → Token} (law : IsGrammar first) (text : List ℕ) 
       let two = (kept_tells text old start is.utf8 (cuts law text is) kept few).1 (omega arith) in
       let long : length (take kept old) ≡ kept = length-take-le kept old few in
       let end : bound (take kept old) (length (take kept old)) ≡ bound old kept = ap (bound (take kept old)) long
-          ∙ bound-take kept old in
+      ∙ bound-take kept old in
       let early : bound old kept ≤ start = kept_before text start old kept two in
       let front = (edited of_edit).front in
-      cc (take-pieces new_text 0 kept new, front_same law of_edit, pieces-within new_text start 0 (take kept old)
-          (omega (arith, end)), front, pieces-within text start 0 (take kept old) (omega (arith, end)),
-          take-pieces text 0 kept old)
+      cc (
+        take-pieces new_text 0 kept new,
+        front_same law of_edit,
+        pieces-within new_text start 0 (take kept old)
+            (omega (arith, end)),
+        front,
+        pieces-within text start 0 (take kept old) (omega (arith, end)),
+        take-pieces text 0 kept old,
+      )
 
   back_shown : (met back : ℕ)
       (at : IsMeeting (part_by first text) (part_by first new_text) stop (start + length insert) met back)
@@ -100,10 +105,14 @@ module _ {first : List ℕ → Token} (law : IsGrammar first) (text : List ℕ) 
       let b : bound new met ≡ 0 + bound new met = omega arith in
       let same : drop (0 + bound old i) text ≡ drop (0 + bound new met) new_text =
       ap (λ p. drop p text) (sym a ∙ there)
-          ∙ (sym (same_rest law of_edit (bound new met) past) ∙ ap (λ p. drop p new_text) b) in
+      ∙ (sym (same_rest law of_edit (bound new met) past) ∙ ap (λ p. drop p new_text) b) in
       let rest : drop met new ≡ drop i old = met_rest law of_edit met i past place in
-      cc (drop-pieces new_text 0 met new, pieces-moved (length insert) (stop - start) text new_text (0 + bound old i)
-          (0 + bound new met) (drop i old) same (omega arith) (omega arith), drop-pieces text 0 i old)
+      cc (
+        drop-pieces new_text 0 met new,
+        pieces-moved (length insert) (stop - start) text new_text (0 + bound old i)
+            (0 + bound new met) (drop i old) same (omega arith) (omega arith),
+        drop-pieces text 0 i old,
+      )
 
   -- with what is painted, what was shown is what is to be shown
   pub enough : (r : Relexed) → IsRelexed (part_by first) text start stop insert r
@@ -114,14 +123,14 @@ module _ {first : List ℕ → Token} (law : IsGrammar first) (text : List ℕ) 
       let kept_is : r.kept_front ≡ kept = omega (arith, is.kept (omega arith, refl, refl)) in
       let number : length shown - r.kept_back ≡ at.old_number = omega (arith, length-pieces text 0 old) in
       let front : take r.kept_front to_show ≡ take r.kept_front shown =
-          subst (λ n. take n to_show ≡ take n shown) (sym kept_is) front_shown in
+      subst (λ n. take n to_show ≡ take n shown) (sym kept_is) front_shown in
       cc (in_three r.kept_front r.lexed to_show, back_shown (r.kept_front + r.lexed) r.kept_back at)
 
   pub enough_for : {E : Type 0} (result : Result Relexed E) (bytes : List ℕ) (tokens held : List Token)
       → held ≡ tokens_by first text → tokens ≡ tokens_by first bytes
       → OnOk result (bytes ≡ apply text start stop insert)
-          → IfOk result (IsRelexed (part_by first) text start stop insert)
+      → IfOk result (IsRelexed (part_by first) text start stop insert)
       → IfOk result (λ r. pieces_from bytes 0 tokens ≡ shown_after r (length insert) (stop - start)
-          (pieces_from text 0 held) (changed r (pieces_from bytes 0 tokens)))
+      (pieces_from text 0 held) (changed r (pieces_from bytes 0 tokens)))
   enough_for (Err e) bytes tokens held h t b r = tt
   enough_for (Ok x) bytes tokens held h t b r = grind (arith, common_steps, enough)

@@ -1,9 +1,8 @@
 -- What is shown of a text that is kept with its tokens, and what an edit makes of it.
 use Rattle.std.specs.Prelude.{ℕ, ◌+◌, ◌-◌, List, [], ◌∷◌, ◌++◌, codes, length, map, take, drop}
 use Rattle.rustc_lexer.specs.declared.token.TokenKind.{TokenKind}
-use Rattle.rustc_lexer.specs.declared.token.TokenKind.TheVariants.{
-    LineComment, BlockComment, Literal, Lifetime, RawLifetime, UnknownPrefixLifetime, Unknown
-}
+use Rattle.rustc_lexer.specs.declared.token.TokenKind.TheVariants.{LineComment, BlockComment, Literal, Lifetime}
+use Rattle.rustc_lexer.specs.declared.token.TokenKind.TheVariants.{RawLifetime, UnknownPrefixLifetime, Unknown}
 use Rattle.rustc_lexer.specs.declared.relex.relexing.Relexed.{Relexed}
 use Rattle.rustc_lexer.specs.Kept.{Placed}
 

@@ -1,8 +1,6 @@
 -- What the program comes to, by its arguments and the bytes that it reads.
-use Rattle.std.specs.Prelude.{
-    ℕ, ◌≡◌, ◌≢◌, ◌==◌, Bool, true, false, not, ◌&&◌, List, ◌++◌, codes, drop, map, Option, Some, None, Result, Ok, Err,
-    length, string_bytes
-}
+use Rattle.std.specs.Prelude.{ℕ, ◌≡◌, ◌≢◌, ◌==◌, Bool, true, false, not, ◌&&◌, List, ◌++◌, codes, drop, map, Option}
+use Rattle.std.specs.Prelude.{Some, None, Result, Ok, Err, length, string_bytes}
 use Rattle.std.specs.Global.{Global}
 use Rattle.std.specs.Str.{bytes_eq}
 use Rattle.std.specs.Vec.Iter.{into_iter_items}

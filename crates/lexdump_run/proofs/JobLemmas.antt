@@ -1,17 +1,14 @@
 -- The words of a job.
-use Rattle.std.proofs.Common.{
-    ◌≡◌, ◌↔◌, true≢false, ℕ, ◌<◌, ◌≤◌, ◌≢◌, Bool, true, false, List, [], ◌∷◌, ◌++◌, length, get_or, append_assoc, rules,
-    refl, sym, ap, ◌∙◌, arith, Option, Some, None, Result
-}
+use Rattle.std.proofs.Common.{◌≡◌, ◌↔◌, true≢false, ℕ, ◌<◌, ◌≤◌, ◌≢◌, Bool, true, false, List, [], ◌∷◌, ◌++◌, length}
+use Rattle.std.proofs.Common.{get_or, append_assoc, rules, refl, sym, ap, ◌∙◌, arith, Option, Some, None, Result}
 use Rattle.std.proofs.lemmas.Grind.{common_steps}
 use Rattle.std.specs.{Bool.{IsTrue}, Prelude.{is_some, IsSome}, Option.{option_map, option_zip}, Result.{result_ok}}
 use Rattle.std.specs.Str.{all_ascii_digits, Parse.{ParsesUnsigned}}
 use Rattle.std.proofs.lemmas.{List.{length-map}, Bool.Decides.{nat_tests}}
 use Rattle.std.proofs.lemmas.Str.Parse.{IsNumeralModel, numerals_by_fold, tells_all_ascii_digits, parse_plain}
 use Rattle.rustc_lexer.specs.declared.edition.Edition.{Edition}
-use Rattle.lexdump_run.specs.Job.{
-    edit, edit_job, AsksEdits, Replacement, number_after, number_of, place_of, replacements_of, first_replacement
-}
+use Rattle.lexdump_run.specs.Job.{edit, edit_job, AsksEdits, Replacement, number_after, number_of, place_of}
+use Rattle.lexdump_run.specs.Job.{replacements_of, first_replacement}
 
 numbers : IsNumeralModel (λ ds. all_ascii_digits ds ≡ true) number_of
 numbers = numerals_by_fold _ tells_all_ascii_digits number_after (search rules)
@@ -32,10 +29,10 @@ Pair = Replacement × List (List ℕ)
 -- what follows from the edit of the first three words
 by_first : (e : Replacement) (words after : List (List ℕ)) (o : Option Replacement) (r : Option (List Replacement))
     → (let p : Option Pair = Some (e, after) in
-        p ≡ option_map (λ (edit : Replacement). let q : Pair = (edit, words) in q) o)
+    p ≡ option_map (λ (edit : Replacement). let q : Pair = (edit, words) in q) o)
     → (after ≡ words)
-        × (option_map (λ (edits : Replacement × List Replacement). edits.0 ∷ edits.1) (option_zip o r) ≡
-        option_map (λ edits. e ∷ edits) r)
+    × (option_map (λ (edits : Replacement × List Replacement). edits.0 ∷ edits.1) (option_zip o r) ≡
+    option_map (λ edits. e ∷ edits) r)
 by_first e words after o r h = grind (arith, common_steps)
 
 -- where three words write an edit, it is the first of the edits

@@ -1,16 +1,13 @@
 -- The loops that list tokens.
-use Rattle.std.proofs.Common.{
-    ◌≡◌, ℕ, zero, suc, ◌+◌, ◌-◌, ◌<◌, ◌≤◌, ◌^◌, List, [], ◌∷◌, ◌++◌, length, take, drop, refl, ap, ◌∙◌, arith,
-    append_assoc, length-drop, length-take-le, subst
-}
+use Rattle.std.proofs.Common.{◌≡◌, ℕ, zero, suc, ◌+◌, ◌-◌, ◌<◌, ◌≤◌, ◌^◌, List, [], ◌∷◌, ◌++◌, length, take, drop, refl}
+use Rattle.std.proofs.Common.{ap, ◌∙◌, arith, append_assoc, length-drop, length-take-le, subst}
 use Rattle.std.proofs.{Math.Nat.{min-le_right}, lemmas.{Grind.{common_steps}, List.{nil_from_length}}}
 use Rattle.std.specs.Str.{IsUtf8}
 use Rattle.rustc_lexer.specs.{declared.token.Token.{Token}, Kept.{Placed, pieces_from}, LanguageText.{Mode}}
 use Rattle.rustc_lexer.specs.{State.{State}, Tokens.{bound, tokens_left, tokens_of}, means.Tokens.{IsFilled}}
 use Rattle.rustc_lexer.specs.laws.Tokens.{partitions, tokens-nil}
-use Rattle.rustc_lexer.proofs.lemmas.edits.{
-    Bounds.{bound_mono}, FrontAndBack.{bound-take}, ManyTokens.{IsFront, front_of}
-}
+use Rattle.rustc_lexer.proofs.lemmas.edits.{Bounds.{bound_mono}, FrontAndBack.{bound-take}}
+use Rattle.rustc_lexer.proofs.lemmas.edits.ManyTokens.{IsFront, front_of}
 use Rattle.lexdump_run.specs.Listing.{line_text, listing_from}
 
 -- the lines of some tokens, and then those of the others
@@ -45,11 +42,11 @@ module _ (text cut rest : List ℕ) (mode : Mode) (buffer filled : List Token) (
   pub buffer-split : (later : List Token) (after : List ℕ) → later ≡ drop count left
       → after ≡ drop (bound left count) rest
       → listing_from (length text - length rest) left ≡ listing_from (length text - length cut) (take count filled)
-          ++ listing_from (length text - length after) later
+      ++ listing_from (length text - length after) later
   buffer-split later after e f =
       let start : length text - length rest ≡ length text - length cut = omega (arith, ap length cut_is) in
       let next : length text - length cut + bound left count ≡ length text - length after =
-          omega (arith, ap length cut_is, ap length f, length-drop (bound left count) rest, inside, within) in
+      omega (arith, ap length cut_is, ap length f, length-drop (bound left count) rest, inside, within) in
       cc (listing-split (length text - length cut) left count, front.front)
 
 -- where no text is left, no token is

@@ -1,7 +1,6 @@
 -- How a run ends, by what was read and what was listed.
-use Rattle.std.proofs.Common.{
-    ◌≡◌, ℕ, ◌<◌, ◌^◌, List, [], ◌++◌, length, sym, arith, subst, ap, ◌∙◌, append-nil, Option, Result, Ok, Err
-}
+use Rattle.std.proofs.Common.{◌≡◌, ℕ, ◌<◌, ◌^◌, List, [], ◌++◌, length, sym, arith, subst, ap, ◌∙◌, append-nil, Option}
+use Rattle.std.proofs.Common.{Result, Ok, Err}
 use Rattle.std.proofs.lemmas.Grind.{common_steps}
 use Rattle.std.specs.{Prelude.{IfSome, OnErr, OnOk}, Str.{IsUtf8}, Io.KnownBytes.{Appends}}
 use Rattle.ends.specs.{Known.{AppendsFront}, Run.{IsInputFault}}
@@ -31,14 +30,18 @@ module _ {W : Type 0} (contents : W → Option (List ℕ)) (start end : BlockWri
     (made : List ℕ) where
   pushed_out : (result : Result (Unit {0}) Fault) → Pushes contents start end made result → OnOk result (held end ≡ [])
       → OnOk result (Appends (written contents start) (written contents end) made)
-          × OnErr result (AppendsFront (written contents start) (written contents end) made)
-  pushed_out (Ok done) p empty =
-      (subst (λ (xs : List ℕ). Appends (written contents start) (written contents end) xs)
-      (sym (ap (λ xs. xs ++ made) (sym none) ∙ p.ok.whole ∙ ap (λ xs. p.ok.front ++ xs) empty ∙ append-nil p.ok.front))
-      p.ok.grew, tt)
-  pushed_out (Err fault) p empty =
-      (tt, subst (λ (xs : List ℕ). AppendsFront (written contents start) (written contents end) (xs ++ made)) none
-      p.err)
+      × OnErr result (AppendsFront (written contents start) (written contents end) made)
+  pushed_out (Ok done) p empty = (
+    subst (λ (xs : List ℕ). Appends (written contents start) (written contents end) xs)
+        (sym (ap (λ xs. xs ++ made) (sym none) ∙ p.ok.whole ∙ ap (λ xs. p.ok.front ++ xs) empty ∙ append-nil p.ok.front))
+        p.ok.grew,
+    tt,
+  )
+  pushed_out (Err fault) p empty = (
+    tt,
+    subst (λ (xs : List ℕ). AppendsFront (written contents start) (written contents end) (xs ++ made)) none
+        p.err,
+  )
 
   -- all went out, or where a write failed a beginning
   pub finished : (mid : BlockWriter W) (old new : Option (List ℕ)) (result : Result (Unit {0}) Fault)

@@ -1,8 +1,6 @@
 -- The start and the length of a token, written from the last byte to the first.
-use Rattle.std.proofs.Common.{
-    ◌≡◌, ℕ, ◌+◌, ◌-◌, ◌<◌, ◌≤◌, ◌^◌, List, ◌∷◌, ◌++◌, length, take, drop, ap, ◌∙◌, arith, replicate, take_all,
-    length-drop
-}
+use Rattle.std.proofs.Common.{◌≡◌, ℕ, ◌+◌, ◌-◌, ◌<◌, ◌≤◌, ◌^◌, List, ◌∷◌, ◌++◌, length, take, drop, ap, ◌∙◌, arith}
+use Rattle.std.proofs.Common.{replicate, take_all, length-drop}
 use Rattle.std.proofs.lemmas.Grind.{common_steps}
 use Rattle.std.specs.Fmt.{decimal}
 use Rattle.std.proofs.{Math.Seq.{drop-cons}, lemmas.{Fmt.{length-decimal-le}, List.{get_or-take, get_or-replicate}}}
@@ -16,15 +14,21 @@ pub place-written : (start len at from : ℕ) (spaces one two : List ℕ) → sp
     → 1 ≤ at → at + length (decimal len) ≡ 21 → drop at one ≡ decimal len ++ drop 21 spaces
     → take at one ≡ take at spaces
     → length two ≡ 22 → drop from two ≡ decimal start ++ drop (at - 1) one → take (22 - from) (drop from two) ≡
-        place_text start len
+    place_text start len
 place-written start len at from spaces one two blank size after_space end len_at before size_two start_at =
     take_all (22 - from) (drop from two) (omega (arith, length-drop from two)) ∙ start_at
     ∙ ap (λ xs. decimal start ++ xs)
     (space ∙ ap (λ xs. 32 ∷ xs) (len_at ∙ ap (λ xs. decimal len ++ xs) (ap (drop 21) blank)))
   where
     space : drop (at - 1) one ≡ 32 ∷ drop at one
-    space = grind (arith, common_steps, drop-cons one (at - 1) 0, get_or-take at one (at - 1) 0,
-        get_or-take at spaces (at - 1) 0, get_or-replicate {A = ℕ} 22 (at - 1) 32 0)
+    space = grind (
+      arith,
+      common_steps,
+      drop-cons one (at - 1) 0,
+      get_or-take at one (at - 1) 0,
+      get_or-take at spaces (at - 1) 0,
+      get_or-replicate {A = ℕ} 22 (at - 1) 32 0,
+    )
 
 pub same-place : (a b c d : ℕ) → a ≡ b → c ≡ d → place_text a c ≡ place_text b d
 same-place a b c d e f = ap (λ (n : ℕ). place_text n c) e ∙ ap (place_text b) f

@@ -1,7 +1,6 @@
 -- Bytes that are pushed, one after another.
-use Rattle.std.proofs.Common.{
-    ◌≡◌, ℕ, List, [], ◌++◌, refl, sym, ap, ◌∙◌, append_assoc, append-nil, subst, Option, Result, Ok, Err, arith
-}
+use Rattle.std.proofs.Common.{◌≡◌, ℕ, List, [], ◌++◌, refl, sym, ap, ◌∙◌, append_assoc, append-nil, subst, Option}
+use Rattle.std.proofs.Common.{Result, Ok, Err, arith}
 use Rattle.std.proofs.lemmas.Grind.{common_steps}
 use Rattle.std.specs.{Prelude.{OnOk}, Result.{IsErrAnd}, Io.KnownBytes.{Appends}}
 use Rattle.ends.proofs.KnownLemmas.{appends-none, appends-more, front_first, front_more}
@@ -70,8 +69,13 @@ module _ {W : Type 0} (contents : W → Option (List ℕ)) where
   -- no bytes are pushed
   pushes_none : (old : BlockWriter W) → Pushes contents old old [] (Ok tt)
   pushes_none old =
-      record { same_output = refl; failed = grind (arith, common_steps); only = tt;
-      ok = record { front = []; whole = append-nil (held old); grew = appends-none _ }; err = tt }
+      record {
+        same_output = refl;
+        failed = grind (arith, common_steps);
+        only = tt;
+        ok = record { front = []; whole = append-nil (held old); grew = appends-none _ };
+        err = tt;
+      }
 
   -- nothing was pushed yet
   pub pushing_none : (start : BlockWriter W) (all rest : List ℕ) → rest ≡ all → Pushing contents start start all rest
@@ -85,8 +89,11 @@ module _ {W : Type 0} (contents : W → Option (List ℕ)) where
     -- the first of what is to come is pushed
     pub pushing_first : Pushes contents mid new first (Ok tt) → Pushing contents start new all rest
     pushing_first p =
-        record { done = at.done ++ first; whole = parted;
-        pushed = pushes_both start mid new at.done first _ _ refl at.pushed p }
+        record {
+          done = at.done ++ first;
+          whole = parted;
+          pushed = pushes_both start mid new at.done first _ _ refl at.pushed p;
+        }
 
     -- or pushing it fails
     pub pushing_stopped : (fault : Fault) (result : Result (Unit {0}) Fault) → Pushes contents mid new first (Err fault)

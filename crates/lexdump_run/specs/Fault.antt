@@ -2,9 +2,8 @@
 use Rattle.ends.specs.declared.fault.Fault.{Fault}
 use Rattle.ends.specs.declared.fault.Fault.TheVariants.{EditRange, EditTooLong, Memory}
 use Rattle.rustc_lexer.specs.declared.relex.edit_list.EditStop.{EditStop}
-use Rattle.rustc_lexer.specs.declared.relex.edit_list.EditStop.TheVariants.{
-    Range as RangeStop, TooLong as TooLongStop, Memory as MemoryStop
-}
+use Rattle.rustc_lexer.specs.declared.relex.edit_list.EditStop.TheVariants.{Range as RangeStop, TooLong as TooLongStop}
+use Rattle.rustc_lexer.specs.declared.relex.edit_list.EditStop.TheVariants.{Memory as MemoryStop}
 
 -- the fault of a list of edits that stopped
 abbrev pub stop_fault : EditStop → Fault

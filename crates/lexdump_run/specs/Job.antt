@@ -1,7 +1,6 @@
 -- The words that a job is asked for by.
-use Rattle.std.specs.Prelude.{
-    ℕ, ◌≡◌, ◌+◌, ◌*◌, ◌-◌, ◌&&◌, nat_le, if◌then◌else◌, List, [], ◌∷◌, length, map, codes, Option, Some, None
-}
+use Rattle.std.specs.Prelude.{ℕ, ◌≡◌, ◌+◌, ◌*◌, ◌-◌, ◌&&◌, nat_le, if◌then◌else◌, List, [], ◌∷◌, length, map, codes}
+use Rattle.std.specs.Prelude.{Option, Some, None}
 use Rattle.std.specs.Option.{option_map, option_zip}
 use Rattle.std.specs.Str.{all_ascii_digits, bytes_eq}
 use Rattle.rustc_lexer.specs.declared.edition.Edition.{Edition}

@@ -6,14 +6,12 @@ use Rattle.rustc_lexer.specs.declared.token.Base.TheVariants.{Binary, Octal, Dec
 use Rattle.rustc_lexer.specs.declared.token.DocStyle.{DocStyle}
 use Rattle.rustc_lexer.specs.declared.token.DocStyle.TheVariants.{Outer, Inner}
 use Rattle.rustc_lexer.specs.declared.token.LiteralKind.{LiteralKind}
-use Rattle.rustc_lexer.specs.declared.token.LiteralKind.TheVariants.{
-    Int, Float, Char, Byte, Str, ByteStr, CStr, RawStr, RawByteStr, RawCStr
-}
+use Rattle.rustc_lexer.specs.declared.token.LiteralKind.TheVariants.{Int, Float, Char, Byte, Str, ByteStr, CStr, RawStr}
+use Rattle.rustc_lexer.specs.declared.token.LiteralKind.TheVariants.{RawByteStr, RawCStr}
 use Rattle.rustc_lexer.specs.declared.token.Token.{Token}
 use Rattle.rustc_lexer.specs.declared.token.TokenKind.{TokenKind}
-use Rattle.rustc_lexer.specs.declared.token.TokenKind.TheVariants.{
-    LineComment, BlockComment, Frontmatter, Literal, Lifetime
-}
+use Rattle.rustc_lexer.specs.declared.token.TokenKind.TheVariants.{LineComment, BlockComment, Frontmatter, Literal}
+use Rattle.rustc_lexer.specs.declared.token.TokenKind.TheVariants.{Lifetime}
 use Rattle.rustc_lexer.specs.Kinds.{kind_entry, literal_entry}
 
 abbrev pub bool_text : Bool → List ℕ

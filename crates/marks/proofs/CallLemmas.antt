@@ -1,7 +1,6 @@
 -- Writes one after another, as the calls that they make.
-use Rattle.std.proofs.{
-    Common.{List, [], ◌∷◌, ◌++◌, ℕ, refl, sym, subst, append-nil, arith}, lemmas.List.Folds.{concat-append}
-}
+use Rattle.std.proofs.Common.{List, [], ◌∷◌, ◌++◌, ℕ, refl, sym, subst, append-nil, arith}
+use Rattle.std.proofs.lemmas.List.Folds.{concat-append}
 use Rattle.std.specs.{Fmt.{WritesInCalls}, List.{FoldsTo}, Result.{IsOk}, Prelude.{OnOk, Result}}
 use Rattle.std.proofs.lemmas.Grind.{common_steps}
 

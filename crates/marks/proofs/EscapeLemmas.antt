@@ -1,8 +1,6 @@
 -- A text with entities: that they are undone, that it holds no tag, and how it is written.
-use Rattle.std.proofs.Common.{
-    ◌≡◌, ℕ, zero, suc, ◌+◌, ◌<◌, ◌≤◌, true, false, List, [], ◌∷◌, ◌++◌, length, take, drop, drop-cons, get_or, refl,
-    sym, ap, subst, ◌∙◌, arith, append_assoc, Some, None
-}
+use Rattle.std.proofs.Common.{◌≡◌, ℕ, zero, suc, ◌+◌, ◌<◌, ◌≤◌, true, false, List, [], ◌∷◌, ◌++◌, length, take, drop}
+use Rattle.std.proofs.Common.{drop-cons, get_or, refl, sym, ap, subst, ◌∙◌, arith, append_assoc, Some, None}
 use Rattle.std.specs.Str.{IsUtf8}
 use Rattle.std.proofs.lemmas.Str.{lead_after_ascii}
 use Rattle.std.specs.Fmt.{WritesInCalls}
@@ -53,17 +51,17 @@ module _ {W : Type 0} (took : W → List ℕ → W → Type 0) where
   pub writes_special : (w0 w1 w2 w : W) (bs front name rest : List ℕ) (n : ℕ) → IsFirstByte is_special bs (Some n)
       → front ≡ take n bs → name ≡ entity (get_or bs n 0) → rest ≡ drop (n + 1) bs
       → took w0 front w1 → took w1 name w2 → WritesInCalls took w2 (escaped rest) w
-          → WritesInCalls took w0 (escaped bs) w
+      → WritesInCalls took w0 (escaped bs) w
   writes_special w0 w1 w2 w bs front name rest n found own is past a b more =
       let high = found.0.high in
       let one_more : n + 1 ≡ suc n = omega arith in
       let cut : drop n bs ≡ get_or bs n 0 ∷ rest =
-          drop-cons bs n 0 high ∙ ap (λ xs. get_or bs n 0 ∷ xs) (sym (past ∙ ap (λ (k : ℕ). drop k bs) one_more)) in
+      drop-cons bs n 0 high ∙ ap (λ xs. get_or bs n 0 ∷ xs) (sym (past ∙ ap (λ (k : ℕ). drop k bs) one_more)) in
       let plain = front_plain bs n (omega arith) (λ k less set. found.0.before k (omega arith) less set) in
       let whole : escaped bs ≡ front ++ (name ++ escaped rest) = plain ∙ rw (own, cut, found.1, is) refl in
       subst (λ (xs : List ℕ). WritesInCalls took w0 xs w) (sym whole)
       (writes_both took w0 w1 w _ _ (one_call took w0 w1 front a)
-          (writes_both took w1 w2 w _ _ (one_call took w1 w2 name b) more))
+      (writes_both took w1 w2 w _ _ (one_call took w1 w2 name b) more))
 
   -- a text with no special byte is written as it is
   pub writes_plain : (w v : W) (bs : List ℕ) → IsFirstByte is_special bs None → took w bs v
@@ -71,6 +69,6 @@ module _ {W : Type 0} (took : W → List ℕ → W → Type 0) where
   writes_plain w v bs none call =
       let plain = front_plain bs (length bs) (omega arith) (λ k less set. none k (omega arith) less set) in
       let same : escaped bs ≡ bs =
-          plain ∙ rw (take_all (length bs) bs (omega arith), drop_all (length bs) bs (omega arith), append-nil bs)
-          refl in
+      plain ∙ rw (take_all (length bs) bs (omega arith), drop_all (length bs) bs (omega arith), append-nil bs)
+      refl in
       rw same (one_call took w v bs call)

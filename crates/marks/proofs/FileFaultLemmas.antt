@@ -1,8 +1,6 @@
 -- The errors of a literal in a file.
-use Rattle.std.proofs.Common.{
-    ◌≡◌, ℕ, zero, suc, ◌==◌, Bool, true, false, true≢false, List, [], ◌∷◌, ◌++◌, append-nil, length, map, refl, sym, ap,
-    ◌∙◌, arith, Option, Some, None
-}
+use Rattle.std.proofs.Common.{◌≡◌, ℕ, zero, suc, ◌==◌, Bool, true, false, true≢false, List, [], ◌∷◌, ◌++◌, append-nil}
+use Rattle.std.proofs.Common.{length, map, refl, sym, ap, ◌∙◌, arith, Option, Some, None}
 use Rattle.std.specs.{List.{position_or_len}, Option.{option_map, option_to_list}, Str.{chars, IsUtf8}}
 use Rattle.std.specs.declared.ops.Range.{Range}
 use Rattle.std.proofs.lemmas.{Bool.Decides.{nat_tests}, Str.{chars-nil}, Grind.{common_steps}}
@@ -10,9 +8,8 @@ use Rattle.rustc_literal_escaper.proofs.AnswerLemmas.{errors_of-read}
 use Rattle.rustc_literal_escaper.specs.{Answers.{errors_of, items_of}, Grammar.{Error, Item}}
 use Rattle.rustc_literal_escaper.specs.{Meaning.{error_of, errors_in, is_raw, is_single, put}, laws.Elements.{nothing}}
 use Rattle.rustc_literal_escaper.specs.means.Elements as reading
-use Rattle.rustc_literal_escaper.specs.means.{
-    Elements.{front_by, items_from}, Single.{alone_error, read_errors, single, single_error}
-}
+use Rattle.rustc_literal_escaper.specs.means.Elements.{front_by, items_from}
+use Rattle.rustc_literal_escaper.specs.means.Single.{alone_error, read_errors, single, single_error}
 use Rattle.rustc_literal_escaper.specs.declared.{error.EscapeError.{EscapeError}, mode.Mode.{Mode}}
 use Rattle.rustc_literal_escaper.specs.declared.mode.Mode.TheVariants.{Str}
 use Rattle.marks.specs.{LineEnds.{file_errors, file_items, moved, place, unix}, Literal.{first_offset}}
@@ -78,7 +75,7 @@ single_errors mode text is single =
 
 alone-moved : (text : List ℕ) (wrong : Option EscapeError) (left : List ℕ)
     → alone_error (offset_of text) wrong left ≡
-        option_map (move text) (alone_error (reading.place (length (unix text))) wrong left)
+    option_map (move text) (alone_error (reading.place (length (unix text))) wrong left)
 alone-moved text wrong left = grind (arith, common_steps)
 
 pub single_moved : (text : List ℕ) (mode : Mode) (left : List ℕ) → single_error (offset_of text) mode left ≡

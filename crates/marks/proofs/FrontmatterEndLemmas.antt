@@ -1,50 +1,41 @@
 -- The error at the end of a frontmatter is the one that its lines say.
-use Rattle.std.proofs.Common.{
-    ◌≡◌, ℕ, zero, suc, ◌+◌, ◌-◌, ◌<◌, ◌≤◌, ◌==◌, nat_eq, nat_lt, not, ◌&&◌, ◌||◌, Bool, true, false, true≢false,
-    if◌then◌else◌, List, [], ◌∷◌, ◌++◌, codes, length, take, drop, get_or, refl, sym, ap, ◌∙◌, subst, arith,
-    append_assoc, append-nil, drop-drop, length-append, take-append-drop, Option, Some, None, inl, inr
-}
+use Rattle.std.proofs.Common.{◌≡◌, ℕ, zero, suc, ◌+◌, ◌-◌, ◌<◌, ◌≤◌, ◌==◌, nat_eq, nat_lt, not, ◌&&◌, ◌||◌, Bool, true}
+use Rattle.std.proofs.Common.{false, true≢false, if◌then◌else◌, List, [], ◌∷◌, ◌++◌, codes, length, take, drop, get_or}
+use Rattle.std.proofs.Common.{refl, sym, ap, ◌∙◌, subst, arith, append_assoc, append-nil, drop-drop, length-append}
+use Rattle.std.proofs.Common.{take-append-drop, Option, Some, None, inl, inr}
 use Rattle.std.specs.{Char.{encode_utf8}, List.{after_last, list_all, list_any, prefix_len}, Option.{option_or}}
 use Rattle.std.specs.Str.{chars, encode_utf8_all, IsUtf8}
 use Rattle.std.proofs.Math.Seq.{drop-append_seam, get_or-append_seam}
-use Rattle.std.proofs.lemmas.Bool.{
-    and_from, and_parts, cases_eq, eq-eqb, eqb-true, false_from_ne_true, ltb-false, ltb-true, ne_eqb, or_parts
-}
+use Rattle.std.proofs.lemmas.Bool.{and_from, and_parts, cases_eq, eq-eqb, eqb-true, false_from_ne_true, ltb-false}
+use Rattle.std.proofs.lemmas.Bool.{ltb-true, ne_eqb, or_parts}
 use Rattle.std.proofs.lemmas.List.{nil_from_length, Elements.{All-from_get_or}}
 use Rattle.std.proofs.lemmas.List.Folds.{list_all-append, list_any-append, list_any_at, list_any_none}
 use Rattle.std.proofs.lemmas.List.Sums.{prefix_len_is}
-use Rattle.std.proofs.lemmas.Str.{
-    char_from_byte, encode_ascii, encodes-append, encodes-chars, inside_one, length-encode, length-le-encodes,
-    len_utf8_bounds
-}
+use Rattle.std.proofs.lemmas.Str.{char_from_byte, encode_ascii, encodes-append, encodes-chars, inside_one}
+use Rattle.std.proofs.lemmas.Str.{length-encode, length-le-encodes, len_utf8_bounds}
 use Rattle.std.proofs.lemmas.{Bool.Decides.{nat_tests}, Grind.{common_steps}}
 use Rattle.memchr.specs.Find.{IsLastByte, is_byte}
-use Rattle.rustc_lexer.specs.Classes.{
-    AreAll, Chars, NextIsNot, NextNotIn, begins, is_among, is_horizontal_whitespace, is_id_start, is_info, is_inline,
-    is_whitespace, next_is
-}
+use Rattle.rustc_lexer.specs.Classes.{AreAll, Chars, NextIsNot, NextNotIn, begins, is_among, is_horizontal_whitespace}
+use Rattle.rustc_lexer.specs.Classes.{is_id_start, is_info, is_inline, is_whitespace, next_is}
 use Rattle.rustc_lexer.specs.FrontmatterGrammar as the
 use Rattle.rustc_lexer.specs.FrontmatterGrammar.{IsBodyBefore, IsLabelBefore, IsOpeningBefore, endings, fence}
 use Rattle.rustc_lexer.specs.declared.token.TokenKind.{TokenKind, TheVariants.{Frontmatter}}
 use Rattle.rustc_lexer.specs.laws.{Choice.{by_either, by_test}, Fences.{begins-dashes, begins-enough}}
 use Rattle.rustc_lexer.specs.means.{Frontmatter.{blanks_len, is_dash}, Scan.{run_len}}
 use Rattle.rustc_lexer.specs.laws.LanguageFrontmatter.{fence-length, run-fence}
-use Rattle.rustc_lexer.specs.laws.LanguageRuns.{
-    among, other_than, run-stops, run_len-here, start-word_start, word_start-no_space
-}
+use Rattle.rustc_lexer.specs.laws.LanguageRuns.{among, other_than, run-stops, run_len-here, start-word_start}
+use Rattle.rustc_lexer.specs.laws.LanguageRuns.{word_start-no_space}
 use Rattle.rustc_lexer.specs.laws.Reach.{run_all}
 use Rattle.rustc_lexer.proofs.lemmas.tokens.ClassParts.{continue_part}
 use Rattle.marks.specs.declared.fault.Fault.{Fault}
-use Rattle.marks.specs.declared.fault.Fault.TheVariants.{
-    WhitespaceBeforeFrontmatter, UnclosedFrontmatter, WhitespaceBeforeFrontmatterClose, FrontmatterCloseMismatch,
-    ExtraAfterFrontmatterClose
-}
+use Rattle.marks.specs.declared.fault.Fault.TheVariants.{WhitespaceBeforeFrontmatter, UnclosedFrontmatter}
+use Rattle.marks.specs.declared.fault.Fault.TheVariants.{WhitespaceBeforeFrontmatterClose, FrontmatterCloseMismatch}
+use Rattle.marks.specs.declared.fault.Fault.TheVariants.{ExtraAfterFrontmatterClose}
 use Rattle.rustc_literal_escaper.specs.Grammar.{is_newline}
 use Rattle.marks.specs.Frontmatter.{blanks, closing_fault, dashes, end_fault, is_end, is_of, past_infostring, past_run}
 use Rattle.marks.specs.{Fault.{fault_of, front_fault, kind_fault}, TextFault.{frontmatter_fault}}
-use Rattle.marks.specs.FrontmatterEnd.{
-    EndsAfter, IsEndFault, IsOpen, NoLineBegins, TellsFrontmatter, closed, indented, more_words, other_dashes, unclosed
-}
+use Rattle.marks.specs.FrontmatterEnd.{EndsAfter, IsEndFault, IsOpen, NoLineBegins, TellsFrontmatter, closed, indented}
+use Rattle.marks.specs.FrontmatterEnd.{more_words, other_dashes, unclosed}
 use Rattle.marks.proofs.FrontmatterLemmas.{last-line, skip_ends, skip_on}
 
 -- ---- runs
@@ -76,7 +67,7 @@ module _ (ds : List ℕ) (ascii : list_all (λ d. nat_lt d 128) ds ≡ true) whe
   run-encode [] [] all stop = refl
   run-encode [] (c ∷ s) all stop =
       prefix_len_is (is_of ds) (encode_utf8_all (c ∷ s)) 0 0 (omega arith) (λ k less. absurd (omega arith))
-          (λ some. false_from_ne_true _ (λ t.
+      (λ some. false_from_ne_true _ (λ t.
       let first : is_among ds (get_or (encode_utf8_all (c ∷ s)) 0 0) ≡ true = sym (is_of-is ds _) ∙ t in
       let same = char_from_byte (encode_utf8_all (c ∷ s)) (encode_utf8_all s) c refl (small _ first) some in
       true≢false (sym first ∙ (ap (is_among ds) (sym same) ∙ stop))))
@@ -130,8 +121,8 @@ flush n d [] v some blank stop e =
 flush zero d (c ∷ bs) v some blank stop e = absurd (omega arith)
 flush (suc n) d (c ∷ bs) v some blank stop e =
     absurd (true≢false
-        (sym (and_parts (c == 45) _ e).0 ∙ other_than is_horizontal_whitespace 45 c refl
-        (and_parts (is_horizontal_whitespace c) _ blank).0))
+    (sym (and_parts (c == 45) _ e).0 ∙ other_than is_horizontal_whitespace 45 c refl
+    (and_parts (is_horizontal_whitespace c) _ blank).0))
 
 -- ---- lines
 
@@ -150,7 +141,7 @@ label-inline (the.named u c v w before start info info_stops after stop) =
     false_from_ne_true (is_id_start 10) (λ f. true≢false (word_start-no_space 10 (start-word_start 10 f))) in
     let info_none : is_info 10 ≡ false = ap (λ (b : Bool). b || false) (sym (continue_part.same 10 (omega arith))) in
     let name : AreAll is_inline (c ∷ v) =
-        rw (other_than is_id_start 10 c start_none start) (all-inline is_info info_none v info) in
+    rw (other_than is_id_start 10 c start_none start) (all-inline is_info info_none v info) in
     inline-append u (c ∷ v ++ w) (all-inline is_horizontal_whitespace refl u before)
     (inline-append (c ∷ v) w name (all-inline is_horizontal_whitespace refl w after))
 
@@ -174,7 +165,7 @@ one-encode [] all = refl
 one-encode (c ∷ s) all =
     let parts = and_parts (is_inline c) (list_all is_inline s) all in
     let first = list_any_none is_newline (encode_utf8 c)
-        (All-from_get_or (λ x. is_newline x ≡ false) (encode_utf8 c) 0 (λ k less.
+    (All-from_get_or (λ x. is_newline x ≡ false) (encode_utf8 c) 0 (λ k less.
     let out = parts.0 in
     let same = inside_one c [] (encode_utf8 c) k (sym (append-nil (encode_utf8 c))) less in
     grind (arith, nat_tests))) in
@@ -188,15 +179,19 @@ last_byte u line none =
     let after = λ (k : ℕ) (low : length u + 1 ≤ k) (less : k < length xs).
     let at = list_any_at is_newline line (k - (length u + 1)) 0 in
     let result : is_newline (get_or xs k 0) ≡ false = grind (arith, common_steps, nat_tests) in result in (
-      record { low = omega arith; high = omega arith; after = λ k low less here. true≢false
-          (sym here ∙ after k low less) },
+      record {
+        low = omega arith;
+        high = omega arith;
+        after = λ k low less here. true≢false
+            (sym here ∙ after k low less);
+      },
       ap is_newline (get_or-append_seam u 10 line 0),
     )
 
 -- what stands past the last newline, in bytes
 last-encode : (u line : Chars) → AreAll is_inline line
     → (list_any is_newline (encode_utf8_all (u ++ 10 ∷ line)) ≡ true)
-        × (after_last is_newline (encode_utf8_all (u ++ 10 ∷ line)) ≡ encode_utf8_all line)
+    × (after_last is_newline (encode_utf8_all (u ++ 10 ∷ line)) ≡ encode_utf8_all line)
 unfolding encode_utf8
 last-encode u line all =
     let front : List ℕ = encode_utf8_all u in
@@ -235,8 +230,11 @@ last_dashes-is : (u bs v : Chars) → AreAll is_horizontal_whitespace bs → Nex
     → AreAll is_inline (bs ++ v)
     → last_dashes (u ++ 10 ∷ (bs ++ v)) ≡ dashes (encode_utf8_all v)
 last_dashes-is u bs v blank stop inline =
-    rw ((last-encode u (bs ++ v) inline).1, run-encode (codes "\t ") refl bs v blank stop,
-        drop-encode (codes "\t ") refl bs v blank) refl
+    rw (
+      (last-encode u (bs ++ v) inline).1,
+      run-encode (codes "\t ") refl bs v blank stop,
+      drop-encode (codes "\t ") refl bs v blank,
+    ) refl
 
 -- three dashes end it
 ends_after : (d : ℕ) (u bs v : Chars) → 3 ≤ d → AreAll is_horizontal_whitespace bs → AreAll is_inline (fence d ++ v)
@@ -248,7 +246,7 @@ ends_after d u bs v many blank plain = absurd (omega arith)
 closes : (n : ℕ) (next u cs end : Chars) → NextNotIn (codes "-") (cs ++ end) → AreAll is_horizontal_whitespace cs
     → NextIsNot is_horizontal_whitespace end → AreAll is_inline end
     → IsEndFault n next (u ++ 10 ∷ (fence n ++ (cs ++ end)))
-        (if is_end end then None else Some ExtraAfterFrontmatterClose)
+    (if is_end end then None else Some ExtraAfterFrontmatterClose)
 unfolding is_end
 closes n next u cs [] stop blank end_stop plain = closed u cs [] blank refl
 closes n next u cs (c ∷ w) stop blank end_stop plain =
@@ -271,10 +269,10 @@ record Told (n : ℕ) (next body : Chars) : Type 0 where
 module _ (n d : ℕ) (next u bs cs end : Chars) (many : 3 ≤ n) (blank : AreAll is_horizontal_whitespace bs)
     (first_stop : NextIsNot is_horizontal_whitespace (fence d ++ (cs ++ end)))
     (stop : NextNotIn (codes "-") (cs ++ end)) (end_blank : AreAll is_horizontal_whitespace cs)
-        (end_stop : NextIsNot is_horizontal_whitespace end)
+    (end_stop : NextIsNot is_horizontal_whitespace end)
     (inline : AreAll is_inline (bs ++ (fence d ++ (cs ++ end))))
     (lone : NoneUnless 3 next u (bs ++ (fence d ++ (cs ++ end))))
-        (first : NoneUnless n next u (bs ++ (fence d ++ (cs ++ end)))) where
+    (first : NoneUnless n next u (bs ++ (fence d ++ (cs ++ end)))) where
   abbrev line : Chars
   line = bs ++ (fence d ++ (cs ++ end))
 
@@ -286,17 +284,23 @@ module _ (n d : ℕ) (next u bs cs end : Chars) (many : 3 ≤ n) (blank : AreAll
 
   closing-read : closing_fault n (encode_utf8_all line) ≡ verdict n bs d end
   closing-read =
-      rw (run-encode (codes "\t ") refl bs (fence d ++ (cs ++ end)) blank first_stop, drop-encode (codes "\t ") refl bs
-          (fence d ++ (cs ++ end)) blank)
+      rw (
+        run-encode (codes "\t ") refl bs (fence d ++ (cs ++ end)) blank first_stop,
+        drop-encode (codes "\t ") refl bs
+            (fence d ++ (cs ++ end)) blank,
+      )
       (rw (dashes-encode d (cs ++ end) stop, drop-dashes d (cs ++ end))
-      (rw (run-encode (codes "\t ") refl cs end end_blank end_stop, drop-encode (codes "\t ") refl cs end end_blank,
-          end-encode end) refl))
+      (rw (
+        run-encode (codes "\t ") refl cs end end_blank end_stop,
+        drop-encode (codes "\t ") refl cs end end_blank,
+        end-encode end,
+      ) refl))
 
   no-dashes : d < 3 → (ws : Chars) → EndsAfter ws body → ⊥
   unfolding encode_utf8
   no-dashes few ws ends =
       let here = last_dashes-is u bs (fence d ++ (cs ++ end)) blank first_stop inline
-          ∙ dashes-encode d (cs ++ end) stop in
+      ∙ dashes-encode d (cs ++ end) stop in
       let clean = inline-append ws (fence 3 ++ ends.1) (all-inline is_horizontal_whitespace refl ws ends.3) ends.4 in
       let there = last_dashes-is ends.0 ws (fence 3 ++ ends.1) ends.3 refl clean in
       let same = ap last_dashes ends.2 in
@@ -308,7 +312,7 @@ module _ (n d : ℕ) (next u bs cs end : Chars) (many : 3 ≤ n) (blank : AreAll
   -- no blanks come first
   at-once : bs ≡ [] → 3 ≤ d → IsEndFault n next body
       (if not (nat_eq d n) then Some (FrontmatterCloseMismatch n d) else if is_end end then None else Some
-          ExtraAfterFrontmatterClose)
+      ExtraAfterFrontmatterClose)
   at-once none enough =
       let left = all-past is_inline (fence d) (cs ++ end) plain in
       rw none (elim (cases_eq d n) [
@@ -338,7 +342,7 @@ module _ (n d : ℕ) (next u bs cs end : Chars) (many : 3 ≤ n) (blank : AreAll
         let whole : front ++ body ≡ text = sym (append_assoc front u (10 ∷ line)) in
         let past = last-encode (front ++ u) line inline in
         let opens : dashes (encode_utf8_all text) ≡ n = ap (λ (s : Chars). dashes (encode_utf8_all s)) (sym whole)
-            ∙ run in
+        ∙ run in
         ap (λ (s : Chars). end_fault (encode_utf8_all s)) whole ∙ rw (past.0, past.1, opens) closing-read;
   }
 
@@ -353,12 +357,12 @@ told-line n next u line many =
     let cut : take (blanks_len tail) tail ++ left ≡ tail = take-append-drop (blanks_len tail) tail in
     let whole : fence d ++ (take (blanks_len tail) tail ++ left) ≡ rest =
     ap (λ (w : Chars). fence d ++ w) cut
-        ∙ (ap (λ (w : Chars). w ++ tail) (sym (run-fence rest)) ∙ take-append-drop d rest) in
+    ∙ (ap (λ (w : Chars). w ++ tail) (sym (run-fence rest)) ∙ take-append-drop d rest) in
     subst (λ (l : Chars). AreAll is_inline l → NoneUnless 3 next u l → NoneUnless n next u l
-        → Told n next (u ++ 10 ∷ l))
+    → Told n next (u ++ 10 ∷ l))
     (ap (λ (w : Chars). take (blanks_len line) line ++ w) whole ∙ take-append-drop (blanks_len line) line)
     (told-last n d next u (take (blanks_len line) line) (take (blanks_len tail) tail) left many
-        (run_all is_horizontal_whitespace line)
+    (run_all is_horizontal_whitespace line)
     (ap (next_is is_horizontal_whitespace) whole ∙ run-stops is_horizontal_whitespace line)
     (no_dash (take (blanks_len tail) tail ++ left) (ap (next_is is_dash) cut ∙ run-stops is_dash rest))
     (run_all is_horizontal_whitespace tail) (run-stops is_horizontal_whitespace tail))
@@ -370,9 +374,12 @@ told-lone n next many (last u line all) lone none = told-line n next u line many
 told-lone n next {body} many (only all) lone none = record {
   end = Some UnclosedFrontmatter;
   is =
-      unclosed (lone, λ ws ends. true≢false
-      (sym (all-past is_inline ends.0 (10 ∷ (ws ++ (fence 3 ++ ends.1)))
-      (ap (list_all is_inline) (sym ends.2) ∙ all))));
+      unclosed (
+        lone,
+        λ ws ends. true≢false
+            (sym (all-past is_inline ends.0 (10 ∷ (ws ++ (fence 3 ++ ends.1)))
+            (ap (list_all is_inline) (sym ends.2) ∙ all))),
+      );
   free = λ free. refl;
   same = λ front run clean. rw (one-encode (front ++ body) (inline-append front body clean all)) refl;
 }
@@ -382,10 +389,10 @@ told-body n {next} many (the.with_line pattern u line is all stop) =
     let here : begins (fence n) line ≡ true = begins-line n line next stop is.here in
     let three : begins (fence 3) line ≡ true = begins-enough 3 line (omega (arith, many, begins-dashes n line here)) in
     told-line n next u line many all (λ e. absurd (true≢false (sym three ∙ e)))
-        (λ e. absurd (true≢false (sym here ∙ e)))
+    (λ e. absurd (true≢false (sym here ∙ e)))
 told-body n {next} many (the.other pattern none (the.with_line three u line is all stop)) =
     told-line n next u line many all (λ e. absurd (true≢false (sym (begins-line 3 line next stop is.here) ∙ e)))
-        (λ _. none)
+    (λ _. none)
 told-body n {next} {body} many (the.other pattern none (the.other three lone left)) =
     told-lone n next many (has_last body) lone none
 
@@ -396,15 +403,19 @@ label-past : (body next : Chars) {label : Chars} → IsLabelBefore (body ++ next
 label-past body next (the.blank {w} all stop start) =
     let ends = front-stops is_horizontal_whitespace body next stop in
     rw (past-here is_horizontal_whitespace w body all ends, front-stops is_id_start body next start)
-        (past-here is_horizontal_whitespace [] body refl ends)
+    (past-here is_horizontal_whitespace [] body refl ends)
 label-past body next (the.named u c v w before start info info_stops after stop) =
     let whole : (u ++ (c ∷ v ++ w)) ++ body ≡ u ++ (c ∷ (v ++ (w ++ body))) = simp append_assoc in
     let info_ends = front-stops is_info (w ++ body) next (ap (next_is is_info) (append_assoc w body next)
-        ∙ info_stops) in
+    ∙ info_stops) in
     let no_blank : is_horizontal_whitespace c ≡ false =
-        grind (arith, common_steps, word_start-no_space c (start-word_start c start)) in
-    rw (whole, past-here is_horizontal_whitespace u (c ∷ (v ++ (w ++ body))) before no_blank, start,
-        past-here is_info v (w ++ body) info info_ends)
+    grind (arith, common_steps, word_start-no_space c (start-word_start c start)) in
+    rw (
+      whole,
+      past-here is_horizontal_whitespace u (c ∷ (v ++ (w ++ body))) before no_blank,
+      start,
+      past-here is_info v (w ++ body) info info_ends,
+    )
     (past-here is_horizontal_whitespace w body after (front-stops is_horizontal_whitespace body next stop))
 
 -- ---- what is told
@@ -415,7 +426,7 @@ opening-told : {n : ℕ} {bad_label : Bool} {opening body next : Chars} (text : 
     → chars text ≡ opening ++ body → encode_utf8_all (opening ++ body) ≡ text
     → kind_fault (Frontmatter (next_is is_whitespace opening) bad_label) text
     ≡ (if next_is is_whitespace opening then Some WhitespaceBeforeFrontmatter else front_fault
-        (bad_label && not (begins (codes "\r\n") body)) told.end)
+    (bad_label && not (begins (codes "\r\n") body)) told.end)
 opening-told text (the.opening n (c ∷ space) label spaces no_line many is stop) told reads whole =
     rw (and_parts (is_whitespace c) (list_all is_whitespace space) spaces).0 refl
 opening-told text (the.opening zero [] label spaces no_line many is stop) told reads whole = absurd (omega arith)
@@ -424,15 +435,15 @@ opening-told {body = body} {next = next} text (the.opening (suc n) [] label spac
     let front : Chars = fence (suc n) ++ label in
     let split : front ++ body ≡ fence (suc n) ++ (label ++ body) = append_assoc (fence (suc n)) label body in
     let stops = front-stops (is_among (codes "-")) (label ++ body) next
-        (ap (next_is (is_among (codes "-"))) (append_assoc label body next) ∙ stop) in
+    (ap (next_is (is_among (codes "-"))) (append_assoc label body next) ∙ stop) in
     let run = ap (λ (s : Chars). dashes (encode_utf8_all s)) split ∙ dashes-encode (suc n) (label ++ body) stops in
     let name : past_run is_dash (chars text) ≡ label ++ body =
     ap (past_run is_dash) (reads ∙ split)
     ∙ past-here is_dash (fence (suc n)) (label ++ body) (fence-all is_dash refl (suc n))
-        (not_dash (label ++ body) stops) in
+    (not_dash (label ++ body) stops) in
     let ends = ap end_fault (sym whole)
-        ∙ told.same front run
-        (inline-append (fence (suc n)) label (fence-all is_inline refl (suc n)) (label-inline is)) in
+    ∙ told.same front run
+    (inline-append (fence (suc n)) label (fence-all is_inline refl (suc n)) (label-inline is)) in
     rw (ends, name, label-past body next is) refl
 
 pub tells : (kind : TokenKind) (text : List ℕ) → IsUtf8 text → TellsFrontmatter kind text (fault_of kind text)
@@ -444,7 +455,7 @@ tells kind text utf8 n bad_label opening body next opens is_body whole kind_is =
       is = told.is;
       told = ap (λ (k : TokenKind). fault_of k text) kind_is
           ∙ ap (λ (fault : Option Fault). option_or fault (frontmatter_fault text))
-              (opening-told text opens told whole back);
+          (opening-told text opens told whole back);
       exact = (λ e. open-is n (subst (IsEndFault n next body) e told.is), told.free);
     }
   where

@@ -1,7 +1,6 @@
 -- The last line of a text, and a run of bytes.
-use Rattle.std.proofs.Common.{
-    ◌≡◌, ℕ, ◌+◌, ◌-◌, suc, Bool, true, false, List, [], ◌∷◌, refl, drop, length, not, sym, take, ap, arith, Some, None
-}
+use Rattle.std.proofs.Common.{◌≡◌, ℕ, ◌+◌, ◌-◌, suc, Bool, true, false, List, [], ◌∷◌, refl, drop, length, not, sym}
+use Rattle.std.proofs.Common.{take, ap, arith, Some, None}
 use Rattle.std.specs.{List.{after_last, list_any, prefix_len, suffix_len}, Str.{byte}}
 use Rattle.std.proofs.lemmas.{Bool.{false_from_ne_true, not_from_false, not_from_true}, List.Elements.{All-from_get_or}}
 use Rattle.std.proofs.lemmas.List.Folds.{list_any_at, list_any_none}
@@ -20,7 +19,7 @@ last-line text n last =
     let back : n + 1 - 1 ≡ n = omega arith in
     let long = suffix_len_is (λ x. not (is_newline x)) text (n + 1) 0 (omega arith)
     (λ k low less. not_from_false _ (false_from_ne_true _ (last.0.after k low less)))
-        (λ _. rw back (not_from_true _ last.1)) in
+    (λ _. rw back (not_from_true _ last.1)) in
     let here : length text - suffix_len (λ x. not (is_newline x)) text ≡ n + 1 = omega arith in
     (list_any_at is_newline text n 0 high last.1, ap (λ (k : ℕ). drop k text) here)
 
@@ -29,7 +28,7 @@ module _ (bytes text : List ℕ) (same : bytes ≡ text) where
       → closing_fault (dashes bytes) (take (length bytes - (n + 1)) (drop (n + 1) bytes)) ≡ end_fault text
   ends_found n last =
       let whole : take (length bytes - (n + 1)) (drop (n + 1) bytes) ≡ drop (n + 1) bytes =
-          grind (arith, common_steps) in
+      grind (arith, common_steps) in
       let past = last-line bytes n last in
       sym (rw (← same, past.0, past.1, whole) refl)
 
@@ -37,8 +36,8 @@ module _ (bytes text : List ℕ) (same : bytes ≡ text) where
   ends_none none =
       let none_is : list_any is_newline bytes ≡ false =
       list_any_none is_newline bytes
-          (All-from_get_or (λ x. is_newline x ≡ false) bytes 0
-          (λ k less. false_from_ne_true _ (none k (omega arith) less))) in
+      (All-from_get_or (λ x. is_newline x ≡ false) bytes 0
+      (λ k less. false_from_ne_true _ (none k (omega arith) less))) in
       rw (← same, none_is) refl
 
 pub ruleset run_lemmas = (prefix_len-drop_yes, prefix_len-drop_no, prefix_len-drop_all)

@@ -1,8 +1,6 @@
 -- What it takes for a word to be no keyword of a sort.
-use Rattle.std.proofs.{
-    Common.{arith}, lemmas.Grind.{common_steps},
-    Common.{◌≡◌, ℕ, Bool, false, List, [], ◌∷◌, ◌++◌, ◌||◌, refl, sym, ◌∙◌, take, drop}
-}
+use Rattle.std.proofs.{Common.{arith}, lemmas.Grind.{common_steps}}
+use Rattle.std.proofs.Common.{◌≡◌, ℕ, Bool, false, List, [], ◌∷◌, ◌++◌, ◌||◌, refl, sym, ◌∙◌, take, drop}
 use Rattle.std.proofs.lemmas.List.Folds.{list_any-append}
 use Rattle.std.specs.{List.{AllByRecursion, list_any}, Str.{bytes_eq}}
 use Rattle.std.proofs.lemmas.Slice.Eq.{bytes_eq-Decides}

@@ -1,8 +1,7 @@
 -- A text of a file is read in parts that cut no line end.
-use Rattle.std.proofs.Common.{
-    ◌≡◌, ℕ, zero, suc, zero-add, append-nil, ◌+◌, ◌-◌, ◌<◌, ◌≤◌, ◌==◌, ◌&&◌, Bool, true, false, List, [], ◌∷◌, ◌++◌,
-    append_assoc, length, length-append, map, refl, sym, ap, subst, ◌∙◌, arith
-}
+use Rattle.std.proofs.Common.{◌≡◌, ℕ, zero, suc, zero-add, append-nil, ◌+◌, ◌-◌, ◌<◌, ◌≤◌, ◌==◌, ◌&&◌, Bool, true}
+use Rattle.std.proofs.Common.{false, List, [], ◌∷◌, ◌++◌, append_assoc, length, length-append, map, refl, sym, ap}
+use Rattle.std.proofs.Common.{subst, ◌∙◌, arith}
 use Rattle.std.specs.{Str.{chars, IsUtf8}}
 use Rattle.std.proofs.lemmas.{Bool.{and_parts, eqb-true, Decides.{nat_tests}}, Grind.{common_steps}}
 use Rattle.std.proofs.lemmas.Str.{encodes-chars, chars-encodes, scalars-chars, encode_ascii, encodes-append}
@@ -45,14 +44,14 @@ place-append (c ∷ d ∷ w) t i whole = by_either (ends_line c (d ∷ w))
     let some = line-some c d w ends in
     let size : length (unix (c ∷ d ∷ w)) + i ≡ length (unix (d ∷ w)) + i = rw ends refl in
     ap (place (c ∷ d ∷ (w ++ t))) size
-        ∙ (place-line c (length (unix (d ∷ w)) + i) (d ∷ (w ++ t)) ends (omega (arith, some))
-        ∙ omega (arith, place-append (d ∷ w) t i whole)))
+    ∙ (place-line c (length (unix (d ∷ w)) + i) (d ∷ (w ++ t)) ends (omega (arith, some))
+    ∙ omega (arith, place-append (d ∷ w) t i whole)))
     (λ stays.
     let one : length (unix (c ∷ d ∷ w)) ≡ suc (length (unix (d ∷ w))) = rw stays refl in
     let size : length (unix (c ∷ d ∷ w)) + i ≡ suc (length (unix (d ∷ w)) + i) = omega (arith, one) in
     ap (place (c ∷ d ∷ (w ++ t))) size
-        ∙ (place-one c (length (unix (d ∷ w)) + i) (d ∷ (w ++ t)) stays
-        ∙ omega (arith, place-append (d ∷ w) t i whole)))
+    ∙ (place-one c (length (unix (d ∷ w)) + i) (d ∷ (w ++ t)) stays
+    ∙ omega (arith, place-append (d ∷ w) t i whole)))
 
 -- a byte that comes later stands later
 pub place_less : (s : List ℕ) (i j : ℕ) → i < j → place s i < place s j
@@ -141,9 +140,12 @@ encodes-unix (c ∷ s) = by_either (ends_line c s)
     (λ ends.
     let both = and_parts (c == 13) (next_is is_newline s) ends in
     rw ends (encodes-unix s
-        ∙ sym (rw (ap encode (eqb-true c 13 both.0) ∙ encode_ascii 13 (omega arith), next-encodes s ∙ both.1) refl)))
-    (λ stays. rw (stays, unix-append (encode c) (encodes s) (rw (last-encode 0 c, next-encodes s, stays) refl),
-        unix-encode c) (ap (λ (t : List ℕ). encode c ++ t) (encodes-unix s)))
+    ∙ sym (rw (ap encode (eqb-true c 13 both.0) ∙ encode_ascii 13 (omega arith), next-encodes s ∙ both.1) refl)))
+    (λ stays. rw (
+      stays,
+      unix-append (encode c) (encodes s) (rw (last-encode 0 c, next-encodes s, stays) refl),
+      unix-encode c,
+    ) (ap (λ (t : List ℕ). encode c ++ t) (encodes-unix s)))
 
 -- where only some characters are left
 pub offset_is : (text left : List ℕ) → IsLeft text left → length text - length left ≡ offset_of text (unix (chars left))
@@ -151,15 +153,15 @@ offset_is text left is =
     let read : List ℕ = encodes is.read in
     let whole : text ≡ read ++ left = text-is text left is.read is.all is.spelt is.whole in
     let uncut : is_whole read left ≡ true = ap (is_whole read) (sym (encodes-chars left is.spelt))
-        ∙ (whole-encodes is.read (chars left) ∙ is.uncut) in
+    ∙ (whole-encodes is.read (chars left) ∙ is.uncut) in
     let rest : length (encodes (unix (chars left))) ≡ length (unix left) =
-        ap length (encodes-unix (chars left) ∙ ap unix (encodes-chars left is.spelt)) in
+    ap length (encodes-unix (chars left) ∙ ap unix (encodes-chars left is.spelt)) in
     let all : length (unix text) ≡ length (unix read) + length (unix left) = ap (λ (t : List ℕ). length (unix t)) whole
-        ∙ (ap length (unix-append read left uncut) ∙ length-append (unix read) (unix left)) in
+    ∙ (ap length (unix-append read left uncut) ∙ length-append (unix read) (unix left)) in
     let at : length (unix text) - length (encodes (unix (chars left))) ≡ length (unix read) + 0 = omega arith in
     let size : length text ≡ length read + length left = ap length whole ∙ length-append read left in
     let to : place text (length (unix read) + 0) ≡ length read + 0 =
-        ap (λ (t : List ℕ). place t (length (unix read) + 0)) whole ∙ place-append read left 0 uncut in
+    ap (λ (t : List ℕ). place t (length (unix read) + 0)) whole ∙ place-append read left 0 uncut in
     omega (arith, ap (place text) at ∙ to)
 
 -- ---- the items of a text in a file
@@ -179,26 +181,36 @@ chars-unix text is = ap (λ (t : List ℕ). chars (unix t)) (sym (encodes-chars 
     ∙ chars-encodes (unix (chars text)) (scalars-unix (chars text) (scalars-chars text is)))
 
 pub utf8-unix : (text : List ℕ) → IsUtf8 text → IsUtf8 (unix text)
-utf8-unix text is =
-    (unix (chars text), (scalars-unix (chars text) (scalars-chars text is), encodes-unix (chars text)
-    ∙ ap unix (encodes-chars text is)))
+utf8-unix text is = (
+  unix (chars text),
+  (
+    scalars-unix (chars text) (scalars-chars text is),
+    encodes-unix (chars text)
+        ∙ ap unix (encodes-chars text is),
+  ),
+)
 
 found-moved : (text s : List ℕ) (found : List (Element × List ℕ))
     → map (λ (i : Item). (moved text i.0, i.1))
-        (map (item_at (length (unix text)) (reading.place (length (unix text)) s)) found) ≡
-        map (file_item text (offset_of text s)) found
+    (map (item_at (length (unix text)) (reading.place (length (unix text)) s)) found) ≡
+    map (file_item text (offset_of text s)) found
 found-moved text s [] = refl
 found-moved text s (f ∷ found) =
     ap (λ (is : List Item). file_item text (offset_of text s) f ∷ is) (found-moved text s found)
 
 moved-in : (at : ℕ → List ℕ → Front) (text : List ℕ) (count : ℕ) (s : List ℕ)
     → items_in at count (offset_of text) s ≡ map (λ (i : Item). (moved text i.0, i.1))
-        (items_in at count (reading.place (length (unix text))) s)
+    (items_in at count (reading.place (length (unix text))) s)
 moved-in at text zero s = refl
 moved-in at text (suc count) [] = refl
 moved-in at text (suc count) (c ∷ s) =
-    grind (arith, common_steps, map-append, found-moved text (c ∷ s) (at c s).found,
-    moved-in at text count (at c s).left)
+    grind (
+      arith,
+      common_steps,
+      map-append,
+      found-moved text (c ∷ s) (at c s).found,
+      moved-in at text count (at c s).left,
+    )
 
 -- the items that are read are those of the text without the carriage returns, at their places
 pub all_items : (raw : Bool) (text : List ℕ) → IsUtf8 text

@@ -1,8 +1,6 @@
 -- What a marked text says, and the calls that write it.
-use Rattle.std.proofs.Common.{
-    ◌≡◌, ℕ, ◌+◌, ◌-◌, ◌==◌, inl, inr, List, [], ◌∷◌, ◌++◌, length, take, drop, refl, sym, ap, subst, ◌∙◌, arith,
-    take-add, take-append-drop, Option, append-nil
-}
+use Rattle.std.proofs.Common.{◌≡◌, ℕ, ◌+◌, ◌-◌, ◌==◌, inl, inr, List, [], ◌∷◌, ◌++◌, length, take, drop, refl, sym, ap}
+use Rattle.std.proofs.Common.{subst, ◌∙◌, arith, take-add, take-append-drop, Option, append-nil}
 use Rattle.std.specs.{Fmt.{WritesInCalls}, Prelude.{OnOk, Result}, Char.{encode_utf8, len_utf8}}
 use Rattle.std.specs.Str.{IsCharBoundary, IsUtf8, chars}
 use Rattle.std.proofs.lemmas.{Bool.{cases_Bool, eqb-true}, Str.{IsCharBoundary-past_char, IsCharBoundary-start}}
@@ -26,8 +24,15 @@ without_marks-parts : (edition : Edition) (text : List ℕ) (tokens : List Token
     → without_marks (parts edition text tokens) ≡ take (bound tokens (length tokens)) text
 without_marks-parts edition text [] = refl
 without_marks-parts edition text (token ∷ tokens) =
-    grind (arith, common_steps, flat_map-append, without_token, take-add, without_marks-parts edition
-    (drop token.len text) tokens)
+    grind (
+      arith,
+      common_steps,
+      flat_map-append,
+      without_token,
+      take-add,
+      without_marks-parts edition
+          (drop token.len text) tokens,
+    )
 
 -- without the marks, a document is as it was
 pub document_is : (edition : Edition) (text : List ℕ)
@@ -40,7 +45,7 @@ pub page_is : (edition : Edition) (text : List ℕ) → without_marks (document_
     → unescaped (untagged (marked Html edition text)) ≡ text
 page_is edition text is =
     ap unescaped (shows (document_parts edition text))
-        ∙ (unescaped_escaped (without_marks (document_parts edition text)) ∙ is)
+    ∙ (unescaped_escaped (without_marks (document_parts edition text)) ∙ is)
 
 -- ---- the calls that write the tokens
 
@@ -51,7 +56,7 @@ module _ {W : Type 0} (took : W → List ℕ → W → Type 0) where
       → left ≡ token ∷ others → rest ≡ drop token.len text → own ≡ take token.len text
       → WritesInCalls took w0 (with_marks format (token_parts edition token.kind own)) w1
       → WritesInCalls took w1 (marked_tokens format edition rest others) w
-          → WritesInCalls took w0 (marked_tokens format edition text left) w
+      → WritesInCalls took w0 (marked_tokens format edition text left) w
   writes_token format edition w0 w1 w text rest own left others token first past is wrote more =
       grind (arith, common_steps, writes_parts)
 
@@ -72,7 +77,7 @@ module _ {W : Type 0} (took : W → List ℕ → W → Type 0) where
   pub writes_past : (format : Format) (edition : Edition) (w0 w u : W) (text : List ℕ)
       → WritesInCalls took w0 (with_marks format (start_parts (take (tokens_start text) text))) w
       → WritesInCalls took w
-          (marked_tokens format edition (drop (tokens_start text) text) (document_tokens edition text)) u
+      (marked_tokens format edition (drop (tokens_start text) text) (document_tokens edition text)) u
       → WritesInCalls took w0 (marked format edition text) u
   writes_past format edition w0 w u text before more =
       writes_parts took format (start_parts (take (tokens_start text) text))

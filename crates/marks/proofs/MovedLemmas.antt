@@ -1,8 +1,7 @@
 -- What stands in a literal of a file, by what stands in the text with newlines for its line ends.
-use Rattle.std.proofs.Common.{
-    ◌≡◌, ℕ, zero, suc, add-zero, ◌+◌, ◌≤◌, ◌⊎◌, inl, inr, nat_lt, get_or, append-nil, IsCharBoundary, IsUtf8, Bool,
-    true, List, [], ◌∷◌, length, map, refl, sym, ap, ◌∙◌, arith, Option, Result
-}
+use Rattle.std.proofs.Common.{◌≡◌, ℕ, zero, suc, add-zero, ◌+◌, ◌≤◌, ◌⊎◌, inl, inr, nat_lt, get_or, append-nil}
+use Rattle.std.proofs.Common.{IsCharBoundary, IsUtf8, Bool, true, List, [], ◌∷◌, length, map, refl, sym, ap, ◌∙◌, arith}
+use Rattle.std.proofs.Common.{Option, Result}
 use Rattle.std.specs.{Option.{option_map}, Result.{result_err}, Str.{chars}}
 use Rattle.std.proofs.lemmas.{Bool.{cases_lt, Decides.{nat_tests}}, Grind.{common_steps}, List.{map-append}}
 use Rattle.std.proofs.lemmas.List.Elements.{All-cons, All-head, All-nil, All-tail}
@@ -37,8 +36,11 @@ place-byte (c ∷ s) (suc i) =
     by_either (ends_line c s) (λ ends. rw ends (place-byte s (suc i))) (λ stays. rw stays (place-byte s i))
 
 pub place-le : (s : List ℕ) (i j : ℕ) → i ≤ j → place s i ≤ place s j
-place-le s i j le = elim (cases_lt i j) [ inl less ↦ let l = place_less s i j less in
-    omega arith | inr more ↦ let same : i ≡ j = omega arith in omega (arith, ap (place s) same) ]
+place-le s i j le = elim (cases_lt i j) [
+  | inl less ↦ let l = place_less s i j less in
+      omega arith
+  | inr more ↦ let same : i ≡ j = omega arith in omega (arith, ap (place s) same)
+]
 
 place-boundary : (s : List ℕ) (i : ℕ) → IsCharBoundary (unix s) i → IsCharBoundary s (place s i)
 place-boundary s i at =
@@ -71,13 +73,20 @@ stretch-moved begin s start end look = grind (arith, common_steps)
 
 pub stretches-moved : (mode : Mode) (begin : ℕ) (s : List ℕ) (at close : ℕ) (items : List Item)
     → stretches_from mode begin (begin + place s at) (begin + place s close)
-        (map (λ (i : Item). (moved s i.0, i.1)) items) ≡
-        map (moved_stretch begin s) (stretches_from mode 0 at close items)
+    (map (λ (i : Item). (moved s i.0, i.1)) items) ≡
+    map (moved_stretch begin s) (stretches_from mode 0 at close items)
 stretches-moved mode begin s at close [] = grind (arith, common_steps, same-order s begin at close)
 stretches-moved mode begin s at close (i ∷ items) =
-    grind (arith, common_steps, map-append, stretch-moved, same-order s begin i.0.start at,
-        same-order s begin at i.0.start, stretches-moved mode begin s at close items,
-        stretches-moved mode begin s i.0.end close items)
+    grind (
+      arith,
+      common_steps,
+      map-append,
+      stretch-moved,
+      same-order s begin i.0.start at,
+      same-order s begin at i.0.start,
+      stretches-moved mode begin s at close items,
+      stretches-moved mode begin s i.0.end close items,
+    )
 
 -- ---- errors between single quotes
 
@@ -99,12 +108,12 @@ kind-moved text o = grind (arith, common_steps)
 single-error : {U : Type 0} (meaning : Element → Result U EscapeError) (mode : Mode) (text : List ℕ) → IsUtf8 text
     → ((e : Element) → result_err (meaning e) ≡ error_of mode e)
     → kind (single_left text mode (unix (chars text))) ≡
-        result_err (without_range (single_of meaning (chars (unix text))))
+    result_err (without_range (single_of meaning (chars (unix text))))
 single-error meaning mode text is same =
     kind-moved text (single_error (reading.place (length (unix text))) mode (unix (chars text)))
-        ∙ (literal-error meaning mode (reading.place (length (unix text))) (unix (chars text)) same
+    ∙ (literal-error meaning mode (reading.place (length (unix text))) (unix (chars text)) same
     ∙ (ap result_err (sym (literal_read meaning (unix (chars text))))
-        ∙ ap (λ (s : List ℕ). result_err (without_range (single_of meaning s))) (sym (chars-unix text is))))
+    ∙ ap (λ (s : List ℕ). result_err (without_range (single_of meaning s))) (sym (chars-unix text is))))
 
 -- a mode without single quotes is read as that of a character
 abbrev pub alone_mode : Mode → Mode

@@ -1,8 +1,7 @@
 -- A part of a text between its marks: what it says, and the calls that write it.
-use Rattle.std.proofs.Common.{
-    ◌≡◌, ℕ, zero, suc, ◌%◌, ◌==◌, Bool, true, false, List, [], ◌∷◌, ◌++◌, length, take, drop, refl, sym, ap, subst, ◌∙◌,
-    arith, append_assoc, not, take-append-drop, ◌-◌, append-nil, true≢false
-}
+use Rattle.std.proofs.Common.{◌≡◌, ℕ, zero, suc, ◌%◌, ◌==◌, Bool, true, false, List, [], ◌∷◌, ◌++◌, length, take, drop}
+use Rattle.std.proofs.Common.{refl, sym, ap, subst, ◌∙◌, arith, append_assoc, not, take-append-drop, ◌-◌, append-nil}
+use Rattle.std.proofs.Common.{true≢false}
 use Rattle.std.specs.{Prelude.{decimal}, Fmt.{digit_glyph, digits, digits_onto, WritesInCalls}}
 use Rattle.std.proofs.lemmas.{Bool.{ne_eqb}, List.Concat.{flat_map-append}, Grind.{common_steps}}
 use Rattle.rustc_literal_escaper.specs.declared.error.EscapeError.{EscapeError}
@@ -86,7 +85,7 @@ module _ {W : Type 0} (took : W → List ℕ → W → Type 0) where
   pub writes_in_class : (format : Format) (class : Class) (text : List ℕ) (w0 w1 w2 w3 : W) (before after : List ℕ)
       → (length text == 0) ≡ false → before ≡ class_open format class → after ≡ class_close format class
       → took w0 before w1 → WritesInCalls took w1 (shown format class text) w2 → took w2 after w3
-          → WritesInCalls took w0 (with_marks format (Own class text ∷ [])) w3
+      → WritesInCalls took w0 (with_marks format (Own class text ∷ [])) w3
   writes_in_class format class [] w0 w1 w2 w3 before after some opens closes a b d = absurd (true≢false some)
   writes_in_class format class (x ∷ xs) w0 w1 w2 w3 before after some opens closes a b d =
       let open_call = subst (λ (bs : List ℕ). took w0 bs w1) opens a in
@@ -99,9 +98,9 @@ module _ {W : Type 0} (took : W → List ℕ → W → Type 0) where
   pub writes_fault : (format : Format) (fault : Fault) (class : Class) (text line rest : List ℕ) (n : ℕ)
       (w0 w1 w2 w3 w4 : W) → n ≡ first_line text → line ≡ take (n - 0) text → rest ≡ drop n text
       → WritesInCalls took w0 (fault_open format fault) w1
-          → WritesInCalls took w1 (with_marks format (Own class line ∷ [])) w2
+      → WritesInCalls took w1 (with_marks format (Own class line ∷ [])) w2
       → WritesInCalls took w2 (fault_close format fault) w3
-          → WritesInCalls took w3 (with_marks format (Own class rest ∷ [])) w4
+      → WritesInCalls took w3 (with_marks format (Own class rest ∷ [])) w4
       → WritesInCalls took w0 (with_marks format (fault_parts fault class text)) w4
   writes_fault format fault class text line rest n w0 w1 w2 w3 w4 is front past a b d e =
       let all : n - 0 ≡ n = omega arith in
@@ -109,5 +108,5 @@ module _ {W : Type 0} (took : W → List ℕ → W → Type 0) where
       let is_rest : rest ≡ drop (first_line text) text = past ∙ ap (λ (k : ℕ). drop k text) is in
       let whole = writes_both took w0 w1 w4 _ _ a (
       writes_parts format (Own class line ∷ []) (Close fault ∷ Own class rest ∷ []) w1 w2 w4 b
-          (writes_both took w2 w3 w4 _ _ d e)) in
+      (writes_both took w2 w3 w4 _ _ d e)) in
       rw (sym is_line, sym is_rest) whole

@@ -1,24 +1,18 @@
 -- A text as it is written for a terminal: it has no control characters except layout; the calls that write it.
-use Rattle.std.proofs.Common.{
-    ◌≡◌, ℕ, zero, suc, ◌+◌, ◌<◌, ◌≤◌, ◌==◌, Bool, true, false, true≢false, ◌&&◌, ◌||◌, not, inl, inr, List, [], ◌∷◌,
-    ◌++◌, length, take, drop, get_or, refl, sym, ap, subst, ◌∙◌, arith, length-append, length-drop, take-append-drop,
-    Some, None, IsCharBoundary
-}
+use Rattle.std.proofs.Common.{◌≡◌, ℕ, zero, suc, ◌+◌, ◌<◌, ◌≤◌, ◌==◌, Bool, true, false, true≢false, ◌&&◌, ◌||◌, not}
+use Rattle.std.proofs.Common.{inl, inr, List, [], ◌∷◌, ◌++◌, length, take, drop, get_or, refl, sym, ap, subst, ◌∙◌}
+use Rattle.std.proofs.Common.{arith, length-append, length-drop, take-append-drop, Some, None, IsCharBoundary}
 use Rattle.std.specs.{Char.{encode_utf8, is_control}, Fmt.{WritesInCalls}, List.{list_all, list_any}}
 use Rattle.std.specs.Str.{IsUtf8, chars, encode_utf8_all}
-use Rattle.std.proofs.lemmas.{
-    Bool.{cases_Bool, cases_lt, false_from_ne_true, Decides.{nat_tests}}, Grind.{common_steps}
-}
+use Rattle.std.proofs.lemmas.Bool.{cases_Bool, cases_lt, false_from_ne_true, Decides.{nat_tests}}
+use Rattle.std.proofs.lemmas.Grind.{common_steps}
 use Rattle.std.proofs.lemmas.List.{get_or-append-add, get_or-take, length-take}
-use Rattle.std.proofs.lemmas.Str.{
-    encode_ascii, IsUtf8-drop, IsUtf8-past_char, IsUtf8-take, chars-append, chars_past_char, encodes-append,
-    encodes-chars, length-encode, len_utf8_bounds
-}
+use Rattle.std.proofs.lemmas.Str.{encode_ascii, IsUtf8-drop, IsUtf8-past_char, IsUtf8-take, chars-append}
+use Rattle.std.proofs.lemmas.Str.{chars_past_char, encodes-append, encodes-chars, length-encode, len_utf8_bounds}
 use Rattle.memchr.specs.Find.{IsFirstByte}
 use Rattle.marks.specs.declared.class.Class.{Class}
-use Rattle.marks.specs.Screen.{
-    at_line_end, is_layout, is_replaceable, is_shown, may_begin_replaceable, seen, seen_char, symbol
-}
+use Rattle.marks.specs.Screen.{at_line_end, is_layout, is_replaceable, is_shown, may_begin_replaceable, seen, seen_char}
+use Rattle.marks.specs.Screen.{symbol}
 use Rattle.marks.proofs.CallLemmas.{one_call, writes_both}
 
 far : (c : ℕ) → 160 ≤ c → is_shown c ≡ true
@@ -82,10 +76,10 @@ irreplaceable (c ∷ cs) none =
     let own = length-encode c in
     let all = length-append (encode_utf8 c) (encode_utf8_all cs) in
     let clear : is_replaceable c ≡ false =
-        false_from_ne_true (is_replaceable c) (λ is. none 0 (omega arith) (first_byte c (encode_utf8_all cs) is)) in
+    false_from_ne_true (is_replaceable c) (λ is. none 0 (omega arith) (first_byte c (encode_utf8_all cs) is)) in
     rw clear (irreplaceable cs
-        (λ k less set. none (length (encode_utf8 c) + k) (omega arith)
-        (rw (get_or-append-add (encode_utf8 c) (encode_utf8_all cs) k 0) set)))
+    (λ k less set. none (length (encode_utf8 c) + k) (omega arith)
+    (rw (get_or-append-add (encode_utf8 c) (encode_utf8_all cs) k 0) set)))
 
 irreplaceable_text : (bs : List ℕ) → IsUtf8 bs
     → ((k : ℕ) → k < length bs → may_begin_replaceable (get_or bs k 0) ≡ true → ⊥)
@@ -103,7 +97,7 @@ front_irreplaceable bs n utf8 found =
     let high = found.0.high in
     let long = length-take n bs in
     irreplaceable_text (take n bs) (IsUtf8-take bs n utf8 (may_cut bs n found))
-        (λ k less set. found.0.before k (omega arith) (omega arith)
+    (λ k less set. found.0.before k (omega arith) (omega arith)
     (subst (λ (b : ℕ). may_begin_replaceable b ≡ true) (get_or-take n bs k 0 (omega arith)) set))
 
 -- the text before it, its character, and the text after that
@@ -111,11 +105,11 @@ pub splits : (text front rest past : List ℕ) (c n : ℕ) → IsUtf8 text → I
     → front ≡ take n text → rest ≡ drop n text
     → chars rest ≡ c ∷ chars past → length past < length rest
     → (list_any is_replaceable (chars front) ≡ false) × (chars text ≡ chars front ++ (c ∷ chars past))
-        × (length past < length text)
+    × (length past < length text)
 splits text front rest past c n utf8 found is_front is_rest reads less =
     let long = ap length is_rest ∙ length-drop n text in
     let cut : chars text ≡ chars (take n text) ++ chars (drop n text) = ap chars (sym (take-append-drop n text))
-        ∙ chars-append (take n text) (drop n text) (IsUtf8-take text n utf8 (may_cut text n found)) in (
+    ∙ chars-append (take n text) (drop n text) (IsUtf8-take text n utf8 (may_cut text n found)) in (
       ap (λ (xs : List ℕ). list_any is_replaceable (chars xs)) is_front ∙ front_irreplaceable text n utf8 found,
       rw (is_front, ← reads, is_rest) cut,
       omega arith,
@@ -134,8 +128,8 @@ pub none_replaceable : (bs text : List ℕ) → bs ≡ text → IsUtf8 text → 
     → list_any is_replaceable (chars text) ≡ false
 none_replaceable bs text same utf8 none =
     irreplaceable_text text utf8
-        (λ k less set. subst (λ (xs : List ℕ). IsFirstByte may_begin_replaceable xs None) same none k
-        (omega arith) less set)
+    (λ k less set. subst (λ (xs : List ℕ). IsFirstByte may_begin_replaceable xs None) same none k
+    (omega arith) less set)
 
 module _ {W : Type 0} (took : W → List ℕ → W → Type 0) where
   -- the text before a replaceable character, the character, and then the rest
@@ -144,23 +138,23 @@ module _ {W : Type 0} (took : W → List ℕ → W → Type 0) where
       → chars bs ≡ chars front ++ (c ∷ chars rest) → shown ≡ seen_char class c (chars rest)
       → took w0 front w1 → took w1 (encode_utf8 shown) w2
       → WritesInCalls took w2 (encode_utf8_all (seen class (chars rest))) w
-          → WritesInCalls took w0 (encode_utf8_all (seen class (chars bs))) w
+      → WritesInCalls took w0 (encode_utf8_all (seen class (chars bs))) w
   writes_stretch class w0 w1 w2 w c shown bs front rest utf8 none reads is a b more =
       let split : encode_utf8_all (seen class (chars bs)) ≡
-          front ++ (encode_utf8 shown ++ encode_utf8_all (seen class (chars rest))) =
+      front ++ (encode_utf8 shown ++ encode_utf8_all (seen class (chars rest))) =
       ap (λ (cs : List ℕ). encode_utf8_all (seen class cs)) reads
       ∙ ap encode_utf8_all (seen-append class (chars front) (c ∷ chars rest) none)
       ∙ encodes-append (chars front) (seen class (c ∷ chars rest))
       ∙ rw (encodes-chars front utf8, is) refl in
       subst (λ (xs : List ℕ). WritesInCalls took w0 xs w) (sym split)
       (writes_both took w0 w1 w _ _ (one_call took w0 w1 front a)
-          (writes_both took w1 w2 w _ _ (one_call took w1 w2 _ b) more))
+      (writes_both took w1 w2 w _ _ (one_call took w1 w2 _ b) more))
 
   pub writes_irreplaceable : (class : Class) (w v : W) (bs : List ℕ) → IsUtf8 bs → list_any is_replaceable (chars bs) ≡
       false → took w bs v → WritesInCalls took w (encode_utf8_all (seen class (chars bs))) v
   writes_irreplaceable class w v bs utf8 none call =
       let same : encode_utf8_all (seen class (chars bs)) ≡ bs = ap encode_utf8_all (seen_same class (chars bs) none)
-          ∙ encodes-chars bs utf8 in
+      ∙ encodes-chars bs utf8 in
       rw same (one_call took w v bs call)
 
 pub ruleset seen_lemmas = (IsUtf8-past_char)

@@ -1,8 +1,6 @@
 -- Carriage returns that no newline follows, and parts of a text whose places may lie past its end.
-use Rattle.std.proofs.Common.{
-    ◌≡◌, ℕ, zero, suc, ◌+◌, ◌-◌, ◌<◌, ◌||◌, true, false, List, [], ◌∷◌, drop, take, length, get_or, min, sym, ap, refl,
-    arith, ◌∙◌, Some, None
-}
+use Rattle.std.proofs.Common.{◌≡◌, ℕ, zero, suc, ◌+◌, ◌-◌, ◌<◌, ◌||◌, true, false, List, [], ◌∷◌, drop, take, length}
+use Rattle.std.proofs.Common.{get_or, min, sym, ap, refl, arith, ◌∙◌, Some, None}
 use Rattle.std.specs.{List.{between, list_any}, Str.{IsAscii, chars}}
 use Rattle.std.proofs.lemmas.{Bool.{false_from_ne_true, Decides.{nat_tests}}, Grind.{common_steps}}
 use Rattle.std.proofs.lemmas.List.{drop_min, length-take, take_min, Elements.{All-from_get_or}, Folds.{list_any_none}}
@@ -26,19 +24,25 @@ past_return (b ∷ bs) zero found = let here : is_byte 13 b ≡ true = found.1 i
 past_return (b ∷ bs) (suc at) found =
     let high = found.0.high in
     let other : is_byte 13 b ≡ false =
-        false_from_ne_true (is_byte 13 b) (found.0.before 0 (omega arith) (omega arith)) in
-    rw other (past_return bs at
-        (record { low = omega arith; high = omega arith; before = λ k low less. found.0.before (suc k) (omega arith)
-        (omega arith) }, found.1))
+    false_from_ne_true (is_byte 13 b) (found.0.before 0 (omega arith) (omega arith)) in
+    rw other (past_return bs at (
+      record {
+        low = omega arith;
+        high = omega arith;
+        before = λ k low less. found.0.before (suc k) (omega arith)
+            (omega arith);
+      },
+      found.1,
+    ))
 
 pub after_return : (rest next : List ℕ) (at : ℕ) → IsFirstByte (is_byte 13) rest (Some at)
     → next ≡ take (length rest - (at + 1)) (drop (at + 1) rest)
-        → has_bare_return rest ≡ (goes_on next || has_bare_return next)
+    → has_bare_return rest ≡ (goes_on next || has_bare_return next)
 after_return rest next at found is =
     let high = found.0.high in
     let one : at + 1 ≡ suc at = omega arith in
     let whole : take (length rest - (at + 1)) (drop (at + 1) rest) ≡ drop (suc at) rest =
-        rw one (grind (arith, common_steps)) in
+    rw one (grind (arith, common_steps)) in
     rw (is, whole) (past_return rest at found)
 
 pub no_return : (rest : List ℕ) → IsFirstByte (is_byte 13) rest None → has_bare_return rest ≡ false
@@ -54,14 +58,14 @@ digits_here n text =
     let long = length-take n text in
     between_is text (min end 2) end ∙ ap (drop (min end 2)) (take_min n text)
     ∙ ap (λ (k : ℕ). drop k (take n text)) (let same : min end 2 ≡ min 2 (length (take n text)) = omega (arith, long) in
-        same)
+    same)
     ∙ drop_min 2 (take n text) ∙ sym (between_is text 2 n)
 
 pub suffix_here : (n : ℕ) (text : List ℕ) → take (length text - min n (length text)) (drop (min n (length text)) text) ≡
     drop n text
 suffix_here n text =
     let whole : take (length text - min n (length text)) (drop (min n (length text)) text) ≡
-        drop (min n (length text)) text = grind (arith, common_steps) in
+    drop (min n (length text)) text = grind (arith, common_steps) in
     whole ∙ drop_min n text
 
 small_stays : (c : ℕ) → c < 128 → turns_direction c ≡ false
@@ -72,4 +76,4 @@ pub ascii_stays : (text : List ℕ) → IsAscii text → list_any turns_directio
 ascii_stays text ascii =
     ap (list_any turns_direction) (chars-IsAscii text ascii)
     ∙ list_any_none turns_direction text
-        (All-from_get_or (λ c. turns_direction c ≡ false) text 0 (λ i low. small_stays (get_or text i 0) (ascii i)))
+    (All-from_get_or (λ c. turns_direction c ≡ false) text 0 (λ i low. small_stays (get_or text i 0) (ascii i)))

@@ -5,16 +5,14 @@ use Rattle.rustc_lexer.specs.declared.edition.Edition.{Edition}
 use Rattle.rustc_lexer.specs.declared.token.LiteralKind.{LiteralKind}
 use Rattle.rustc_lexer.specs.declared.token.LiteralKind.TheVariants.{Int, Float}
 use Rattle.rustc_lexer.specs.declared.token.TokenKind.{TokenKind}
-use Rattle.rustc_lexer.specs.declared.token.TokenKind.TheVariants.{
-    LineComment, BlockComment, Frontmatter, Ident, Literal, Lifetime as LifetimeToken, RawLifetime,
-    UnknownPrefixLifetime
-}
+use Rattle.rustc_lexer.specs.declared.token.TokenKind.TheVariants.{LineComment, BlockComment, Frontmatter, Ident}
+use Rattle.rustc_lexer.specs.declared.token.TokenKind.TheVariants.{Literal, Lifetime as LifetimeToken, RawLifetime}
+use Rattle.rustc_lexer.specs.declared.token.TokenKind.TheVariants.{UnknownPrefixLifetime}
 use Rattle.marks.specs.declared.class.Class.{Class}
 use Rattle.marks.specs.declared.keyword.KeywordKind.TheVariants.{Strict}
 use Rattle.marks.specs.Keyword.{has}
-use Rattle.marks.specs.declared.class.Class.TheVariants.{
-    Plain, Comment, Doc, Keyword, TypeName, Text, Escape, Number, Lifetime
-}
+use Rattle.marks.specs.declared.class.Class.TheVariants.{Plain, Comment, Doc, Keyword, TypeName, Text, Escape, Number}
+use Rattle.marks.specs.declared.class.Class.TheVariants.{Lifetime}
 
 -- whether a name begins with an ASCII capital letter
 abbrev pub is_type_name : List ℕ → Bool

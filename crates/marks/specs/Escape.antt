@@ -1,7 +1,6 @@
 -- A text as it is written in an HTML page, and the text that a page shows.
-use Rattle.std.specs.Prelude.{
-    ℕ, zero, suc, ◌==◌, Bool, true, false, ◌||◌, not, if◌then◌else◌, List, [], ◌∷◌, codes, length, take
-}
+use Rattle.std.specs.Prelude.{ℕ, zero, suc, ◌==◌, Bool, true, false, ◌||◌, not, if◌then◌else◌, List, [], ◌∷◌, codes}
+use Rattle.std.specs.Prelude.{length, take}
 use Rattle.std.specs.List.{flat_map}
 use Rattle.std.specs.Str.{byte, bytes_eq}
 

@@ -1,40 +1,43 @@
 -- The error of a token, and the sentence that describes it.
-use Rattle.std.specs.Prelude.{
-    ℕ, ◌-◌, ◌==◌, Bool, true, false, ◌&&◌, not, nat_eq, nat_lt, if◌then◌else◌, List, ◌++◌, codes, decimal, drop, Option,
-    Some, None, Result, Ok, Err
-}
+use Rattle.std.specs.Prelude.{ℕ, ◌-◌, ◌==◌, Bool, true, false, ◌&&◌, not, nat_eq, nat_lt, if◌then◌else◌, List, ◌++◌}
+use Rattle.std.specs.Prelude.{codes, decimal, drop, Option, Some, None, Result, Ok, Err}
 use Rattle.std.specs.Option.{option_or}
 use Rattle.std.specs.Str.{byte, chars}
 use Rattle.rustc_lexer.specs.declared.token.LiteralKind.{LiteralKind}
-use Rattle.rustc_lexer.specs.declared.token.LiteralKind.TheVariants.{
-    Int, Float, Char, Byte, Str, ByteStr, CStr, RawStr, RawByteStr, RawCStr
-}
+use Rattle.rustc_lexer.specs.declared.token.LiteralKind.TheVariants.{Int, Float, Char, Byte, Str, ByteStr, CStr, RawStr}
+use Rattle.rustc_lexer.specs.declared.token.LiteralKind.TheVariants.{RawByteStr, RawCStr}
 use Rattle.rustc_lexer.specs.declared.token.RawStrError.{RawStrError}
 use Rattle.rustc_lexer.specs.declared.token.RawStrError.TheVariants.{InvalidStarter, NoTerminator, TooManyDelimiters}
 use Rattle.rustc_lexer.specs.declared.token.TokenKind.{TokenKind}
-use Rattle.rustc_lexer.specs.declared.token.TokenKind.TheVariants.{
-    BlockComment, Frontmatter, InvalidIdent, UnknownPrefix as UnknownPrefixToken, UnknownPrefixLifetime,
-    GuardedStrPrefix, Literal, Lifetime, Unknown
-}
+use Rattle.rustc_lexer.specs.declared.token.TokenKind.TheVariants.{BlockComment, Frontmatter, InvalidIdent}
+use Rattle.rustc_lexer.specs.declared.token.TokenKind.TheVariants.{UnknownPrefix as UnknownPrefixToken}
+use Rattle.rustc_lexer.specs.declared.token.TokenKind.TheVariants.{UnknownPrefixLifetime, GuardedStrPrefix, Literal}
+use Rattle.rustc_lexer.specs.declared.token.TokenKind.TheVariants.{Lifetime, Unknown}
 use Rattle.rustc_lexer.specs.Answers.{raw_check}
 use Rattle.rustc_lexer.specs.Classes.{next_is}
 use Rattle.marks.specs.declared.fault.Fault.{Fault}
-use Rattle.marks.specs.declared.fault.Fault.TheVariants.{
-    UnterminatedBlockComment, WhitespaceBeforeFrontmatter, InvalidInfostring, UnclosedFrontmatter,
-    WhitespaceBeforeFrontmatterClose, FrontmatterCloseMismatch, ExtraAfterFrontmatterClose, InvalidName, UnknownPrefix,
-    UnknownLifetimePrefix, GuardedString, InvalidLifetime, UnknownCharacter, EmptyNumber, EmptyExponent,
-    UnterminatedChar, UnterminatedByte, UnterminatedString, InvalidRawStarter, UnterminatedRawString, TooFewHashes,
-    TooManyHashes, InLiteral, InvalidDigit, FloatOfBase, RawKeyword, UnderscoreSuffix, BareCarriageReturnInDocComment,
-    BareCarriageReturnInFrontmatter, TooManyDashes, TextDirectionCodepoint
-}
-use Rattle.marks.specs.declared.fault.TheConstants.{
-    UNTERMINATED_BLOCK_COMMENT, WHITESPACE_BEFORE_FRONTMATTER, INVALID_INFOSTRING, UNCLOSED_FRONTMATTER,
-    WHITESPACE_BEFORE_FRONTMATTER_CLOSE, EXTRA_AFTER_FRONTMATTER_CLOSE, INVALID_NAME, UNKNOWN_PREFIX,
-    UNKNOWN_LIFETIME_PREFIX, GUARDED_STRING, INVALID_LIFETIME, UNKNOWN_CHARACTER, EMPTY_NUMBER, EMPTY_EXPONENT,
-    UNTERMINATED_CHAR, UNTERMINATED_BYTE, UNTERMINATED_STRING, INVALID_RAW_STARTER, OPEN_PLAIN_RAW_STRING,
-    INVALID_DIGIT, FLOAT_OF_BASE, RAW_KEYWORD, UNDERSCORE_SUFFIX, BARE_CARRIAGE_RETURN_IN_DOC_COMMENT,
-    BARE_CARRIAGE_RETURN_IN_FRONTMATTER, TEXT_DIRECTION_CODEPOINT
-}
+use Rattle.marks.specs.declared.fault.Fault.TheVariants.{UnterminatedBlockComment, WhitespaceBeforeFrontmatter}
+use Rattle.marks.specs.declared.fault.Fault.TheVariants.{InvalidInfostring, UnclosedFrontmatter}
+use Rattle.marks.specs.declared.fault.Fault.TheVariants.{WhitespaceBeforeFrontmatterClose, FrontmatterCloseMismatch}
+use Rattle.marks.specs.declared.fault.Fault.TheVariants.{ExtraAfterFrontmatterClose, InvalidName, UnknownPrefix}
+use Rattle.marks.specs.declared.fault.Fault.TheVariants.{UnknownLifetimePrefix, GuardedString, InvalidLifetime}
+use Rattle.marks.specs.declared.fault.Fault.TheVariants.{UnknownCharacter, EmptyNumber, EmptyExponent, UnterminatedChar}
+use Rattle.marks.specs.declared.fault.Fault.TheVariants.{UnterminatedByte, UnterminatedString, InvalidRawStarter}
+use Rattle.marks.specs.declared.fault.Fault.TheVariants.{UnterminatedRawString, TooFewHashes, TooManyHashes, InLiteral}
+use Rattle.marks.specs.declared.fault.Fault.TheVariants.{InvalidDigit, FloatOfBase, RawKeyword, UnderscoreSuffix}
+use Rattle.marks.specs.declared.fault.Fault.TheVariants.{BareCarriageReturnInDocComment}
+use Rattle.marks.specs.declared.fault.Fault.TheVariants.{BareCarriageReturnInFrontmatter, TooManyDashes}
+use Rattle.marks.specs.declared.fault.Fault.TheVariants.{TextDirectionCodepoint}
+use Rattle.marks.specs.declared.fault.TheConstants.{UNTERMINATED_BLOCK_COMMENT, WHITESPACE_BEFORE_FRONTMATTER}
+use Rattle.marks.specs.declared.fault.TheConstants.{INVALID_INFOSTRING, UNCLOSED_FRONTMATTER}
+use Rattle.marks.specs.declared.fault.TheConstants.{WHITESPACE_BEFORE_FRONTMATTER_CLOSE, EXTRA_AFTER_FRONTMATTER_CLOSE}
+use Rattle.marks.specs.declared.fault.TheConstants.{INVALID_NAME, UNKNOWN_PREFIX, UNKNOWN_LIFETIME_PREFIX}
+use Rattle.marks.specs.declared.fault.TheConstants.{GUARDED_STRING, INVALID_LIFETIME, UNKNOWN_CHARACTER, EMPTY_NUMBER}
+use Rattle.marks.specs.declared.fault.TheConstants.{EMPTY_EXPONENT, UNTERMINATED_CHAR, UNTERMINATED_BYTE}
+use Rattle.marks.specs.declared.fault.TheConstants.{UNTERMINATED_STRING, INVALID_RAW_STARTER, OPEN_PLAIN_RAW_STRING}
+use Rattle.marks.specs.declared.fault.TheConstants.{INVALID_DIGIT, FLOAT_OF_BASE, RAW_KEYWORD, UNDERSCORE_SUFFIX}
+use Rattle.marks.specs.declared.fault.TheConstants.{BARE_CARRIAGE_RETURN_IN_DOC_COMMENT}
+use Rattle.marks.specs.declared.fault.TheConstants.{BARE_CARRIAGE_RETURN_IN_FRONTMATTER, TEXT_DIRECTION_CODEPOINT}
 use Rattle.marks.specs.Frontmatter.{end_fault, has_crlf}
 use Rattle.marks.specs.TextFault.{text_fault}
 use Rattle.rustc_literal_escaper.specs.Numbers.{error_sentence}

@@ -3,18 +3,15 @@
 -- many dashes closes. rustc reads CR LF as a newline before it lexes; the lexer here does not, so the
 -- label of a first line that CR LF ends is bad by its kind, and the carriage return of the last line
 -- is in the token.
-use Rattle.std.specs.Prelude.{
-    ℕ, Bool, ◌==◌, ◌&&◌, ◌||◌, get_or, nat_eq, nat_lt, if◌then◌else◌, List, drop, codes, length, not, Option, Some,
-    None
-}
+use Rattle.std.specs.Prelude.{ℕ, Bool, ◌==◌, ◌&&◌, ◌||◌, get_or, nat_eq, nat_lt, if◌then◌else◌, List, drop, codes}
+use Rattle.std.specs.Prelude.{length, not, Option, Some, None}
 use Rattle.std.specs.List.{after_last, list_any, prefix_len}
 use Rattle.std.specs.Str.{byte}
 use Rattle.rustc_lexer.specs.Classes.{Chars, begins, is_horizontal_whitespace, is_id_start, is_info, next_is}
 use Rattle.rustc_literal_escaper.specs.Grammar.{is_newline}
 use Rattle.marks.specs.declared.fault.Fault.{Fault}
-use Rattle.marks.specs.declared.fault.Fault.TheVariants.{
-    UnclosedFrontmatter, WhitespaceBeforeFrontmatterClose, FrontmatterCloseMismatch, ExtraAfterFrontmatterClose
-}
+use Rattle.marks.specs.declared.fault.Fault.TheVariants.{UnclosedFrontmatter, WhitespaceBeforeFrontmatterClose}
+use Rattle.marks.specs.declared.fault.Fault.TheVariants.{FrontmatterCloseMismatch, ExtraAfterFrontmatterClose}
 
 abbrev pub is_of : List ℕ → ℕ → Bool
 is_of these b = list_any (λ d. d == b) these

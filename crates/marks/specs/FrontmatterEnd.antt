@@ -1,23 +1,19 @@
 -- The error at the end of a frontmatter, by the lines of the text: a law of `end_fault` over the
 -- lexer's grammar. `body` and `next` are as in FrontmatterGrammar: what follows the opening in the
 -- token, and all of the text after the token.
-use Rattle.std.specs.Prelude.{
-    ◌≡◌, ◌↔◌, ◌≤◌, ◌<◌, ℕ, Bool, true, false, ◌&&◌, not, if◌then◌else◌, List, ◌∷◌, ◌++◌, chars, codes, length, Option,
-    Some, None
-}
+use Rattle.std.specs.Prelude.{◌≡◌, ◌↔◌, ◌≤◌, ◌<◌, ℕ, Bool, true, false, ◌&&◌, not, if◌then◌else◌, List, ◌∷◌, ◌++◌}
+use Rattle.std.specs.Prelude.{chars, codes, length, Option, Some, None}
 use Rattle.std.specs.Option.{option_or}
 use Rattle.std.specs.Str.{byte}
-use Rattle.rustc_lexer.specs.Classes.{
-    Chars, AreAll, NextNotIn, begins, is_horizontal_whitespace, is_inline, is_whitespace, next_is
-}
+use Rattle.rustc_lexer.specs.Classes.{Chars, AreAll, NextNotIn, begins, is_horizontal_whitespace, is_inline}
+use Rattle.rustc_lexer.specs.Classes.{is_whitespace, next_is}
 use Rattle.rustc_lexer.specs.FrontmatterGrammar.{IsAt, IsBodyBefore, IsNowhere, IsOpeningBefore, endings, fence}
 use Rattle.rustc_lexer.specs.declared.token.TokenKind.{TokenKind}
 use Rattle.rustc_lexer.specs.declared.token.TokenKind.TheVariants.{Frontmatter}
 use Rattle.marks.specs.declared.fault.Fault.{Fault}
-use Rattle.marks.specs.declared.fault.Fault.TheVariants.{
-    WhitespaceBeforeFrontmatter, UnclosedFrontmatter, WhitespaceBeforeFrontmatterClose, FrontmatterCloseMismatch,
-    ExtraAfterFrontmatterClose
-}
+use Rattle.marks.specs.declared.fault.Fault.TheVariants.{WhitespaceBeforeFrontmatter, UnclosedFrontmatter}
+use Rattle.marks.specs.declared.fault.Fault.TheVariants.{WhitespaceBeforeFrontmatterClose, FrontmatterCloseMismatch}
+use Rattle.marks.specs.declared.fault.Fault.TheVariants.{ExtraAfterFrontmatterClose}
 use Rattle.marks.specs.Fault.{front_fault}
 use Rattle.marks.specs.Frontmatter.{is_end}
 use Rattle.marks.specs.TextFault.{frontmatter_fault}

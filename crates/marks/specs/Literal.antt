@@ -1,10 +1,8 @@
 -- A literal that is closed. Between its quotes are pieces: elements, and line ends that are
 -- skipped. A piece that is an escape or wrong is a stretch of the literal, and everything else is
 -- plain. `w` is the text of a piece, and `next` all of the text after it up to the closing quote.
-use Rattle.std.specs.Prelude.{
-    ◌≡◌, ◌+◌, ◌-◌, ◌==◌, ℕ, length, take, drop, codes, not, nat_lt, Bool, true, false, if◌then◌else◌, List, [], ◌∷◌,
-    ◌++◌, Option, Some, None, nat_eq
-}
+use Rattle.std.specs.Prelude.{◌≡◌, ◌+◌, ◌-◌, ◌==◌, ℕ, length, take, drop, codes, not, nat_lt, Bool, true, false}
+use Rattle.std.specs.Prelude.{if◌then◌else◌, List, [], ◌∷◌, ◌++◌, Option, Some, None, nat_eq}
 use Rattle.std.specs.Char.{is_whitespace}
 use Rattle.std.specs.List.{between, list_all, list_any, position_or_len, starts_with, suffix_len}
 use Rattle.std.specs.Option.{option_and_then, option_map}
@@ -13,22 +11,21 @@ use Rattle.std.specs.Str.{byte, chars}
 use Rattle.std.specs.declared.ops.Range.{Range}
 use Rattle.rustc_lexer.specs.Classes.{Chars, Utf8, bytes, next_is}
 use Rattle.rustc_lexer.specs.declared.token.LiteralKind.{LiteralKind}
-use Rattle.rustc_lexer.specs.declared.token.LiteralKind.TheVariants.{
-    Char as CharToken, Byte as ByteToken, Str as StrToken, ByteStr as ByteStrToken, CStr as CStrToken,
-    RawStr as RawStrToken, RawByteStr as RawByteStrToken, RawCStr as RawCStrToken
-}
+use Rattle.rustc_lexer.specs.declared.token.LiteralKind.TheVariants.{Char as CharToken, Byte as ByteToken}
+use Rattle.rustc_lexer.specs.declared.token.LiteralKind.TheVariants.{Str as StrToken, ByteStr as ByteStrToken}
+use Rattle.rustc_lexer.specs.declared.token.LiteralKind.TheVariants.{CStr as CStrToken, RawStr as RawStrToken}
+use Rattle.rustc_lexer.specs.declared.token.LiteralKind.TheVariants.{RawByteStr as RawByteStrToken}
+use Rattle.rustc_lexer.specs.declared.token.LiteralKind.TheVariants.{RawCStr as RawCStrToken}
 use Rattle.rustc_lexer.specs.declared.token.TokenKind.{TokenKind}
 use Rattle.rustc_lexer.specs.declared.token.TokenKind.TheVariants.{Literal}
 use Rattle.rustc_literal_escaper.specs.declared.element.Element.{Element}
 use Rattle.rustc_literal_escaper.specs.declared.element.Element.TheVariants.{Plain}
 use Rattle.rustc_literal_escaper.specs.declared.error.EscapeError.{EscapeError}
-use Rattle.rustc_literal_escaper.specs.declared.error.EscapeError.TheVariants.{
-    MultipleSkippedLinesWarning, UnskippedWhitespaceWarning
-}
+use Rattle.rustc_literal_escaper.specs.declared.error.EscapeError.TheVariants.{MultipleSkippedLinesWarning}
+use Rattle.rustc_literal_escaper.specs.declared.error.EscapeError.TheVariants.{UnskippedWhitespaceWarning}
 use Rattle.rustc_literal_escaper.specs.declared.mode.Mode.{Mode}
-use Rattle.rustc_literal_escaper.specs.declared.mode.Mode.TheVariants.{
-    Char, Byte, Str, RawStr, ByteStr, RawByteStr, CStr, RawCStr
-}
+use Rattle.rustc_literal_escaper.specs.declared.mode.Mode.TheVariants.{Char, Byte, Str, RawStr, ByteStr, RawByteStr}
+use Rattle.rustc_literal_escaper.specs.declared.mode.Mode.TheVariants.{CStr, RawCStr}
 use Rattle.rustc_literal_escaper.specs.Answers.{byte_literal, char_literal}
 use Rattle.rustc_literal_escaper.specs.Grammar.{IsElementBefore, IsRawElement, is_newline, is_passed_over}
 use Rattle.rustc_literal_escaper.specs.Meaning.{error_of, is_raw, is_single}

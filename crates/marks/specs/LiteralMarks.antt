@@ -1,8 +1,7 @@
 -- What is promised of the stretches of a string, by the errors that the escaper reports of what
 -- stands between its quotes.
-use Rattle.std.specs.Prelude.{
-    ◌≡◌, ◌+◌, ◌≤◌, ◌<◌, ◌&&◌, ◌⊎◌, not, ℕ, nat_le, nat_lt, Bool, true, false, List, [], ◌∷◌, All
-}
+use Rattle.std.specs.Prelude.{◌≡◌, ◌+◌, ◌≤◌, ◌<◌, ◌&&◌, ◌⊎◌, not, ℕ, nat_le, nat_lt, Bool, true, false, List, [], ◌∷◌}
+use Rattle.std.specs.Prelude.{All}
 use Rattle.std.specs.List.{Contains, between, list_all, list_any}
 use Rattle.std.specs.declared.ops.Range.{Range}
 use Rattle.rustc_lexer.specs.Classes.{Utf8}

@@ -1,9 +1,8 @@
 -- The marks around a token.
 use Rattle.std.specs.Prelude.{ℕ, List, [], ◌∷◌, ◌++◌, codes}
 use Rattle.marks.specs.declared.class.Class.{Class}
-use Rattle.marks.specs.declared.class.Class.TheVariants.{
-    Plain, Comment, Doc, Keyword, TypeName, Text, Escape, Number, Lifetime
-}
+use Rattle.marks.specs.declared.class.Class.TheVariants.{Plain, Comment, Doc, Keyword, TypeName, Text, Escape, Number}
+use Rattle.marks.specs.declared.class.Class.TheVariants.{Lifetime}
 use Rattle.marks.specs.declared.fault.Fault.{Fault}
 use Rattle.marks.specs.declared.format.Format.{Format}
 use Rattle.marks.specs.declared.format.Format.TheVariants.{Html, Colours, NoColours, Raw}

@@ -1,10 +1,8 @@
 -- The errors in the text of a token that its kind does not tell: those that rustc finds as it takes
 -- the lexer's tokens, and that of its lints `text_direction_codepoint_in_comment` and
 -- `text_direction_codepoint_in_literal`.
-use Rattle.std.specs.Prelude.{
-    ℕ, ◌==◌, Bool, false, ◌&&◌, ◌||◌, not, nat_eq, nat_le, nat_lt, if◌then◌else◌, List, [], ◌∷◌, codes, drop, get_or,
-    length, Option, Some, None
-}
+use Rattle.std.specs.Prelude.{ℕ, ◌==◌, Bool, false, ◌&&◌, ◌||◌, not, nat_eq, nat_le, nat_lt, if◌then◌else◌, List, []}
+use Rattle.std.specs.Prelude.{◌∷◌, codes, drop, get_or, length, Option, Some, None}
 use Rattle.std.specs.List.{between, list_any, prefix_len}
 use Rattle.std.specs.Option.{option_or}
 use Rattle.std.specs.Str.{byte, bytes_eq, chars}
@@ -13,14 +11,13 @@ use Rattle.rustc_lexer.specs.declared.token.DocStyle.{DocStyle}
 use Rattle.rustc_lexer.specs.declared.token.LiteralKind.{LiteralKind}
 use Rattle.rustc_lexer.specs.declared.token.LiteralKind.TheVariants.{Int, Float, Byte, ByteStr, RawByteStr}
 use Rattle.rustc_lexer.specs.declared.token.TokenKind.{TokenKind}
-use Rattle.rustc_lexer.specs.declared.token.TokenKind.TheVariants.{
-    LineComment, BlockComment, Frontmatter, RawIdent, RawLifetime, Literal
-}
+use Rattle.rustc_lexer.specs.declared.token.TokenKind.TheVariants.{LineComment, BlockComment, Frontmatter, RawIdent}
+use Rattle.rustc_lexer.specs.declared.token.TokenKind.TheVariants.{RawLifetime, Literal}
 use Rattle.marks.specs.declared.fault.Fault.{Fault}
-use Rattle.marks.specs.declared.fault.Fault.TheVariants.{
-    InvalidDigit, FloatOfBase, RawKeyword, UnderscoreSuffix, BareCarriageReturnInDocComment,
-    BareCarriageReturnInFrontmatter, TooManyDashes, TextDirectionCodepoint
-}
+use Rattle.marks.specs.declared.fault.Fault.TheVariants.{InvalidDigit, FloatOfBase, RawKeyword, UnderscoreSuffix}
+use Rattle.marks.specs.declared.fault.Fault.TheVariants.{BareCarriageReturnInDocComment}
+use Rattle.marks.specs.declared.fault.Fault.TheVariants.{BareCarriageReturnInFrontmatter, TooManyDashes}
+use Rattle.marks.specs.declared.fault.Fault.TheVariants.{TextDirectionCodepoint}
 use Rattle.marks.specs.Frontmatter.{dashes, is_of}
 
 -- whether a byte comes that is no newline

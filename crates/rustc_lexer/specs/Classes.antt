@@ -3,10 +3,8 @@
 -- `DerivedCoreProperties.txt` of Unicode 18.0. White space is `Pattern_White_Space`, which no
 -- version of Unicode changes. Names in capitals are productions of the Rust Reference (see
 -- Language.antt).
-use Rattle.std.specs.Prelude.{
-    ◌≡◌, ◌==◌, ◌&&◌, ◌||◌, ℕ, not, Bool, true, false, List, [], ◌∷◌, length, drop, ◌<◌, ◌^◌, codes, encode_utf8_all,
-    IsUtf8
-}
+use Rattle.std.specs.Prelude.{◌≡◌, ◌==◌, ◌&&◌, ◌||◌, ℕ, not, Bool, true, false, List, [], ◌∷◌, length, drop, ◌<◌, ◌^◌}
+use Rattle.std.specs.Prelude.{codes, encode_utf8_all, IsUtf8}
 use Rattle.std.specs.{Char.is_ascii_digit, List.list_all, List.list_any, Str.byte}
 use Rattle.unicode_ident.specs.Ident.{is_xid_start, is_xid_continue}
 use Rattle.rustc_lexer.specs.Tables.{is_emoji}

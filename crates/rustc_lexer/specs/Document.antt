@@ -1,8 +1,7 @@
 -- A whole document: its tokens; its head, which is a byte order mark, a shebang line and a
 -- frontmatter; and its body, which is the rest.
-use Rattle.std.specs.Prelude.{
-    ℕ, suc, ◌+◌, ◌==◌, if◌then◌else◌, slice_index, List, take, drop, Bool, true, false, unwrap_or
-}
+use Rattle.std.specs.Prelude.{ℕ, suc, ◌+◌, ◌==◌, if◌then◌else◌, slice_index, List, take, drop, Bool, true, false}
+use Rattle.std.specs.Prelude.{unwrap_or}
 use Rattle.std.specs.Str.{chars}
 use Rattle.std.specs.{List.position, Option.option_map_or}
 use Rattle.rustc_lexer.specs.{Edition, Token, TokenKind, Frontmatter}

@@ -4,10 +4,8 @@
 -- here are lists of characters.
 use Rattle.std.specs.Prelude.{◌≡◌, ◌≤◌, ℕ, zero, suc, not, Bool, true, false, List, [], ◌∷◌, ◌++◌, length, codes}
 use Rattle.std.specs.Str.{byte}
-use Rattle.rustc_lexer.specs.Classes.{
-    is_among, is_whitespace, is_horizontal_whitespace, is_info, is_id_start, Chars, begins, next_is, AreAll, NextIsNot,
-    NextNotIn, is_inline
-}
+use Rattle.rustc_lexer.specs.Classes.{is_among, is_whitespace, is_horizontal_whitespace, is_info, is_id_start, Chars}
+use Rattle.rustc_lexer.specs.Classes.{begins, next_is, AreAll, NextIsNot, NextNotIn, is_inline}
 
 -- ---- its opening
 

@@ -1,11 +1,9 @@
 -- The lookahead of each kind of token, and the laws of the grammar.
-use Rattle.std.specs.Prelude.{
-    ℕ, ◌≡◌, ◌↔◌, ◌<◌, ◌&&◌, ◌++◌, length, take, drop, codes, true, false, not, if◌then◌else◌, bytes_eq, chars
-}
-use Rattle.rustc_lexer.specs.{
-    Edition, TokenKind, Int, Char, Byte, LineComment, BlockComment, Eof, Whitespace, Ident, InvalidIdent, RawIdent,
-    ForcedKeywordIdent, UnknownPrefix, RawLifetime, UnknownPrefixLifetime, Literal, Lifetime, Slash, Pound
-}
+use Rattle.std.specs.Prelude.{ℕ, ◌≡◌, ◌↔◌, ◌<◌, ◌&&◌, ◌++◌, length, take, drop, codes, true, false, not, if◌then◌else◌}
+use Rattle.std.specs.Prelude.{bytes_eq, chars}
+use Rattle.rustc_lexer.specs.{Edition, TokenKind, Int, Char, Byte, LineComment, BlockComment, Eof, Whitespace, Ident}
+use Rattle.rustc_lexer.specs.{InvalidIdent, RawIdent, ForcedKeywordIdent, UnknownPrefix, RawLifetime}
+use Rattle.rustc_lexer.specs.{UnknownPrefixLifetime, Literal, Lifetime, Slash, Pound}
 use Rattle.rustc_lexer.specs.Classes.{is_among, Chars, next_is, is_name_start, IsText, Utf8}
 use Rattle.rustc_lexer.specs.Language.{IsTokenBefore}
 use Rattle.rustc_lexer.specs.LanguageText.{Mode, newest, part, AreTokens, TheOnly, IsTokenIn}

@@ -1,8 +1,7 @@
 -- Texts that are joined without changing their tokens, and the separators that are inserted to keep
 -- the tokens apart.
-use Rattle.std.specs.Prelude.{
-    ℕ, ◌≡◌, ◌↔◌, ◌+◌, ◌≤◌, ◌^◌, List, [], ◌∷◌, ◌++◌, length, take, drop, codes, chars, Bool, true, false, not
-}
+use Rattle.std.specs.Prelude.{ℕ, ◌≡◌, ◌↔◌, ◌+◌, ◌≤◌, ◌^◌, List, [], ◌∷◌, ◌++◌, length, take, drop, codes, chars, Bool}
+use Rattle.std.specs.Prelude.{true, false, not}
 use Rattle.std.specs.Str.{IsCharBoundary}
 use Rattle.rustc_lexer.specs.{Edition, Token, TokenKind, Literal, BlockComment, LineComment, Whitespace}
 use Rattle.rustc_lexer.specs.declared.relex.joined.JoinError.{JoinError}

@@ -1,17 +1,12 @@
 -- Lexed texts: what edits do to a text and its tokens, and its pieces.
-use Rattle.std.specs.Prelude.{
-    ℕ, ◌+◌, ◌-◌, ◌<◌, ◌≤◌, ◌^◌, List, [], ◌∷◌, ◌++◌, length, take, drop, ◌≡◌, Option, Some, None, Bool, true, false,
-    Result, Ok, Err, IfOk, IfErr, OnOk, OnErr, All
-}
-use Rattle.rustc_lexer.specs.declared.relex.{
-    edit.Edit.Edit, edit_list.EditStop.EditStop, edit_list.Stopped.Stopped, pieces.Piece.Piece,
-    relexing.Relexed.Relexed
-}
+use Rattle.std.specs.Prelude.{ℕ, ◌+◌, ◌-◌, ◌<◌, ◌≤◌, ◌^◌, List, [], ◌∷◌, ◌++◌, length, take, drop, ◌≡◌, Option, Some}
+use Rattle.std.specs.Prelude.{None, Bool, true, false, Result, Ok, Err, IfOk, IfErr, OnOk, OnErr, All}
+use Rattle.rustc_lexer.specs.declared.relex.{edit.Edit.Edit, edit_list.EditStop.EditStop, edit_list.Stopped.Stopped}
+use Rattle.rustc_lexer.specs.declared.relex.{pieces.Piece.Piece, relexing.Relexed.Relexed}
 use Rattle.rustc_lexer.specs.{Edition, Token}
 use Rattle.rustc_lexer.specs.Document.{document_tokens, tokens_start, whole_by}
-use Rattle.rustc_lexer.specs.Edits.{
-    AreEdits, AreStepped, AreRelexed, IsGreatest, IsRelexed, IsStop, IsStopStepped, apply, apply_list, part_by, stop_at
-}
+use Rattle.rustc_lexer.specs.Edits.{AreEdits, AreStepped, AreRelexed, IsGreatest, IsRelexed, IsStop, IsStopStepped}
+use Rattle.rustc_lexer.specs.Edits.{apply, apply_list, part_by, stop_at}
 use Rattle.rustc_lexer.specs.LanguageText.{part}
 use Rattle.rustc_lexer.specs.Partition.{Layout, tokens_in}
 use Rattle.rustc_lexer.specs.Tokens.{tokens_of}

@@ -19,15 +19,12 @@
 -- has_invalid_preceding_whitespace invalid_infostring.
 use Rattle.std.specs.Prelude.{◌≡◌, ℕ, ◌||◌, Bool, true, false, List, [], ◌∷◌, ◌++◌, take, codes, Option, Some, None}
 use Rattle.std.specs.{Char.is_ascii_digit, List.list_any, Str.byte}
-use Rattle.rustc_lexer.specs.{
-    DocStyle, LiteralKind, TokenKind, Outer, Inner, Whitespace, Eof, LineComment, BlockComment, Ident, InvalidIdent,
-    RawIdent, ForcedKeywordIdent, Lifetime, UnknownPrefix, RawLifetime, UnknownPrefixLifetime, Literal,
-    GuardedStrPrefix, Slash, Pound
-}
-use Rattle.rustc_lexer.specs.Classes.{
-    is_among, is_whitespace, is_id_continue, is_ident, Chars, begins, AreAll, NextIs, NextIsNot, NextIn, NextNotIn,
-    bytes, is_inline, is_word_start, is_word_continue, is_name_start, is_bad_name, ends_prefix, begins_ident_after
-}
+use Rattle.rustc_lexer.specs.{DocStyle, LiteralKind, TokenKind, Outer, Inner, Whitespace, Eof, LineComment}
+use Rattle.rustc_lexer.specs.{BlockComment, Ident, InvalidIdent, RawIdent, ForcedKeywordIdent, Lifetime, UnknownPrefix}
+use Rattle.rustc_lexer.specs.{RawLifetime, UnknownPrefixLifetime, Literal, GuardedStrPrefix, Slash, Pound}
+use Rattle.rustc_lexer.specs.Classes.{is_among, is_whitespace, is_id_continue, is_ident, Chars, begins, AreAll, NextIs}
+use Rattle.rustc_lexer.specs.Classes.{NextIsNot, NextIn, NextNotIn, bytes, is_inline, is_word_start, is_word_continue}
+use Rattle.rustc_lexer.specs.Classes.{is_name_start, is_bad_name, ends_prefix, begins_ident_after}
 use Rattle.rustc_lexer.specs.LiteralGrammar.{IsLiteralBefore, IsSuffixBefore}
 use Rattle.rustc_lexer.specs.Tables.{symbol_kind}
 

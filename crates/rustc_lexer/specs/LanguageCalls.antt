@@ -1,15 +1,12 @@
 -- What the calls that return no tokens answer, in terms of the grammar: errors in raw strings,
 -- guarded strings, shebang lines and editions. `w`, `next` and names in capitals are as in
 -- Language.antt; texts are lists of characters if nothing else is said, and offsets are in bytes.
-use Rattle.std.specs.Prelude.{
-    ◌≡◌, ◌==◌, ◌+◌, ◌-◌, ◌<◌, ◌≤◌, ℕ, suc, Bool, true, false, [], ◌∷◌, ◌++◌, length, drop, codes, Contains, Option,
-    Some, None, Result, Ok, Err, List, bytes_eq, chars, decimal, find, nat_eq
-}
+use Rattle.std.specs.Prelude.{◌≡◌, ◌==◌, ◌+◌, ◌-◌, ◌<◌, ◌≤◌, ℕ, suc, Bool, true, false, [], ◌∷◌, ◌++◌, length, drop}
+use Rattle.std.specs.Prelude.{codes, Contains, Option, Some, None, Result, Ok, Err, List, bytes_eq, chars, decimal}
+use Rattle.std.specs.Prelude.{find, nat_eq}
 use Rattle.std.specs.Str.{byte}
-use Rattle.rustc_lexer.specs.{
-    Edition, RawStrError, TokenKind, E2015, E2018, E2021, E2024, InvalidStarter, NoTerminator, TooManyDelimiters,
-    LineComment, BlockComment, Whitespace
-}
+use Rattle.rustc_lexer.specs.{Edition, RawStrError, TokenKind, E2015, E2018, E2021, E2024, InvalidStarter, NoTerminator}
+use Rattle.rustc_lexer.specs.{TooManyDelimiters, LineComment, BlockComment, Whitespace}
 use Rattle.rustc_lexer.specs.Classes.{is_among, Chars, Utf8, begins, next_is, AreAll, NextNotIn, bytes, is_inline}
 use Rattle.rustc_lexer.specs.Language.{IsTokenBefore}
 use Rattle.rustc_lexer.specs.LanguageText.{year}

@@ -7,10 +7,9 @@
 -- (docs/EDITIONS.md, "What is left to a compiler").
 use Rattle.std.specs.Prelude.{◌≡◌, ◌<◌, ◌≤◌, ℕ, true, false, List, ◌∷◌, codes, ◌+◌, Bool, [], ◌++◌, ◌↔◌}
 use Rattle.std.specs.Str.{byte}
-use Rattle.rustc_lexer.specs.{
-    Edition, FrontmatterAllowed, Token, TokenKind, E2015, E2018, E2021, E2024, Yes, No, Ident, UnknownPrefix, Lifetime,
-    UnknownPrefixLifetime, Pound, RawLifetime, GuardedStrPrefix, Whitespace, Frontmatter, Eof
-}
+use Rattle.rustc_lexer.specs.{Edition, FrontmatterAllowed, Token, TokenKind, E2015, E2018, E2021, E2024, Yes, No, Ident}
+use Rattle.rustc_lexer.specs.{UnknownPrefix, Lifetime, UnknownPrefixLifetime, Pound, RawLifetime, GuardedStrPrefix}
+use Rattle.rustc_lexer.specs.{Whitespace, Frontmatter, Eof}
 use Rattle.rustc_lexer.specs.Classes.{Chars, begins_ident_after, is_whitespace, next_is, bytes, is_bad_name}
 use Rattle.rustc_lexer.specs.FrontmatterGrammar.{IsOpeningBefore, OpensNone, endings, IsBodyBefore}
 use Rattle.rustc_lexer.specs.Language.{IsTokenBefore}

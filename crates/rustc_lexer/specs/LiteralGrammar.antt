@@ -3,15 +3,12 @@
 -- of characters. RawStr, RawByteStr and RawCStr have the field n_hashes, and the other quoted kinds
 -- have terminated. Literals that are unclosed, and raw strings that are refused, are not in the
 -- Reference.
-use Rattle.std.specs.Prelude.{
-    ◌≡◌, ◌<◌, ◌≤◌, ℕ, zero, suc, ◌==◌, Bool, true, false, [], ◌∷◌, ◌++◌, codes, is_some, Option, Some, None
-}
+use Rattle.std.specs.Prelude.{◌≡◌, ◌<◌, ◌≤◌, ℕ, zero, suc, ◌==◌, Bool, true, false, [], ◌∷◌, ◌++◌, codes, is_some}
+use Rattle.std.specs.Prelude.{Option, Some, None}
 use Rattle.std.specs.Str.{byte}
 use Rattle.rustc_lexer.specs.{LiteralKind, Char, Byte, Str, ByteStr, CStr, RawStr, RawByteStr, RawCStr}
-use Rattle.rustc_lexer.specs.Classes.{
-    is_among, is_id_start, is_id_continue, is_ident, Chars, begins, AreAll, NextIsNot, NextIn, is_word_continue,
-    is_name_start, begins_ident_after
-}
+use Rattle.rustc_lexer.specs.Classes.{is_among, is_id_start, is_id_continue, is_ident, Chars, begins, AreAll, NextIsNot}
+use Rattle.rustc_lexer.specs.Classes.{NextIn, is_word_continue, is_name_start, begins_ident_after}
 use Rattle.rustc_lexer.specs.NumberGrammar.{IsNumberBefore}
 
 -- w is quoted text that ends in `close`. Before that it has characters that are not special, and

@@ -1,7 +1,6 @@
 -- What a token may depend on, and which tokens of a growing text are final.
-use Rattle.std.specs.Prelude.{
-    ℕ, ◌≡◌, ◌-◌, ◌<◌, ◌≤◌, List, ◌++◌, length, take, drop, IsCharBoundary, Bool, true, nat_le, chars
-}
+use Rattle.std.specs.Prelude.{ℕ, ◌≡◌, ◌-◌, ◌<◌, ◌≤◌, List, ◌++◌, length, take, drop, IsCharBoundary, Bool, true, nat_le}
+use Rattle.std.specs.Prelude.{chars}
 use Rattle.rustc_lexer.specs.{Token}
 use Rattle.rustc_lexer.specs.Classes.{IsText}
 use Rattle.rustc_lexer.specs.Partition.{bound}

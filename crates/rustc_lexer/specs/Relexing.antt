@@ -1,13 +1,11 @@
 -- Relexing for a caller who stores the tokens and passes only their lengths, and the head of a whole
 -- document.
-use Rattle.std.specs.Prelude.{
-    ℕ, zero, suc, ◌≡◌, ◌↔◌, ◌+◌, ◌<◌, ◌≤◌, ◌^◌, ◌||◌, max, count_by, Bool, true, false, IsTrue, nat_eq, List, [], ◌∷◌,
-    ◌++◌, length, map, take, drop, IsCharBoundary, IsUtf8, Option, Some, None
-}
+use Rattle.std.specs.Prelude.{ℕ, zero, suc, ◌≡◌, ◌↔◌, ◌+◌, ◌<◌, ◌≤◌, ◌^◌, ◌||◌, max, count_by, Bool, true, false}
+use Rattle.std.specs.Prelude.{IsTrue, nat_eq, List, [], ◌∷◌, ◌++◌, length, map, take, drop, IsCharBoundary, IsUtf8}
+use Rattle.std.specs.Prelude.{Option, Some, None}
 use Rattle.rustc_lexer.specs.declared.{head.Head.Head}
-use Rattle.rustc_lexer.specs.declared.relex.{
-    relexing.Change.Change, relexing.Relexed.Relexed, relexing.Relexing.Relexing
-}
+use Rattle.rustc_lexer.specs.declared.relex.{relexing.Change.Change, relexing.Relexed.Relexed}
+use Rattle.rustc_lexer.specs.declared.relex.{relexing.Relexing.Relexing}
 use Rattle.rustc_lexer.specs.{Token, Whitespace}
 use Rattle.rustc_lexer.specs.Classes.{IsText}
 use Rattle.rustc_lexer.specs.Document.{body_start, head_tokens, tokens_start, whole_by}

@@ -1,10 +1,9 @@
 -- The tables of the grammar: emoji and symbols.
 use Rattle.std.specs.Prelude.{ℕ, Bool, ◌&&◌, nat_le, if◌then◌else◌, List, [], ◌∷◌, ◌==◌}
 use Rattle.std.specs.{List.list_any, Str.byte}
-use Rattle.rustc_lexer.specs.{
-    TokenKind, Semi, Comma, Dot, Colon, At, OpenParen, CloseParen, Tilde, OpenBrace, CloseBrace, Question, OpenBracket,
-    CloseBracket, Eq, Dollar, Bang, Lt, Gt, Minus, And, Or, Plus, Star, Caret, Percent, Unknown
-}
+use Rattle.rustc_lexer.specs.{TokenKind, Semi, Comma, Dot, Colon, At, OpenParen, CloseParen, Tilde, OpenBrace}
+use Rattle.rustc_lexer.specs.{CloseBrace, Question, OpenBracket, CloseBracket, Eq, Dollar, Bang, Lt, Gt, Minus, And, Or}
+use Rattle.rustc_lexer.specs.{Plus, Star, Caret, Percent, Unknown}
 
 -- the ranges of emoji, with both ends included, in ascending order; no two overlap. They are not in
 -- the Reference

@@ -1,12 +1,9 @@
 -- The tokens of a text, and what the calls that return them do.
-use Rattle.std.specs.Prelude.{
-    ℕ, ◌≡◌, ◌↔◌, ◌<◌, ◌≤◌, List, [], ◌∷◌, length, take, drop, chars, codes, IsCharBoundary, Option, is_some, IsSome,
-    Some, None, Ok, zero, suc, Bool, true, false, not, ◌++◌, map, All
-}
-use Rattle.rustc_lexer.specs.{
-    Edition, FrontmatterAllowed, LiteralKind, Token, TokenKind, Char, Byte, Str, ByteStr, CStr, RawStr, RawByteStr,
-    RawCStr, Literal, Eof, Ident, RawIdent
-}
+use Rattle.std.specs.Prelude.{ℕ, ◌≡◌, ◌↔◌, ◌<◌, ◌≤◌, List, [], ◌∷◌, length, take, drop, chars, codes, IsCharBoundary}
+use Rattle.std.specs.Prelude.{Option, is_some, IsSome, Some, None, Ok, zero, suc, Bool, true, false, not, ◌++◌, map}
+use Rattle.std.specs.Prelude.{All}
+use Rattle.rustc_lexer.specs.{Edition, FrontmatterAllowed, LiteralKind, Token, TokenKind, Char, Byte, Str, ByteStr}
+use Rattle.rustc_lexer.specs.{CStr, RawStr, RawByteStr, RawCStr, Literal, Eof, Ident, RawIdent}
 pub use Rattle.rustc_lexer.specs.Answers.{advance, raw_check, tokens_of}
 use Rattle.rustc_lexer.specs.Classes.{is_ident}
 use Rattle.rustc_lexer.specs.LanguageCalls.{StartsRaw}

@@ -1,7 +1,6 @@
 -- A batch, by what `fill` says of the tokens that are left.
-use Rattle.std.proofs.Common.{
-    ◌≡◌, ℕ, ◌+◌, ◌-◌, ◌≤◌, List, length, drop, sym, ap, subst, ◌∙◌, arith, length-drop, IsCharBoundary
-}
+use Rattle.std.proofs.Common.{◌≡◌, ℕ, ◌+◌, ◌-◌, ◌≤◌, List, length, drop, sym, ap, subst, ◌∙◌, arith, length-drop}
+use Rattle.std.proofs.Common.{IsCharBoundary}
 use Rattle.std.proofs.lemmas.{Grind.{common_steps}, Str.{IsCharBoundary-from_rest, IsUtf8-drop}}
 use Rattle.std.proofs.Math.Nat.{min-le_right}
 use Rattle.rustc_lexer.specs.declared.{edition.Edition.{Edition}, token.FrontmatterAllowed.{FrontmatterAllowed}}
@@ -35,8 +34,11 @@ module _ (edition : Edition) (text : List ℕ) (is : IsText text) (place : CPlac
   mode = mode_in (allowed_of place.frontmatter_allowed) edition
 
   cut_is : IsText cut
-  cut_is = record { utf8 = IsUtf8-drop text place.at is.utf8 boundary; fits = let f = is.fits in
-      omega (arith, length-drop place.at text) }
+  cut_is = record {
+    utf8 = IsUtf8-drop text place.at is.utf8 boundary;
+    fits = let f = is.fits in
+        omega (arith, length-drop place.at text);
+  }
 
   leaves : Leaves s t (length buffer) count
   leaves = past_fill s t (length buffer) count (subst IsText (sym (ap (λ (x : State). x.rest) begun)) cut_is)
@@ -75,5 +77,18 @@ module _ (edition : Edition) (text : List ℕ) (is : IsText text) (place : CPlac
       → t.mode ≡ mode_in allowed (mode_edition t.mode) → place'.frontmatter_allowed ≡ allowed_number allowed
       → IsBatch text (state_at edition text place) buffer place' filled count
   batch_is place' allowed at held number =
-      grind (arith, common_steps, place_is, rest_is, same_edition, mode_of-edition, here, IsCharBoundary-from_rest,
-          inside, state_is, number_of-mode, allowed_back, leaves)
+      grind (
+        arith,
+        common_steps,
+        place_is,
+        rest_is,
+        same_edition,
+        mode_of-edition,
+        here,
+        IsCharBoundary-from_rest,
+        inside,
+        state_is,
+        number_of-mode,
+        allowed_back,
+        leaves,
+      )

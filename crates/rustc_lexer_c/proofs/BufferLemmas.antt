@@ -1,7 +1,6 @@
 -- A list that is written into a buffer, one more at a time.
-use Rattle.std.proofs.Common.{
-    ◌≡◌, ℕ, ◌+◌, ◌<◌, ◌≤◌, List, [], ◌∷◌, ◌++◌, length, take, drop, min, sym, ap, ◌∙◌, arith, slice_set, take-add
-}
+use Rattle.std.proofs.Common.{◌≡◌, ℕ, ◌+◌, ◌<◌, ◌≤◌, List, [], ◌∷◌, ◌++◌, length, take, drop, min, sym, ap, ◌∙◌, arith}
+use Rattle.std.proofs.Common.{slice_set, take-add}
 use Rattle.std.proofs.lemmas.{Grind.{common_steps}, List.{drop-drop, length-drop, take-append-drop, take_more_set}}
 use Rattle.std.proofs.Math.Nat.{min-eq_left, min-eq_right}
 

@@ -1,8 +1,6 @@
 -- One more unit of a literal.
-use Rattle.std.proofs.Common.{
-    ◌≡◌, ℕ, false, true≢false, ◌+◌, ◌≤◌, List, [], ◌∷◌, length, take, drop, min, max, sym, ap, ◌∙◌, arith, Option, Some,
-    None
-}
+use Rattle.std.proofs.Common.{◌≡◌, ℕ, false, true≢false, ◌+◌, ◌≤◌, List, [], ◌∷◌, length, take, drop, min, max, sym, ap}
+use Rattle.std.proofs.Common.{◌∙◌, arith, Option, Some, None}
 use Rattle.std.proofs.lemmas.{Bool.{cond_both}, Grind.{common_steps}, List.{drop-drop, length-map, length-set}}
 use Rattle.std.proofs.Math.Nat.{le-max_left, le-max_right}
 use Rattle.std.specs.{Option.{is_some}, Str.{IsUtf8}}
@@ -13,9 +11,8 @@ use Rattle.rustc_lexer.specs.laws.Choice.{by_either}
 use Rattle.marks.specs.LineEnds.{ends_line, file_errors, moved, unix}
 use Rattle.marks.proofs.LineEndLemmas.{utf8-unix}
 use Rattle.rustc_lexer_c.specs.{declared.escapes.CUnit.{CUnit}, Escapes.{IsUnits, units_of, wrong_unit, wrong_units_of}}
-use Rattle.rustc_lexer_c.proofs.BufferLemmas.{
-    all_taken, back_step, buffer_filled, count_second, few_step, front_step, left_step
-}
+use Rattle.rustc_lexer_c.proofs.BufferLemmas.{all_taken, back_step, buffer_filled, count_second, few_step, front_step}
+use Rattle.rustc_lexer_c.proofs.BufferLemmas.{left_step}
 
 -- what is left past one more, if there is one
 pub passed_step : {X : Type 0} (all at past : List X) (over : ℕ) (next : Option X) → at ≡ drop over all
@@ -47,8 +44,12 @@ units_few mode text is = grind (arith, common_steps, cond_both, le-max_left, ite
 
 pub errors_few : (mode : Mode) (text : List ℕ) → IsUtf8 text → length (wrong_units_of mode text) ≤ max 1 (length text)
 errors_few mode text is =
-    omega (arith, errors_of-few mode (unix text) (utf8-unix text is), unix-shorter text,
-        length-map {B = Error} (errors_of mode (unix text)) (λ (e : Error). (moved text e.0, e.1)),
-        length-map (file_errors mode text) (λ (e : Error). wrong_unit e.0 e.1))
+    omega (
+      arith,
+      errors_of-few mode (unix text) (utf8-unix text is),
+      unix-shorter text,
+      length-map {B = Error} (errors_of mode (unix text)) (λ (e : Error). (moved text e.0, e.1)),
+      length-map (file_errors mode text) (λ (e : Error). wrong_unit e.0 e.1),
+    )
 
 pub ruleset fill_lemmas = (passed_step, few_step, length-set, front_step, back_step)

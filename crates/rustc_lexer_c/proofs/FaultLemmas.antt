@@ -4,9 +4,8 @@ use Rattle.std.proofs.lemmas.Grind.{common_steps}
 use Rattle.rustc_lexer.specs.declared.{edition.{Edition.{Edition, TheVariants.{E2024}}}, token.Token.{Token}}
 use Rattle.rustc_lexer.specs.declared.token.Base.TheVariants.{Binary, Octal, Decimal, Hexadecimal}
 use Rattle.rustc_lexer.specs.declared.token.LiteralKind.{LiteralKind}
-use Rattle.rustc_lexer.specs.declared.token.LiteralKind.TheVariants.{
-    Int, Float, Char, Byte, Str, ByteStr, CStr, RawStr, RawByteStr, RawCStr
-}
+use Rattle.rustc_lexer.specs.declared.token.LiteralKind.TheVariants.{Int, Float, Char, Byte, Str, ByteStr, CStr, RawStr}
+use Rattle.rustc_lexer.specs.declared.token.LiteralKind.TheVariants.{RawByteStr, RawCStr}
 use Rattle.rustc_lexer.specs.declared.token.TokenKind.{TokenKind, TheVariants.{Literal}}
 use Rattle.rustc_lexer.specs.Kinds.{kind_entry, literal_entry}
 use Rattle.rustc_lexer_c.specs.{declared.token.CToken.{CToken}, Faults.{kind_of}}
@@ -17,7 +16,7 @@ abbrev AreKept : TokenKind → ℕ → List ℕ → Edition → Type 0
 AreKept kind len text edition =
     let numbers : CToken = token_numbers record { kind = kind; len = len } in
     (class_of (kind_of numbers) text edition ≡ class_of kind text edition)
-        × (fault_of (kind_of numbers) text ≡ fault_of kind text)
+    × (fault_of (kind_of numbers) text ≡ fault_of kind text)
 
 literal_kept : (kind : LiteralKind) (suffix_start len : ℕ) (text : List ℕ) (edition : Edition)
     → AreKept (Literal kind suffix_start) len text edition

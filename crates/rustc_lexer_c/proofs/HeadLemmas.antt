@@ -1,7 +1,6 @@
 -- The head of a document as numbers, and back.
-use Rattle.std.proofs.Common.{
-    ◌≡◌, ℕ, zero, suc, Bool, true, not, List, drop, nat_eq, refl, sym, ap, ◌∙◌, subst, arith, Option, Some, None
-}
+use Rattle.std.proofs.Common.{◌≡◌, ℕ, zero, suc, Bool, true, not, List, drop, nat_eq, refl, sym, ap, ◌∙◌, subst, arith}
+use Rattle.std.proofs.Common.{Option, Some, None}
 use Rattle.std.proofs.lemmas.Grind.{common_steps}
 use Rattle.rustc_lexer.specs.declared.{head.Head.{Head}, relex.relexing.Change.{Change}, token.Token.{Token}}
 use Rattle.rustc_lexer.specs.{declared.token.TokenKind.{TokenKind}, Answers.{first_in}, Classes.{IsText}}
@@ -25,15 +24,19 @@ kind-back kind len w2 = grind (arith, common_steps, bool-back)
 back_with : (n end space : ℕ) (front : Option Token) → (front ≡ None → space ≡ 0)
     → ((t : Token) → front ≡ Some t → is_frontmatter t.kind ≡ true)
     → head_of (numbers_of_head (record { tokens_start = n; space_len = space; frontmatter = front; body = end })) ≡
-        record { tokens_start = n; space_len = space; frontmatter = front; body = end }
+    record { tokens_start = n; space_len = space; frontmatter = front; body = end }
 unfolding token_numbers first_of second_of
 back_with n end space None bare is = rw (bare refl) refl
 back_with n end zero (Some t) bare is =
     ap (λ (f : Token). let h : Head = record { tokens_start = n; space_len = 0; frontmatter = Some f; body = end } in
     h) (kind-back t.kind t.len (is t refl))
 back_with n end (suc m) (Some t) bare is =
-    ap (λ (f : Token). let h : Head = record { tokens_start = n; space_len = suc m; frontmatter = Some f;
-    body = end } in h) (kind-back t.kind t.len (is t refl))
+    ap (λ (f : Token). let h : Head = record {
+      tokens_start = n;
+      space_len = suc m;
+      frontmatter = Some f;
+      body = end;
+    } in h) (kind-back t.kind t.len (is t refl))
 
 module _ (text : List ℕ) (is : IsText text) where
   -- a head of the text has the numbers of the text
@@ -81,8 +84,8 @@ module _ (text : List ℕ) (is : IsText text) (edit : CEdit) (c : CHead) (body :
 
     pub found : IsChange text (change_of edit) → IsChange (drop now.body text) change
         → FindsHead text edit c (numbers_of_head now) body
-            (record { start = change.start; old_stop = change.old_stop; new_stop = change.new_stop }) kept
-            (bool_number keeps) 0
+        (record { start = change.start; old_stop = change.old_stop; new_stop = change.new_stop }) kept
+        (bool_number keeps) 0
     found fine may = record {
       status_is = grind (arith, common_steps);
       head = λ _. numbers_are text is now is_now;

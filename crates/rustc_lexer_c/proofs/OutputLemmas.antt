@@ -1,8 +1,6 @@
 -- What many writes into a buffer of a caller's come to.
-use Rattle.std.proofs.Common.{
-    ◌≡◌, ◌≤◌, ◌+◌, ◌-◌, ℕ, List, [], ◌∷◌, length, take, drop, ◌++◌, refl, sym, ap, subst, ◌∙◌, arith, append_assoc,
-    append-nil
-}
+use Rattle.std.proofs.Common.{◌≡◌, ◌≤◌, ◌+◌, ◌-◌, ℕ, List, [], ◌∷◌, length, take, drop, ◌++◌, refl, sym, ap, subst, ◌∙◌}
+use Rattle.std.proofs.Common.{arith, append_assoc, append-nil}
 use Rattle.std.proofs.lemmas.{Grind.{common_steps}, List.{drop-drop, length-take-le}}
 use Rattle.std.proofs.lemmas.Slice.{drop-put_mid, take-put_mid}
 use borrow.Rule.Slice.PartMut.{put_mid}
@@ -33,8 +31,13 @@ drop_later m n xs ys low same =
 appends_all : (s : Buffer) (parts : List (List ℕ)) (t : Buffer) → s.len ≤ length s.bytes.now → FoldsTo Appends s parts t
     → Appends s (concat parts) t
 appends_all s [] t low is =
-    subst (Appends s []) is record { same_reference = refl; within = low; more = omega arith;
-    written = sym (append-nil _); rest = refl }
+    subst (Appends s []) is record {
+      same_reference = refl;
+      within = low;
+      more = omega arith;
+      written = sym (append-nil _);
+      rest = refl;
+    }
 appends_all s (x ∷ xs) t low p =
     grind (arith, common_steps, append_assoc, drop_later, appends_all p.0 xs t (p.1).within p.2)
 

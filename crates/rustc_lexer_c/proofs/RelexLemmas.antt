@@ -1,9 +1,7 @@
 -- How far a text is relexed, as numbers and back.
 use Rattle.std.specs.Prelude.{IfSome}
-use Rattle.std.proofs.Common.{
-    ◌≡◌, ◌≢◌, ℕ, ◌+◌, ◌-◌, ◌<◌, ◌≤◌, true, List, ◌++◌, length, map, take, drop, refl, sym, ap, ◌∙◌, subst, arith,
-    take-add, Option, Some, None
-}
+use Rattle.std.proofs.Common.{◌≡◌, ◌≢◌, ℕ, ◌+◌, ◌-◌, ◌<◌, ◌≤◌, true, List, ◌++◌, length, map, take, drop, refl, sym, ap}
+use Rattle.std.proofs.Common.{◌∙◌, subst, arith, take-add, Option, Some, None}
 use Rattle.std.proofs.lemmas.{Grind.{common_steps}, List.{length-map, length-take-le, drop_at, take-map, drop-map}}
 use Rattle.rustc_lexer.specs.declared.{edition.Edition.{Edition}, relex.relexing.Relexed.{Relexed}}
 use Rattle.rustc_lexer.specs.declared.{relex.relexing.Relexing.{Relexing}, token.Token.{Token}}
@@ -12,14 +10,12 @@ use Rattle.rustc_lexer.specs.{Edits.{IsRelexed, part_by}, Relexing.{known}}
 use Rattle.rustc_lexer.specs.Relexing.{IsChange, IsMadeOf, IsUnderWay, IsWhole, MayGoOn, TakesSteps, is_over}
 use Rattle.rustc_lexer.specs.{Classes.{IsText}, LanguageCalls.{edition_of_year}}
 use Rattle.rustc_lexer.specs.{Locality.{IsGrammar}, laws.Edition.{edition_grammar}}
-use Rattle.rustc_lexer.proofs.lemmas.edits.{
-    OneAnswer.{counts_of, relexed_is}, UnderWay.{over_met, few_lexed, counts_met}
-}
+use Rattle.rustc_lexer.proofs.lemmas.edits.OneAnswer.{counts_of, relexed_is}
+use Rattle.rustc_lexer.proofs.lemmas.edits.UnderWay.{over_met, few_lexed, counts_met}
 use Rattle.rustc_lexer_c.specs.declared.{relex.{CEdit.{CEdit}, CRelexing.{CRelexing}}, token.CToken.{CToken}}
 use Rattle.rustc_lexer_c.specs.Numbers.{token_numbers}
-use Rattle.rustc_lexer_c.specs.Relex.{
-    IsPassed, IsRelexBatch, MayRelex, Relexes, change_of, front_of, lexed_before, numbers_of, relexing_of, written
-}
+use Rattle.rustc_lexer_c.specs.Relex.{IsPassed, IsRelexBatch, MayRelex, Relexes, change_of, front_of, lexed_before}
+use Rattle.rustc_lexer_c.specs.Relex.{numbers_of, relexing_of, written}
 
 -- what follows for the value of an `Option`, if there is one
 pub if_some : {X : Type 0} {P Q : X → Type 0} (r : Option X) → IfSome r P → ((x : X) → P x → Q x) → IfSome r Q
@@ -71,12 +67,12 @@ module _ (edition : Edition) (text : List ℕ) (old : List CToken) (change : CEd
       → MayGoOn text (length old) at → (count < length buffer → is_over text at ≡ true) → begin.lexed ≡ lexed_before c
       → (c.stage ≢ 0 → begin.front ≡ front_of c)
       → ((first : List ℕ → Token) (before insert : List ℕ) → IsGrammar first
-          → IsMadeOf first before lens (change_of change) insert text
-          → IsPassed first before (change_of change) text (length old) c
-          → IsUnderWay first before (change_of change) text begin)
+      → IsMadeOf first before lens (change_of change) insert text
+      → IsPassed first before (change_of change) text (length old) c
+      → IsUnderWay first before (change_of change) text begin)
       → ((before insert : List ℕ) → IsMadeOf first before lens (change_of change) insert text
-          → IsUnderWay first before (change_of change) text begin → IsUnderWay first before (change_of change) text at
-          × (tokens_by first (drop begin.at text) ≡ drop (known begin) (tokens_by first text)))
+      → IsUnderWay first before (change_of change) text begin → IsUnderWay first before (change_of change) text at
+      × (tokens_by first (drop begin.at text) ≡ drop (known begin) (tokens_by first text)))
       → IsRelexBatch edition text old change c buffer (numbers_of text (length old) at) filled count
   batch_is within steps tokens may over_of before_lexed begun_front begun stands = record {
     within = within;
@@ -98,12 +94,12 @@ module _ (edition : Edition) (text : List ℕ) (old : List CToken) (change : CEd
         let at_begin : known begin ≡ at.front.index + lexed_before c = omega arith in
         let many : length lens ≡ length old = length-map old (λ (t : CToken). t.len) in
         let all : length (tokens_by first before) ≡ length old =
-            sym (length-map (tokens_by first before) (λ (t : Token). t.len))
-            ∙ (ap (λ (ns : List ℕ). length ns) (sym is.lengths_are) ∙ many) in
+        sym (length-map (tokens_by first before) (λ (t : Token). t.len))
+        ∙ (ap (λ (ns : List ℕ). length ns) (sym is.lengths_are) ∙ many) in
         let left : tokens_by first (drop begin.at text) ≡ drop (at.front.index + lexed_before c)
-            (tokens_of (part edition) text) = so.1 ∙ ap (λ n. drop n (tokens_of (part edition) text)) at_begin in
+        (tokens_of (part edition) text) = so.1 ∙ ap (λ n. drop n (tokens_of (part edition) text)) at_begin in
         let filled_is = tokens ∙ ap (λ (ts : List Token). map token_numbers (take count ts) ++ drop count buffer)
-            left in
+        left in
         let back : length old - (length old - at.back.index) ≡ at.back.index = (let few = may.number in omega arith) in
         record {
           passed = record {
@@ -132,12 +128,12 @@ module _ (edition : Edition) (text : List ℕ) (old : List CToken) (change : CEd
       → MayGoOn text (length old) at → (count < length buffer → is_over text at ≡ true) → begin.lexed ≡ lexed_before c
       → (c.stage ≢ 0 → begin.front ≡ front_of c)
       → ((first : List ℕ → Token) (before insert : List ℕ) → IsGrammar first
-          → IsMadeOf first before lens (change_of change) insert text
-          → IsPassed first before (change_of change) text (length old) c
-          → IsUnderWay first before (change_of change) text begin)
+      → IsMadeOf first before lens (change_of change) insert text
+      → IsPassed first before (change_of change) text (length old) c
+      → IsUnderWay first before (change_of change) text begin)
       → ((before insert : List ℕ) → IsMadeOf first before lens (change_of change) insert text
-          → IsUnderWay first before (change_of change) text begin → IsUnderWay first before (change_of change) text at
-          × (tokens_by first (drop begin.at text) ≡ drop (known begin) (tokens_by first text)))
+      → IsUnderWay first before (change_of change) text begin → IsUnderWay first before (change_of change) text at
+      × (tokens_by first (drop begin.at text) ≡ drop (known begin) (tokens_by first text)))
       → Relexes text old change year c (numbers_of text (length old) at) buffer filled count 0
   relexed is year year_is asked within steps tokens may over_of before_lexed begun_front begun stands = record {
     status_is = record {

@@ -53,6 +53,6 @@ module _ {X : Type 0} (xs ys : List X) (front back count : ℕ) (apart : front +
       ∙ (ap (λ n. take n (take front moved ++ rest)) sum
       ∙ (take-append-add (take front moved) rest (length ys + back)
       ∙ (ap (λ l. take front moved ++ l)
-          (take-append-add ys (drop end moved) back ∙ ap (λ l. ys ++ l) (back_of ∙ sym last_of))
+      (take-append-add ys (drop end moved) back ∙ ap (λ l. ys ++ l) (back_of ∙ sym last_of))
       ∙ ap (λ l. l ++ (ys ++ drop (count - back) (take count xs)))
-          (front_of ∙ sym (take-take front count xs (omega arith))))))
+      (front_of ∙ sym (take-take front count xs (omega arith))))))

@@ -5,14 +5,13 @@ use Rattle.rustc_lexer.specs.declared.token.Base.{Base}
 use Rattle.rustc_lexer.specs.declared.token.Base.TheVariants.{Binary, Octal, Decimal, Hexadecimal}
 use Rattle.rustc_lexer.specs.declared.token.DocStyle.TheVariants.{Outer}
 use Rattle.rustc_lexer.specs.declared.token.LiteralKind.{LiteralKind}
-use Rattle.rustc_lexer.specs.declared.token.LiteralKind.TheVariants.{
-    Int, Float, Char, Byte, Str, ByteStr, RawStr, RawByteStr, RawCStr
-}
+use Rattle.rustc_lexer.specs.declared.token.LiteralKind.TheVariants.{Int, Float, Char, Byte, Str, ByteStr, RawStr}
+use Rattle.rustc_lexer.specs.declared.token.LiteralKind.TheVariants.{RawByteStr, RawCStr}
 use Rattle.rustc_lexer.specs.declared.token.TokenKind.{TokenKind}
-use Rattle.rustc_lexer.specs.declared.token.TokenKind.TheVariants.{
-    LineComment, BlockComment, Whitespace, Frontmatter, Ident, InvalidIdent, RawIdent, UnknownPrefix,
-    UnknownPrefixLifetime, RawLifetime, GuardedStrPrefix, Literal, Lifetime, Unknown
-}
+use Rattle.rustc_lexer.specs.declared.token.TokenKind.TheVariants.{LineComment, BlockComment, Whitespace, Frontmatter}
+use Rattle.rustc_lexer.specs.declared.token.TokenKind.TheVariants.{Ident, InvalidIdent, RawIdent, UnknownPrefix}
+use Rattle.rustc_lexer.specs.declared.token.TokenKind.TheVariants.{UnknownPrefixLifetime, RawLifetime, GuardedStrPrefix}
+use Rattle.rustc_lexer.specs.declared.token.TokenKind.TheVariants.{Literal, Lifetime, Unknown}
 use Rattle.marks.specs.Class.{class_number, class_of}
 use Rattle.marks.specs.declared.fault.Fault.{Fault}
 use Rattle.marks.specs.Fault.{fault_number}

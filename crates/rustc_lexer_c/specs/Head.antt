@@ -1,7 +1,6 @@
 -- The head of a document, as C sees it, and how an edit of the document changes its body.
-use Rattle.std.specs.Prelude.{
-    ℕ, zero, suc, ◌≡◌, ◌≢◌, ◌<◌, ◌≤◌, ◌^◌, Bool, not, nat_eq, List, [], ◌∷◌, length, drop, get_or, Some, None
-}
+use Rattle.std.specs.Prelude.{ℕ, zero, suc, ◌≡◌, ◌≢◌, ◌<◌, ◌≤◌, ◌^◌, Bool, not, nat_eq, List, [], ◌∷◌, length, drop}
+use Rattle.std.specs.Prelude.{get_or, Some, None}
 use Rattle.std.specs.Str.{IsUtf8}
 use Rattle.rustc_lexer.specs.declared.head.Head.{Head}
 use Rattle.rustc_lexer.specs.declared.token.Token.{Token}

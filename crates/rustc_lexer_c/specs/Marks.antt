@@ -1,16 +1,14 @@
 -- Marked tokens, as C sees them: the numbers of the styles, and the status of the call.
-use Rattle.std.specs.Prelude.{
-    ℕ, ◌≡◌, ◌≤◌, ◌<◌, ◌^◌, ◌⊎◌, nat_eq, if◌then◌else◌, List, length, take, drop, Option, Some, None
-}
+use Rattle.std.specs.Prelude.{ℕ, ◌≡◌, ◌≤◌, ◌<◌, ◌^◌, ◌⊎◌, nat_eq, if◌then◌else◌, List, length, take, drop, Option, Some}
+use Rattle.std.specs.Prelude.{None}
 use Rattle.std.specs.Str.{IsUtf8}
 use Rattle.rustc_lexer.specs.declared.edition.Edition.{Edition}
 use Rattle.rustc_lexer.specs.LanguageCalls.{edition_of_year}
 use Rattle.rustc_lexer.specs.Classes.{IsText}
 use Rattle.marks.specs.declared.format.Format.{Format}
 use Rattle.marks.specs.declared.format.Format.TheVariants.{Html, Colours, NoColours}
-use Rattle.rustc_lexer_c.specs.declared.status.Refusal.TheVariants.{
-    BadEdition, BadFormat, NotUtf8, SmallBuffer, TooLong
-}
+use Rattle.rustc_lexer_c.specs.declared.status.Refusal.TheVariants.{BadEdition, BadFormat, NotUtf8, SmallBuffer}
+use Rattle.rustc_lexer_c.specs.declared.status.Refusal.TheVariants.{TooLong}
 use Rattle.rustc_lexer_c.specs.Status.{OK, refusal_number}
 
 -- the format with this number. Numbers never change: a new format gets a new one

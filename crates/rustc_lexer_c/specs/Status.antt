@@ -5,9 +5,8 @@ use Rattle.rustc_lexer.specs.declared.edition.Edition.{Edition}
 use Rattle.rustc_lexer.specs.Classes.{IsText}
 use Rattle.rustc_lexer.specs.LanguageCalls.{edition_of_year}
 use Rattle.rustc_lexer_c.specs.declared.status.Refusal.{Refusal}
-use Rattle.rustc_lexer_c.specs.declared.status.Refusal.TheVariants.{
-    NotUtf8, TooLong, BadPlace, NotRaw, BadEdition, BadEdit, BadMode, BadFormat, SmallBuffer
-}
+use Rattle.rustc_lexer_c.specs.declared.status.Refusal.TheVariants.{NotUtf8, TooLong, BadPlace, NotRaw, BadEdition}
+use Rattle.rustc_lexer_c.specs.declared.status.Refusal.TheVariants.{BadEdit, BadMode, BadFormat, SmallBuffer}
 
 -- the call was done
 abbrev pub OK : ℕ

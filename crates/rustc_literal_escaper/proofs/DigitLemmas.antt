@@ -1,15 +1,14 @@
 -- The digits between braces, one by one, and the tables of digits and of the escapes of one character.
-use Rattle.std.proofs.Common.{
-    ◌≡◌, ℕ, zero-add, add-zero, ◌+◌, ◌*◌, ◌^◌, ◌<◌, ◌≤◌, ◌==◌, ◌||◌, Bool, true, false, if◌then◌else◌, List, [], ◌∷◌,
-    length, fold, filter, refl, sym, ap, ◌∙◌, subst, arith, nat_le, nat_lt, min, get_or
-}
+use Rattle.std.proofs.Common.{◌≡◌, ℕ, zero-add, add-zero, ◌+◌, ◌*◌, ◌^◌, ◌<◌, ◌≤◌, ◌==◌, ◌||◌, Bool, true, false}
+use Rattle.std.proofs.Common.{if◌then◌else◌, List, [], ◌∷◌, length, fold, filter, refl, sym, ap, ◌∙◌, subst, arith}
+use Rattle.std.proofs.Common.{nat_le, nat_lt, min, get_or}
 use Rattle.std.specs.Char.{digit_value}
 use Rattle.std.proofs.{lemmas.{Bool.{ne_eqb, Decides.{nat_tests}}}, Math.Nat.{pow-le-pow_right}}
 use Rattle.std.proofs.lemmas.{Grind.{common_steps}, List.FromFn.{get_or-map-range_with_len}}
 use Rattle.rustc_literal_escaper.specs.declared.element.Element.{Element, TheVariants.{Unicode, Fault}}
-use Rattle.rustc_literal_escaper.specs.declared.error.EscapeError.TheVariants.{
-    InvalidCharInUnicodeEscape, UnclosedUnicodeEscape, OverlongUnicodeEscape
-}
+use Rattle.rustc_literal_escaper.specs.declared.error.EscapeError.TheVariants.{InvalidCharInUnicodeEscape}
+use Rattle.rustc_literal_escaper.specs.declared.error.EscapeError.TheVariants.{UnclosedUnicodeEscape}
+use Rattle.rustc_literal_escaper.specs.declared.error.EscapeError.TheVariants.{OverlongUnicodeEscape}
 use Rattle.rustc_literal_escaper.specs.{Grammar.{is_hex, is_digit_or_underscore}, laws.Escape.{digit-runs}}
 use Rattle.rustc_literal_escaper.specs.means.Escape.{closed_at_run, front_run, past_run, short}
 use Rattle.rustc_literal_escaper.specs.declared.escape.TheConstants.{DIGITS, SHORT}
@@ -102,9 +101,18 @@ left_at-many v n c s many e =
     sym (by_digit is_digit_or_underscore is_hex v n c s (digit-runs c e) e
     ∙ closed-many v n (digit_value c) (front_run is_digit_or_underscore s) (past_run is_digit_or_underscore s) many)
 
-pub ruleset digit_lemmas =
-    (left_at-start, left_at-end, left_at-underscore, left_at-brace, left_at-digit, left_at-first, left_at-other,
-    left_at-many, hex-yes, hex-no)
+pub ruleset digit_lemmas = (
+  left_at-start,
+  left_at-end,
+  left_at-underscore,
+  left_at-brace,
+  left_at-digit,
+  left_at-first,
+  left_at-other,
+  left_at-many,
+  hex-yes,
+  hex-no,
+)
 
 -- ---- the tables in ASCII; past it there are none
 

@@ -26,8 +26,15 @@ few g.nothing = omega arith
 few (g.element {next} {w} is other are) = omega (arith, length-append w next, some is, few are)
 few (g.raw_element is are) = omega (arith, few are)
 few (g.line_end {from} {next} {items} space all stops are) =
-    omega (arith, length-append {A = Item}, length-append space next, one (list_any is_newline space)
-    (item from (Fault MultipleSkippedLinesWarning) (92 ∷ 10 ∷ space)), space-few from space next, few are)
+    omega (
+      arith,
+      length-append {A = Item},
+      length-append space next,
+      one (list_any is_newline space)
+          (item from (Fault MultipleSkippedLinesWarning) (92 ∷ 10 ∷ space)),
+      space-few from space next,
+      few are,
+    )
 
 pub items-few : (raw : Bool) (text : List ℕ) → IsUtf8 text → length (items_of raw text) ≤ length text
 items-few raw text is =

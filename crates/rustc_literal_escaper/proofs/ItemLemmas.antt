@@ -14,7 +14,7 @@ front_by-plain raw c s e = grind (arith, common_steps, not-true, and_parts)
 -- it is an item
 pub items-plain : (raw : Bool) (total c : ℕ) (s : List ℕ) → is_plain raw c ≡ true
     → items_from (front_by raw) total (c ∷ s) ≡ item_at total (place total (c ∷ s)) (Plain c, s) ∷ items_from
-        (front_by raw) total s
+    (front_by raw) total s
 items-plain raw total c s e = items-one raw (place total) c s s (Plain c) (front_by-plain raw c s e)
 
 pub stands_for_itself : (raw : Bool) (text : List ℕ) → StandsForItself raw text

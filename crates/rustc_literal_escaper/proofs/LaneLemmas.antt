@@ -1,8 +1,6 @@
 -- A run of bytes that pass a test, seen a vector at a time through the mask of those that fail it.
-use Rattle.std.proofs.Common.{
-    ◌≡◌, ℕ, zero, suc, leb, cond, eqb, ◌+◌, ◌*◌, ◌%◌, ◌^◌, ◌<◌, ◌≤◌, Bool, true, not, List, [], ◌∷◌, map, length, take,
-    drop, refl, sym, ap, ap₂, ◌∙◌, arith, w8, Fits
-}
+use Rattle.std.proofs.Common.{◌≡◌, ℕ, zero, suc, leb, cond, eqb, ◌+◌, ◌*◌, ◌%◌, ◌^◌, ◌<◌, ◌≤◌, Bool, true, not, List}
+use Rattle.std.proofs.Common.{[], ◌∷◌, map, length, take, drop, refl, sym, ap, ap₂, ◌∙◌, arith, w8, Fits}
 use Rattle.std.specs.List.{list_all, prefix_len}
 use Rattle.std.proofs.lemmas.Bool.{agree_below, agree_below_at, eq-eqb, ne_eqb}
 use Rattle.std.proofs.lemmas.Simd.{chunk-drop, length-chunk, leading_from_mask_l, mask_l-mod, trailing_mask_l}
@@ -23,7 +21,7 @@ pub masked : (f : ℕ → ℕ) (p : ℕ → Bool) (v z : List ℕ) → length v 
     → mask_l (map (top 7) z) % 2 ^ 64 ≡ mask_l (map p v)
 masked f p v z short fits e all =
     ap (λ l. mask_l l % 2 ^ 64) (ap (map (top 7)) e ∙ each_byte f p all v fits)
-        ∙ mask_l-mod (map p v) 64 (omega (arith, length-map v p))
+    ∙ mask_l-mod (map p v) 64 (omega (arith, length-map v p))
 
 -- `simd_ge` of a vector with a splat: the splat stands first
 abbrev pub least : ℕ → ℕ → ℕ
@@ -48,7 +46,7 @@ module _ (q : ℕ → Bool) where
 
   split : (d : List ℕ) (i n : ℕ)
       → prefix_len q (drop i d) ≡ cond (eqb (prefix_len q (chunk i n d)) (length (chunk i n d)))
-          (length (chunk i n d) + prefix_len q (drop (i + n) d)) (prefix_len q (chunk i n d))
+      (length (chunk i n d) + prefix_len q (drop (i + n) d)) (prefix_len q (chunk i n d))
   split d i n = ap (prefix_len q) (chunk-drop i n d) ∙ prefix_len-append q (chunk i n d) (drop (i + n) d)
 
   pub run_through : (d : List ℕ) (i n : ℕ) → i + n ≤ length d → mask_l (map fails (chunk i n d)) ≡ 0
@@ -56,14 +54,23 @@ module _ (q : ℕ → Bool) where
   run_through d i n room none =
       let c = chunk i n d in
       split d i n ∙ ap (λ b. cond b (length c + prefix_len q (drop (i + n) d)) (prefix_len q c))
-          (eq-eqb _ _ (sym (twice c) ∙ leading_from_mask_l fails c none))
+      (eq-eqb _ _ (sym (twice c) ∙ leading_from_mask_l fails c none))
       ∙ ap (λ k. k + prefix_len q (drop (i + n) d)) (length-chunk i n d room)
 
   pub run_stops : (d : List ℕ) (i n : ℕ) → i + n ≤ length d → n ≤ 64 → 0 < mask_l (map fails (chunk i n d))
       → prefix_len q (drop i d) ≡ count_trailing_zeros 64 (mask_l (map fails (chunk i n d)))
   run_stops d i n room short some =
-      grind (arith, common_steps, chunk i n d, split d i n, ne_eqb, twice (chunk i n d), trailing_mask_l, all_pass,
-          length-chunk)
+      grind (
+        arith,
+        common_steps,
+        chunk i n d,
+        split d i n,
+        ne_eqb,
+        twice (chunk i n d),
+        trailing_mask_l,
+        all_pass,
+        length-chunk,
+      )
 
   -- the front of the run
   pub run_front : (d : List ℕ) (n : ℕ) → n ≤ prefix_len q d → list_all q (take n d) ≡ true

@@ -1,29 +1,22 @@
 -- The text before each item and after it is cut between characters, and the places of the items make up the text.
-use Rattle.std.proofs.Common.{
-    ◌≡◌, ℕ, ◌+◌, ◌<◌, Bool, true, false, if◌then◌else◌, List, [], ◌∷◌, ◌++◌, length-append, append_assoc, refl, sym, ap,
-    subst, ◌∙◌, arith, length, filter
-}
+use Rattle.std.proofs.Common.{◌≡◌, ℕ, ◌+◌, ◌<◌, Bool, true, false, if◌then◌else◌, List, [], ◌∷◌, ◌++◌, length-append}
+use Rattle.std.proofs.Common.{append_assoc, refl, sym, ap, subst, ◌∙◌, arith, length, filter}
 use Rattle.std.specs.{Prelude.{IsCharBoundary}, Char.{is_whitespace, is_ascii}, List.{list_any, list_all}}
 use Rattle.std.specs.Str.{all_scalars, chars, encode_utf8_all, IsUtf8}
 use Rattle.std.proofs.lemmas.{Bool.{and_parts}, List.Elements.{All-append, All-cons, All-nil, filter-append}}
-use Rattle.std.proofs.lemmas.Str.{
-    encodes-append, encodes-chars, scalars-chars, length-le-encodes, IsCharBoundary-at_seam, encodes-IsAscii
-}
+use Rattle.std.proofs.lemmas.Str.{encodes-append, encodes-chars, scalars-chars, length-le-encodes}
+use Rattle.std.proofs.lemmas.Str.{IsCharBoundary-at_seam, encodes-IsAscii}
 use Rattle.std.specs.declared.ops.Range.{Range}
 use Rattle.std.proofs.lemmas.{Bool.Decides.{nat_tests}, Grind.{common_steps}}
 use Rattle.rustc_literal_escaper.specs.declared.element.Element.{Element, TheVariants.{Fault}}
-use Rattle.rustc_literal_escaper.specs.declared.error.EscapeError.TheVariants.{
-    MultipleSkippedLinesWarning, UnskippedWhitespaceWarning
-}
+use Rattle.rustc_literal_escaper.specs.declared.error.EscapeError.TheVariants.{MultipleSkippedLinesWarning}
+use Rattle.rustc_literal_escaper.specs.declared.error.EscapeError.TheVariants.{UnskippedWhitespaceWarning}
 use Rattle.rustc_literal_escaper.specs.Answers.{items_of}
 use Rattle.rustc_literal_escaper.specs.Grammar as g
-use Rattle.rustc_literal_escaper.specs.Grammar.{
-    AreItems, IsElementBefore, Item, bytes, is_newline, item, lines_warning, space_warning, IsEscapeBefore,
-    IsRawElement, is_passed_over
-}
-use Rattle.rustc_literal_escaper.specs.Items.{
-    ArePlaced, IsPlaced, AreLineEnds, IsMadeOf, IsRebuilt, is_unit, is_warning, places_of
-}
+use Rattle.rustc_literal_escaper.specs.Grammar.{AreItems, IsElementBefore, Item, bytes, is_newline, item, lines_warning}
+use Rattle.rustc_literal_escaper.specs.Grammar.{space_warning, IsEscapeBefore, IsRawElement, is_passed_over}
+use Rattle.rustc_literal_escaper.specs.Items.{ArePlaced, IsPlaced, AreLineEnds, IsMadeOf, IsRebuilt, is_unit}
+use Rattle.rustc_literal_escaper.specs.Items.{is_warning, places_of}
 use Rattle.rustc_literal_escaper.specs.laws.{Elements.{bytes-append, either}, TheAnswers.{items-are}}
 use Rattle.rustc_literal_escaper.proofs.{FewLemmas.{some}, WrittenLemmas.{all-weaker, is-ascii}}
 
@@ -42,9 +35,9 @@ module _ (text : List ℕ) (is : IsUtf8 text) where
   boundary : (before s : List ℕ) → before ++ s ≡ chars text → IsCharBoundary text (bytes before)
   boundary before s whole =
       let cut : text ≡ encode_utf8_all before ++ encode_utf8_all s = sym (encodes-chars text is)
-          ∙ (ap encode_utf8_all (sym whole) ∙ encodes-append before s) in
+      ∙ (ap encode_utf8_all (sym whole) ∙ encodes-append before s) in
       IsCharBoundary-at_seam text (encode_utf8_all before) (encode_utf8_all s) cut
-          (s, (scalars-end before s (ap all_scalars whole ∙ scalars-chars text is), refl))
+      (s, (scalars-end before s (ap all_scalars whole ∙ scalars-chars text is), refl))
 
   -- the text from the offset `from` on is `s`
   record Stands (from : ℕ) (s : List ℕ) : Type 0 where
@@ -75,7 +68,7 @@ module _ (text : List ℕ) (is : IsUtf8 text) where
       let line : List ℕ = 92 ∷ 10 ∷ (space ++ c ∷ []) in
       if-placed (is_whitespace c) (item from (Fault UnskippedWhitespaceWarning) line)
       (item-placed from (Fault UnskippedWhitespaceWarning) line next (bytes-some 92 (10 ∷ (space ++ c ∷ [])))
-          (subst (Stands from) (ap (λ xs. 92 ∷ 10 ∷ xs) (sym (append_assoc space (c ∷ []) next))) here))
+      (subst (Stands from) (ap (λ xs. 92 ∷ 10 ∷ xs) (sym (append_assoc space (c ∷ []) next))) here))
 
   placed : {raw : Bool} {from : ℕ} {s : List ℕ} {items : List Item} → AreItems raw from s items → Stands from s
       → ArePlaced text items
@@ -91,7 +84,7 @@ module _ (text : List ℕ) (is : IsUtf8 text) where
       All-append (IsPlaced text) (lines_warning from space ++ space_warning from space next) items
       (All-append (IsPlaced text) (lines_warning from space) (space_warning from space next)
       (if-placed (list_any is_newline space) (item from (Fault MultipleSkippedLinesWarning) line)
-          (item-placed from (Fault MultipleSkippedLinesWarning) line next (bytes-some 92 (10 ∷ space)) here))
+      (item-placed from (Fault MultipleSkippedLinesWarning) line next (bytes-some 92 (10 ∷ space)) here))
       (space-placed from space next here))
       (placed are (past from line next here))
 
@@ -126,15 +119,18 @@ line-ascii space all =
 -- in front of what is made of some places it changes nothing
 skip : (space : List ℕ) → list_all is_passed_over space ≡ true → (from : ℕ) (left : List ℕ) (places : List (Range ℕ))
     → IsMadeOf false (from + bytes (92 ∷ 10 ∷ space)) left places
-        → IsMadeOf false from (92 ∷ 10 ∷ (space ++ left)) places
+    → IsMadeOf false from (92 ∷ 10 ∷ (space ++ left)) places
 skip space e from left [] made = (space ∷ made.0, rw e made.1, ap (λ (xs : List ℕ). 92 ∷ 10 ∷ (space ++ xs)) made.2)
 skip space e from left (r ∷ places) made = (
   made.0,
   record {
     skipped = 92 ∷ 10 ∷ (space ++ made.1.skipped);
     covered = made.1.covered;
-    line_ends = (space ∷ made.1.line_ends.0, rw e made.1.line_ends.1,
-        ap (λ (xs : List ℕ). 92 ∷ 10 ∷ (space ++ xs)) made.1.line_ends.2);
+    line_ends = (
+      space ∷ made.1.line_ends.0,
+      rw e made.1.line_ends.1,
+      ap (λ (xs : List ℕ). 92 ∷ 10 ∷ (space ++ xs)) made.1.line_ends.2,
+    );
     start = (let s = made.1.start in let l = length-append space made.1.skipped in
         let n = ap length (line-ascii space e) in omega arith);
     end = made.1.end;
@@ -154,8 +150,14 @@ space-none from space next = grind (arith, common_steps, if-none)
 warnings-none : (from : ℕ) (space next : List ℕ) (items : List Item)
     → places_of (lines_warning from space ++ space_warning from space next ++ items) ≡ places_of items
 warnings-none from space next items =
-    grind (arith, common_steps, filter-append, if-none (list_any is_newline space)
-    (item from (Fault MultipleSkippedLinesWarning) (92 ∷ 10 ∷ space)) refl, space-none from space next)
+    grind (
+      arith,
+      common_steps,
+      filter-append,
+      if-none (list_any is_newline space)
+          (item from (Fault MultipleSkippedLinesWarning) (92 ∷ 10 ∷ space)) refl,
+      space-none from space next,
+    )
 
 -- ---- the items of a text
 
@@ -167,9 +169,18 @@ one-made : (raw : Bool) (from : ℕ) (e : Element) (w next : List ℕ) (items : 
     → IsMadeOf raw (from + bytes w) (encode_utf8_all next) (places_of items)
     → IsMadeOf raw from (encode_utf8_all (w ++ next)) (places_of (item from e w ∷ items))
 one-made raw from e w next items tells made =
-    rw tells (encode_utf8_all next,
-    record { skipped = []; covered = encode_utf8_all w; line_ends = none raw; start = (omega arith); end = refl;
-    whole = encodes-append w next }, made)
+    rw tells (
+      encode_utf8_all next,
+      record {
+        skipped = [];
+        covered = encode_utf8_all w;
+        line_ends = none raw;
+        start = (omega arith);
+        end = refl;
+        whole = encodes-append w next;
+      },
+      made,
+    )
 
 made : {raw : Bool} {from : ℕ} {s : List ℕ} {items : List Item} → AreItems raw from s items
     → IsMadeOf raw from (encode_utf8_all s) (places_of items)

@@ -1,14 +1,11 @@
 -- What is written of a character or a byte is one element that stands for it.
-use Rattle.std.proofs.Common.{
-    ◌≡◌, ℕ, ◌+◌, ◌*◌, ◌/◌, ◌%◌, ◌<◌, ◌≤◌, ◌==◌, ◌&&◌, true, false, cond, List, [], ◌∷◌, ◌++◌, append_assoc, length, map,
-    fold, Result, Ok, refl, sym, ap, subst, ◌∙◌, arith, nat_lt
-}
+use Rattle.std.proofs.Common.{◌≡◌, ℕ, ◌+◌, ◌*◌, ◌/◌, ◌%◌, ◌<◌, ◌≤◌, ◌==◌, ◌&&◌, true, false, cond, List, [], ◌∷◌, ◌++◌}
+use Rattle.std.proofs.Common.{append_assoc, length, map, fold, Result, Ok, refl, sym, ap, subst, ◌∙◌, arith, nat_lt}
 use Rattle.std.specs.Char.{digit_char, digit_value, is_ascii, IsScalar}
 use Rattle.std.specs.Char.Escape.{escape_ascii, escape_default, escape_or, escape_unicode, hex_digit_at}
 use Rattle.std.specs.List.{list_all}
-use Rattle.std.proofs.lemmas.Bool.{
-    agree_below_at, cond-false, cond-true, cond_both, le-leb, lt-ltb, ltb-false, ltb-true
-}
+use Rattle.std.proofs.lemmas.Bool.{agree_below_at, cond-false, cond-true, cond_both, le-leb, lt-ltb, ltb-false}
+use Rattle.std.proofs.lemmas.Bool.{ltb-true}
 use Rattle.std.proofs.{lemmas.{Bool.Decides.{nat_tests}, List.{append-nil}}, Math.Nat.{div-one}}
 use Rattle.std.proofs.lemmas.{Str.{digit_value-digit_char}, Grind.{common_steps}}
 use Rattle.rustc_literal_escaper.specs.declared.element.Element.{Element, TheVariants.{Byte, Plain, Unicode}}
@@ -45,15 +42,26 @@ word-left : (v n : ℕ) (qs s : List ℕ) → n + length qs ≤ 6 → left_at v 
     (Unicode (value_past v qs), s)
 word-left v n [] s few = left_at-brace v n 125 s refl ∙ rw (le-leb n 6 (omega arith)) refl
 word-left v n (q ∷ qs) s few =
-    grind (arith, common_steps, left_at-brace, le-leb, left_at-digit, digit-hex, left_at, with_digit, lt-ltb,
-    digit-value, word-left (v * 16 + q % 16) (n + 1) qs s (omega arith))
+    grind (
+      arith,
+      common_steps,
+      left_at-brace,
+      le-leb,
+      left_at-digit,
+      digit-hex,
+      left_at,
+      with_digit,
+      lt-ltb,
+      digit-value,
+      word-left (v * 16 + q % 16) (n + 1) qs s (omega arith),
+    )
 
 -- between braces they are one number
 word-read : (q : ℕ) (qs s : List ℕ) → length qs ≤ 5 → braced (word (q ∷ qs) ++ 125 ∷ s) ≡
     (Unicode (value_past 0 (q ∷ qs)), s)
 word-read q qs s few =
     cond-false _ _ _ (not 95 refl)
-        ∙ (cond-false _ _ _ (not 125 refl) ∙ (cond-true (is_hex (digit_char (q % 16))) _ _ (digit-hex q)
+    ∙ (cond-false _ _ _ (not 125 refl) ∙ (cond-true (is_hex (digit_char (q % 16))) _ _ (digit-hex q)
     ∙ (sym (left_at-start (word (q ∷ qs) ++ 125 ∷ s)) ∙ word-left 0 0 (q ∷ qs) s (omega arith))))
   where
     not : (k : ℕ) → is_hex k ≡ false → (digit_char (q % 16) == k) ≡ false
@@ -88,7 +96,7 @@ module _ {U : Type 0} (meaning : Element → Result U EscapeError) where
       by_char P c 34 (λ m. escaped (Byte 34) (unit 34) 34 [] (m (omega arith)) refl refl (λ s. refl)) (λ f.
       by_char P c 92 (λ m. escaped (Byte 92) (unit 92) 92 [] (m (omega arith)) refl refl (λ s. refl)) (λ g m.
       rw (a, b, d, e, f, g)
-          (cond_both (nat_lt c 32) _ _ Spelled (λ h. other) (λ h. cond_both (nat_lt c 127) _ _ Spelled (λ l. record {
+      (cond_both (nat_lt c 32) _ _ Spelled (λ h. other) (λ h. cond_both (nat_lt c 127) _ _ Spelled (λ l. record {
         element = Plain c;
         means = plain (ltb-true c 127 l);
         ascii = rw (lt-ltb c 128 (let i = ltb-true c 127 l in omega arith)) refl;
@@ -108,7 +116,7 @@ module _ {U : Type 0} (meaning : Element → Result U EscapeError) where
       let value : b / 0x10 % 16 * 16 + b / 1 % 16 ≡ b = rw div-one (omega arith) in
       or-spelled unit b _ (λ l. byte) plain
       (escaped (Byte b) (unit b) 120 (hex_digit_at 0x10 b ∷ hex_digit_at 1 b ∷ []) byte
-          (rw (digit-ascii (b / 0x10), digit-ascii (b / 1)) refl) refl
+      (rw (digit-ascii (b / 0x10), digit-ascii (b / 1)) refl) refl
       (λ s. rw (digit-hex (b / 0x10), digit-hex (b / 1), digit-value (b / 0x10), digit-value (b / 1), value) refl))
 
 unicode-spelled : (c : ℕ) → IsScalar c → IsSpelled char_of c (escape_unicode c)
@@ -138,7 +146,7 @@ unicode-spelled c is =
         escaped char_of (Unicode c) c 117 (123 ∷ (word (q ∷ qs) ++ 125 ∷ [])) (grind (arith, nat_tests))
         (word-ascii (q ∷ qs)) refl
         (λ s. ap braced (append_assoc (word (q ∷ qs)) (125 ∷ []) s)
-            ∙ (word-read q qs s few ∙ ap (λ (n : ℕ). (Unicode n, s)) value))
+        ∙ (word-read q qs s few ∙ ap (λ (n : ℕ). (Unicode n, s)) value))
 
 pub char-spelled : (c : ℕ) → IsScalar c → IsSpelled char_of c (escape_default c)
 char-spelled c is = or-spelled char_of (λ n. n) c (escape_unicode c) (λ l. rw (lt-ltb c 128 (omega arith)) refl)
@@ -148,6 +156,6 @@ pub char_comes_back : CharComesBack
 char_comes_back c is =
     let w = char-spelled c is in
     literal_read char_of (escape_default c)
-        ∙ (sym (literal_is char_of (escape_default c) w.element
-        (subst (λ (xs : List ℕ). StartsWithSingle xs w.element []) (append-nil (escape_default c)) (w.alone [])))
-        ∙ w.means)
+    ∙ (sym (literal_is char_of (escape_default c) w.element
+    (subst (λ (xs : List ℕ). StartsWithSingle xs w.element []) (append-nil (escape_default c)) (w.alone [])))
+    ∙ w.means)

@@ -1,8 +1,6 @@
 -- Runs of simple characters, passed over.
-use Rattle.std.proofs.Common.{
-    ◌≡◌, ℕ, ◌≤◌, ◌==◌, nat_lt, not, Bool, true, List, ◌++◌, length, take, drop, None, arith, sym, ap, ◌∙◌, [], ◌∷◌,
-    refl
-}
+use Rattle.std.proofs.Common.{◌≡◌, ℕ, ◌≤◌, ◌==◌, nat_lt, not, Bool, true, List, ◌++◌, length, take, drop, None, arith}
+use Rattle.std.proofs.Common.{sym, ap, ◌∙◌, [], ◌∷◌, refl}
 use Rattle.std.specs.{Char.{is_ascii}, List.{list_all, prefix_len}}
 use Rattle.std.specs.Str.{chars, IsAscii, IsCharBoundary, IsUtf8}
 use Rattle.std.proofs.lemmas.{Bool.{and_parts, not-true}, List.{take-append-drop}}
@@ -37,8 +35,12 @@ pub passes-simple : (raw : Bool) (bs : List ℕ) (n : ℕ) → n ≤ prefix_len 
     → Passes (is_simple raw) (chars bs) (chars (drop n bs))
 passes-simple raw bs n run =
     let all = run_front (is_simple raw) bs n run in
-    record { passed = take n bs; all = all; whole = ap chars (sym (take-append-drop n bs))
-        ∙ chars-simple raw (take n bs) (drop n bs) all }
+    record {
+      passed = take n bs;
+      all = all;
+      whole = ap chars (sym (take-append-drop n bs))
+          ∙ chars-simple raw (take n bs) (drop n bs) all;
+    }
 
 pub passes-none : (raw : Bool) (s : List ℕ) → Passes (is_simple raw) s s
 passes-none raw s = record { passed = []; all = refl; whole = refl }

@@ -1,22 +1,18 @@
 -- What takes items, one after another.
-use Rattle.std.proofs.Common.{
-    ◌≡◌, ℕ, Bool, true, false, List, [], ◌∷◌, ◌++◌, map, true≢false, Option, Some, None, MatchOption, ◌<◌, length,
-    if◌then◌else◌, refl, sym, ap, subst, ◌∙◌, arith, append_assoc
-}
+use Rattle.std.proofs.Common.{◌≡◌, ℕ, Bool, true, false, List, [], ◌∷◌, ◌++◌, map, true≢false, Option, Some, None}
+use Rattle.std.proofs.Common.{MatchOption, ◌<◌, length, if◌then◌else◌, refl, sym, ap, subst, ◌∙◌, arith, append_assoc}
 use Rattle.rustc_literal_escaper.specs.declared.element.Element.{Element, TheVariants.{Fault}}
 use Rattle.rustc_literal_escaper.specs.declared.error.EscapeError.TheVariants.{MultipleSkippedLinesWarning}
 use Rattle.std.specs.List.{FoldsTo, list_any}
 use Rattle.std.proofs.lemmas.{Grind.{common_steps}, List.{map-append}}
 use Rattle.rustc_literal_escaper.specs.Grammar.{is_newline, is_passed_over}
 use Rattle.rustc_literal_escaper.specs.means.Escape.{escape, front_run, past_run}
-use Rattle.rustc_literal_escaper.specs.{
-    Grammar.{Error, Item}, Items.{TakesFirst}, Meaning.{error_of, errors_in, put}, means.Sinks.{Runs, Takes}
-}
+use Rattle.rustc_literal_escaper.specs.{Grammar.{Error, Item}, Items.{TakesFirst}, Meaning.{error_of, errors_in, put}}
+use Rattle.rustc_literal_escaper.specs.means.Sinks.{Runs, Takes}
 use Rattle.rustc_literal_escaper.specs.means.Sinks as sinks
 use Rattle.rustc_literal_escaper.specs.declared.{error.EscapeError.{EscapeError}, mode.Mode.{Mode}}
-use Rattle.rustc_literal_escaper.specs.means.Elements.{
-    begins_line, front_by, item_by, items_by, front, line_end, more_space, one, raw_element, raw_front, unescaped
-}
+use Rattle.rustc_literal_escaper.specs.means.Elements.{begins_line, front_by, item_by, items_by, front, line_end}
+use Rattle.rustc_literal_escaper.specs.means.Elements.{more_space, one, raw_element, raw_front, unescaped}
 use Rattle.rustc_literal_escaper.specs.laws.Elements.{items-cons, items-one, left-shorter, nothing}
 
 -- what the first character begins
@@ -43,12 +39,18 @@ pub items_line : (offset : List ℕ → ℕ) (start c : ℕ) (xs ys zs left : Li
     → ys ≡ 10 ∷ zs → start ≡ offset xs
     → newline ≡ list_any is_newline (front_run is_passed_over zs) → left ≡ past_run is_passed_over zs
     → items_by front offset xs ≡
-        map (item_by offset start) (if newline then (Fault MultipleSkippedLinesWarning, left) ∷ [] else [])
-        ++ (map (item_by offset start) (more_space left) ++ items_by front offset left)
+    map (item_by offset start) (if newline then (Fault MultipleSkippedLinesWarning, left) ∷ [] else [])
+    ++ (map (item_by offset start) (more_space left) ++ items_by front offset left)
 items_line offset start c xs ys zs left newline is slash line begins lines past =
     let here : offset (c ∷ ys) ≡ start = sym (begins ∙ ap offset is) in
-    grind (arith, common_steps, items-cons false offset c ys, line_reads c ys zs slash line,
-        map-append (item_by offset start), append_assoc {A = Item})
+    grind (
+      arith,
+      common_steps,
+      items-cons false offset c ys,
+      line_reads c ys zs slash line,
+      map-append (item_by offset start),
+      append_assoc {A = Item},
+    )
 
 -- an offset in what has the same offsets
 pub at_same : {f h : List ℕ → ℕ} {n : ℕ} (xs : List ℕ) → n ≡ f xs → f ≡ h → n ≡ h xs
@@ -68,7 +70,7 @@ module _ {S : Type 0} (took : S → Item → Bool → S → Type 0) where
   taken false s u t i items left took_one more enough =
       let e = enough refl in
       subst (λ (v : S). Runs took s (i ∷ items) v left) e.0
-          (subst (λ (is : List Item). Runs took s (i ∷ items) u is) e.1 (sinks.enough took_one))
+      (subst (λ (is : List Item). Runs took s (i ∷ items) u is) e.1 (sinks.enough took_one))
 
   -- a warning
   pub warning_taken : (more : Bool) (s u : S) (offset : List ℕ → ℕ) (start end : ℕ) (found : List (Element × List ℕ))
@@ -91,7 +93,7 @@ module _ {S : Type 0} (took : S → Item → Bool → S → Type 0) where
   module _ (raw : Bool) (offset : List ℕ → ℕ) (more : Bool) (s u : S) (start end : ℕ) (xs ys zs : List ℕ) (c : ℕ)
       (e : Element)
       (is : xs ≡ c ∷ ys) (reads : front_by raw c ys ≡ one (e, zs)) (begins : start ≡ offset xs) (ends : end ≡ offset zs)
-          (took_one : took s (record { start = start; end = end }, e) more u) where
+      (took_one : took s (record { start = start; end = end }, e) more u) where
     one_taken : (t : S) (left : List Item) → (more ≡ true → Runs took u (items_by (front_by raw) offset zs) t left)
         → (more ≡ false → (u ≡ t) × (items_by (front_by raw) offset zs ≡ left))
         → Runs took s (items_by (front_by raw) offset xs) t left
@@ -132,15 +134,15 @@ module _ {S P : Type 0} (took : S → Item → Bool → S → Type 0) (inner : S
   -- one that takes the errors
   pub folds_errors : (mode_of : S → Mode) (R : P → Error → P → Type 0)
       → ((s t : S) (i : Item) (more : Bool) → took s i more t → (more ≡ true) × (mode_of t ≡ mode_of s)
-          × MatchOption (error_of (mode_of s) i.1) (inner t ≡ inner s) (λ error. R (inner s) (i.0, error) (inner t)))
+      × MatchOption (error_of (mode_of s) i.1) (inner t ≡ inner s) (λ error. R (inner s) (i.0, error) (inner t)))
       → {s t : S} {items left : List Item} → Runs took s items t left
-          → FoldsTo R (inner s) (errors_in (mode_of s) items) (inner t)
+      → FoldsTo R (inner s) (errors_in (mode_of s) items) (inner t)
   folds_errors mode_of R each sinks.all = refl
   folds_errors mode_of R each (sinks.more {s} {u} {t} {item} {items} took_one runs) =
       let is = each _ _ _ _ took_one in
       put-folds (error_of (mode_of s) item.1) is.2
-          (subst (λ (mode : Mode). FoldsTo R (inner u) (errors_in mode items) (inner t)) is.1
-          (folds_errors mode_of R each runs))
+      (subst (λ (mode : Mode). FoldsTo R (inner u) (errors_in mode items) (inner t)) is.1
+      (folds_errors mode_of R each runs))
     where
       put-folds : (wrong : Option EscapeError)
           → MatchOption wrong (inner u ≡ inner s) (λ error. R (inner s) (item.0, error) (inner u))
@@ -162,10 +164,10 @@ module _ {S : Type 0} (took : S → Item → Bool → S → Type 0) where
   -- one that takes one error
   pub takes_error : (mode_of : S → Mode) (found : S → Option Error)
       → ((s t : S) (i : Item) (more : Bool) → took s i more t
-          → MatchOption (error_of (mode_of s) i.1) ((more ≡ true) × (t ≡ s))
-          (λ error. (more ≡ false) × (found t ≡ Some (i.0, error))))
+      → MatchOption (error_of (mode_of s) i.1) ((more ≡ true) × (t ≡ s))
+      (λ error. (more ≡ false) × (found t ≡ Some (i.0, error))))
       → {s t : S} {items left : List Item} → found s ≡ None → Runs took s items t left
-          → TakesFirst (errors_in (mode_of s) items) (found t) (errors_in (mode_of s) left)
+      → TakesFirst (errors_in (mode_of s) items) (found t) (errors_in (mode_of s) left)
   takes_error mode_of found each none sinks.all = rw none (refl, refl)
   takes_error mode_of found each none (sinks.more {s} {u} {t} {item} {items} {left} took_one runs) =
       by_error (error_of (mode_of s) item.1) (each _ _ _ _ took_one) (λ no. takes_error mode_of found each no runs)

@@ -1,16 +1,13 @@
 -- What is written of characters and bytes, read between double quotes.
-use Rattle.std.proofs.Common.{
-    Bool, ◌≡◌, ℕ, suc, ◌<◌, ◌==◌, true, false, List, [], ◌∷◌, ◌++◌, length, map, Result, Ok, refl, sym, ap, ◌∙◌, arith,
-    get_or, length-append, ◌+◌, subst, take
-}
+use Rattle.std.proofs.Common.{Bool, ◌≡◌, ℕ, suc, ◌<◌, ◌==◌, true, false, List, [], ◌∷◌, ◌++◌, length, map, Result, Ok}
+use Rattle.std.proofs.Common.{refl, sym, ap, ◌∙◌, arith, get_or, length-append, ◌+◌, subst, take}
 use Rattle.std.specs.Char.{is_ascii, IsScalar, Escape.{escape_ascii, escape_default}}
 use Rattle.std.specs.{List.{AllByRecursion, flat_map, list_all, list_any, slice_index}, Prelude.{String}}
 use Rattle.std.specs.{String.{string_bytes}, Str.{all_scalars, chars, encode_utf8_all, IsAscii, IsCharBoundary, IsUtf8}}
 use Rattle.std.proofs.lemmas.{List.{append-nil, map-id}, Bool.{and_from, and_parts, lt-ltb, ltb-true, or_parts}}
 use Rattle.std.proofs.{Math.Seq.{take-append_seam}, lemmas.{List.{Recursion.{and_at}, Folds.{list_all-append}}}}
-use Rattle.std.proofs.lemmas.Str.{
-    chars-IsAscii, encodes-IsAscii, IsCharBoundary-from_take, IsUtf8-string_bytes, scalars-chars
-}
+use Rattle.std.proofs.lemmas.Str.{chars-IsAscii, encodes-IsAscii, IsCharBoundary-from_take, IsUtf8-string_bytes}
+use Rattle.std.proofs.lemmas.Str.{scalars-chars}
 use Rattle.std.proofs.lemmas.{Str.Ascii.{IsAscii-from_reads}, Grind.{common_steps}}
 use Rattle.rustc_literal_escaper.specs.declared.{element.Element.{Element}, error.EscapeError.{EscapeError}}
 use Rattle.rustc_literal_escaper.specs.{Grammar.{Item}, means.Elements.{front, items_from, place, StartsWithOne}}
@@ -73,9 +70,10 @@ text-comes_back text is =
 bytes-spelled : (bytes : List ℕ) → ((i : ℕ) → slice_index bytes i < 256)
     → AreSpelled byte_of escape_ascii (λ b. b) bytes
 bytes-spelled [] small = tt
-bytes-spelled (b ∷ bs) small =
-    (byte-spelled byte_of (λ n. n) b (small 0) refl (λ l. rw (lt-ltb b 128 (omega arith)) refl),
-    bytes-spelled bs (λ i. small (suc i)))
+bytes-spelled (b ∷ bs) small = (
+  byte-spelled byte_of (λ n. n) b (small 0) refl (λ l. rw (lt-ltb b 128 (omega arith)) refl),
+  bytes-spelled bs (λ i. small (suc i)),
+)
 
 pub bytes-come_back : (bytes : List ℕ) → ((i : ℕ) → slice_index bytes i < 256)
     → StandsFor byte_of (written_bytes bytes) bytes
@@ -86,9 +84,10 @@ units-spelled : (bytes : List ℕ) → ((i : ℕ) → slice_index bytes i < 256)
     → AreSpelled unit_of escape_ascii unit_of_byte bytes
 units-spelled [] small none = tt
 units-spelled (b ∷ bs) small none =
-    let p = or_parts (b == 0) (list_any (λ b. b == 0) bs) none in
-    (byte-spelled unit_of unit_of_byte b (small 0) (rw p.0 refl) (λ l. rw p.0 (rw (lt-ltb b 128 (omega arith)) refl)),
-        units-spelled bs (λ i. small (suc i)) p.1)
+    let p = or_parts (b == 0) (list_any (λ b. b == 0) bs) none in (
+      byte-spelled unit_of unit_of_byte b (small 0) (rw p.0 refl) (λ l. rw p.0 (rw (lt-ltb b 128 (omega arith)) refl)),
+      units-spelled bs (λ i. small (suc i)) p.1,
+    )
 
 pub units-come_back : (bytes : List ℕ) → ((i : ℕ) → slice_index bytes i < 256) → list_any (λ b. b == 0) bytes ≡ false
     → StandsFor unit_of (written_bytes bytes) (map unit_of_byte bytes)
@@ -109,9 +108,9 @@ pub boundary : {Z : Type 0} (old new : String Z) → Grows (string_bytes old) (s
     → IsCharBoundary (string_bytes new) (length (string_bytes old))
 boundary old new g =
     let l : length (string_bytes new) ≡ length (string_bytes old) + length g.0 =
-        ap length g.1 ∙ length-append (string_bytes old) g.0 in
+    ap length g.1 ∙ length-append (string_bytes old) g.0 in
     IsCharBoundary-from_take (string_bytes new) (length (string_bytes old)) (IsUtf8-string_bytes new) (omega arith)
     (subst IsUtf8 (sym (ap (take (length (string_bytes old))) g.1 ∙ take-append_seam (string_bytes old) g.0))
-        (IsUtf8-string_bytes old))
+    (IsUtf8-string_bytes old))
 
 pub ruleset written_lemmas = (bytes-come_back, units-come_back, text-comes_back, char-encodes, writing-start)

@@ -1,8 +1,6 @@
 -- What is promised of the items of a text, and what an iterator over them does.
-use Rattle.std.specs.Prelude.{
-    ◌≡◌, ℕ, ◌<◌, ◌+◌, ◌==◌, ◌&&◌, not, Bool, true, false, List, [], ◌∷◌, ◌++◌, length, map, filter, All, IsCharBoundary,
-    Option, Some, None
-}
+use Rattle.std.specs.Prelude.{◌≡◌, ℕ, ◌<◌, ◌+◌, ◌==◌, ◌&&◌, not, Bool, true, false, List, [], ◌∷◌, ◌++◌, length, map}
+use Rattle.std.specs.Prelude.{filter, All, IsCharBoundary, Option, Some, None}
 use Rattle.std.specs.List.{list_all}
 use Rattle.std.specs.Str.{byte, chars}
 use Rattle.std.specs.declared.ops.Range.{Range}

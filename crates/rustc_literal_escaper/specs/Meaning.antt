@@ -1,20 +1,20 @@
 -- What an element stands for, and what is wrong with it, in each kind of literal.
-use Rattle.std.specs.Prelude.{
-    ℕ, ◌==◌, nat_lt, Bool, true, false, if◌then◌else◌, List, [], ◌∷◌, codes, Option, Some, None, Result, Ok, Err
-}
+use Rattle.std.specs.Prelude.{ℕ, ◌==◌, nat_lt, Bool, true, false, if◌then◌else◌, List, [], ◌∷◌, codes, Option, Some}
+use Rattle.std.specs.Prelude.{None, Result, Ok, Err}
 use Rattle.std.specs.Result.{result_err}
 use Rattle.std.specs.declared.ops.Range.{Range}
 use Rattle.rustc_literal_escaper.specs.declared.element.Element.{Element}
 use Rattle.rustc_literal_escaper.specs.declared.element.Element.TheVariants.{Plain, Byte, Unicode, Fault}
 use Rattle.rustc_literal_escaper.specs.declared.error.EscapeError.{EscapeError}
-use Rattle.rustc_literal_escaper.specs.declared.error.EscapeError.TheVariants.{
-    OutOfRangeHexEscape, LoneSurrogateUnicodeEscape, OutOfRangeUnicodeEscape, UnicodeEscapeInByte, NonAsciiCharInByte,
-    NulInCStr, UnskippedWhitespaceWarning, MultipleSkippedLinesWarning
-}
+use Rattle.rustc_literal_escaper.specs.declared.error.EscapeError.TheVariants.{OutOfRangeHexEscape}
+use Rattle.rustc_literal_escaper.specs.declared.error.EscapeError.TheVariants.{LoneSurrogateUnicodeEscape}
+use Rattle.rustc_literal_escaper.specs.declared.error.EscapeError.TheVariants.{OutOfRangeUnicodeEscape}
+use Rattle.rustc_literal_escaper.specs.declared.error.EscapeError.TheVariants.{UnicodeEscapeInByte, NonAsciiCharInByte}
+use Rattle.rustc_literal_escaper.specs.declared.error.EscapeError.TheVariants.{NulInCStr, UnskippedWhitespaceWarning}
+use Rattle.rustc_literal_escaper.specs.declared.error.EscapeError.TheVariants.{MultipleSkippedLinesWarning}
 use Rattle.rustc_literal_escaper.specs.declared.mode.Mode.{Mode}
-use Rattle.rustc_literal_escaper.specs.declared.mode.Mode.TheVariants.{
-    Char, Byte as ByteMode, Str, RawStr, ByteStr, RawByteStr, CStr, RawCStr
-}
+use Rattle.rustc_literal_escaper.specs.declared.mode.Mode.TheVariants.{Char, Byte as ByteMode, Str, RawStr, ByteStr}
+use Rattle.rustc_literal_escaper.specs.declared.mode.Mode.TheVariants.{RawByteStr, CStr, RawCStr}
 use Rattle.rustc_literal_escaper.specs.declared.unit.MixedUnit.{MixedUnit}
 use Rattle.rustc_literal_escaper.specs.declared.unit.MixedUnit.TheVariants.{Char as CharUnit, HighByte}
 use Rattle.rustc_literal_escaper.specs.Grammar.{Error, Item}

@@ -23,14 +23,14 @@ stretches-read {mode} {s = s} {pieces} are is from close ends =
     let read = pieces-read mode from close are 0 (omega arith) in
     let here : from + 0 ≡ from = omega arith in
     ap (stretches_from mode from from close) (items-same is read.are)
-        ∙ subst (λ (n : ℕ). stretches_from mode from n close read.items ≡ stretches_at n pieces) here read.same
+    ∙ subst (λ (n : ℕ). stretches_from mode from n close read.items ≡ stretches_at n pieces) here read.same
 
 pub stretches-same : {mode : Mode} {begin : ℕ} {s : List ℕ} {a b : List Stretch} → AreStretches mode begin s a
     → AreStretches mode begin s b → a ≡ b
 stretches-same {mode} {begin} {s} (lit.made are) (lit.made also) =
     let items = pieces-read mode begin (begin + bytes s) are 0 (omega arith) in
     sym (stretches-read are items.are begin (begin + bytes s) refl)
-        ∙ stretches-read also items.are begin (begin + bytes s) refl
+    ∙ stretches-read also items.are begin (begin + bytes s) refl
 
 pub stretches-some : (mode : Mode) (begin : ℕ) (s : List ℕ) → (stretches : List Stretch)
     × AreStretches mode begin s stretches
@@ -41,5 +41,8 @@ stretches-some mode begin s =
 abbrev pub the_stretches : (mode : Mode) (begin : ℕ) (s : List ℕ) → TheOnly (Unit {0}) (AreStretches mode begin s)
 the_stretches mode begin s =
     let some = stretches-some mode begin s in
-    record { answer = some.0; only = λ always. only-read (AreStretches mode begin s) some.0
-        (λ other is. stretches-same some.1 is) some.0 some.1 }
+    record {
+      answer = some.0;
+      only = λ always. only-read (AreStretches mode begin s) some.0
+          (λ other is. stretches-same some.1 is) some.0 some.1;
+    }

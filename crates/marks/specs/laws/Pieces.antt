@@ -1,31 +1,26 @@
 -- What stands between double quotes has pieces, and one list of stretches: that of its items.
-use Rattle.std.proofs.Common.{
-    ◌≡◌, ℕ, ◌+◌, ◌<◌, ◌≤◌, Bool, true, false, if◌then◌else◌, List, [], ◌∷◌, ◌++◌, refl, sym, ap, subst, ◌∙◌, arith,
-    append_assoc, append-nil, codes, Option, Some, None
-}
+use Rattle.std.proofs.Common.{◌≡◌, ℕ, ◌+◌, ◌<◌, ◌≤◌, Bool, true, false, if◌then◌else◌, List, [], ◌∷◌, ◌++◌, refl, sym}
+use Rattle.std.proofs.Common.{ap, subst, ◌∙◌, arith, append_assoc, append-nil, codes, Option, Some, None}
 use Rattle.std.specs.{Char.{is_whitespace}, List.{list_all, list_any}}
 use Rattle.std.proofs.lemmas.{Bool.{le-ltb, lt-ltb, Decides.{nat_tests}}, Grind.{common_steps}, Str.{length-le-encodes}}
 use Rattle.rustc_lexer.specs.Classes.{Chars, bytes, next_is}
 use Rattle.rustc_literal_escaper.specs.Grammar as the
-use Rattle.rustc_literal_escaper.specs.Grammar.{
-    AreItems, IsElementBefore, Item, is_among, is_newline, is_passed_over, item, lines_warning, space_warning
-}
+use Rattle.rustc_literal_escaper.specs.Grammar.{AreItems, IsElementBefore, Item, is_among, is_newline, is_passed_over}
+use Rattle.rustc_literal_escaper.specs.Grammar.{item, lines_warning, space_warning}
 use Rattle.rustc_literal_escaper.specs.Meaning.{error_of}
 use Rattle.rustc_literal_escaper.specs.laws.Elements.{bytes-append}
 use Rattle.rustc_literal_escaper.specs.laws.Escape.{by_either}
 use Rattle.rustc_literal_escaper.specs.declared.element.Element.{Element}
 use Rattle.rustc_literal_escaper.specs.declared.element.Element.TheVariants.{Fault, Plain}
 use Rattle.rustc_literal_escaper.specs.declared.error.EscapeError.{EscapeError}
-use Rattle.rustc_literal_escaper.specs.declared.error.EscapeError.TheVariants.{
-    MultipleSkippedLinesWarning, UnskippedWhitespaceWarning
-}
+use Rattle.rustc_literal_escaper.specs.declared.error.EscapeError.TheVariants.{MultipleSkippedLinesWarning}
+use Rattle.rustc_literal_escaper.specs.declared.error.EscapeError.TheVariants.{UnskippedWhitespaceWarning}
 use Rattle.rustc_literal_escaper.specs.declared.mode.Mode.{Mode}
 use Rattle.marks.specs.declared.literal.Look.{Look}
 use Rattle.marks.specs.declared.literal.Look.TheVariants.{Escape, Wrong}
 use Rattle.marks.specs.Literal as lit
-use Rattle.marks.specs.Literal.{
-    ArePieces, AreSkippedBefore, IsPieceBefore, Looks, Piece, Stretch, is_plain, skipped, stretch, stretches_at
-}
+use Rattle.marks.specs.Literal.{ArePieces, AreSkippedBefore, IsPieceBefore, Looks, Piece, Stretch, is_plain, skipped}
+use Rattle.marks.specs.Literal.{stretch, stretches_at}
 use Rattle.marks.specs.means.Literal.{element_look, gap, look_by, stretches_from}
 
 -- a skipped line end, with the space after it
@@ -78,9 +73,11 @@ module _ (mode : Mode) where
   skip (lit.last {gap = g} are) space all one quiet =
       (_, lit.last (lit.more space all one (ap (next_is is_whitespace) (append-nil g) ∙ quiet) are))
   skip (lit.more {gap = g} {w} {next} {look} {pieces} are is rest) space all one quiet =
-      let more : List Piece = skipped (line (space ++ g)) ++ (w, look) ∷ pieces in
-      (more, subst (λ (s : Chars). ArePieces mode false s more) (ap line (append_assoc space g (w ++ next)))
-          (lit.more (lit.more space all one quiet are) is rest))
+      let more : List Piece = skipped (line (space ++ g)) ++ (w, look) ∷ pieces in (
+        more,
+        subst (λ (s : Chars). ArePieces mode false s more) (ap line (append_assoc space g (w ++ next)))
+            (lit.more (lit.more space all one quiet are) is rest),
+      )
 
   line-has : (space next : Chars) → list_all is_passed_over space ≡ true → next_is is_passed_over next ≡ false
       → HasBoth mode false next → HasPieces mode false (line space ++ next)
@@ -94,9 +91,11 @@ module _ (mode : Mode) where
       by_next (c ∷ t) one stops has = by_either (is_whitespace c)
           (λ white.
           let rest = has.past c t refl white in
-          let pieces : List Piece = (line (space ++ c ∷ []), Some (Wrong UnskippedWhitespaceWarning)) ∷ rest.0 in
-          (pieces, subst (λ (s : Chars). ArePieces mode false s pieces) (ap line (append_assoc space (c ∷ []) t))
-              (lit.more lit.none (lit.white_space space c all one white stops) rest.1)))
+          let pieces : List Piece = (line (space ++ c ∷ []), Some (Wrong UnskippedWhitespaceWarning)) ∷ rest.0 in (
+            pieces,
+            subst (λ (s : Chars). ArePieces mode false s pieces) (ap line (append_assoc space (c ∷ []) t))
+                (lit.more lit.none (lit.white_space space c all one white stops) rest.1),
+          ))
           (λ quiet. skip has.all.1 space all one quiet)
 
   pub pieces-some : {raw : Bool} {i : ℕ} {s : Chars} {items : List Item} → AreItems raw i s items → HasBoth mode raw s
@@ -125,7 +124,7 @@ module _ (mode : Mode) (begin close : ℕ) where
   fresh : (at : ℕ) (i : Item) (items : List Item) {look : Option Look} {rest : List Stretch} → at ≤ begin + i.0.start
       → element_look mode i.1 ≡ look → found (begin + i.0.end) items ≡ rest
       → found at (i ∷ items) ≡ gap at (begin + i.0.start)
-          ++ (stretch (begin + i.0.start) (begin + i.0.end) look ++ rest)
+      ++ (stretch (begin + i.0.start) (begin + i.0.end) look ++ rest)
   fresh at i items le looks more = rw (le-ltb (begin + i.0.start) at le, looks, more) refl
 
   pub told : (at : ℕ) (i : Item) (items : List Item) → begin + i.0.start < at → found at (i ∷ items) ≡ found at items
@@ -172,11 +171,11 @@ module _ (mode : Mode) (begin close : ℕ) where
       let warning : Item = item j (Fault UnskippedWhitespaceWarning) w in
       let character : Item = item (j + bytes (line space)) (Plain c) (c ∷ []) in
       let is : (lines_warning j space ++ space_warning j space (c ∷ next)) ++ character ∷ items ≡
-          warning ∷ character ∷ items = rw (one, white) refl in
+      warning ∷ character ∷ items = rw (one, white) refl in
       let size : bytes w ≡ bytes (line space) + bytes (c ∷ []) = bytes-append (line space) (c ∷ []) in
       let some = bytes-some c [] in
       let after : AreItems false (j + bytes (line space) + bytes (c ∷ [])) next items =
-          subst (λ (n : ℕ). AreItems false n next items) (omega arith) are in
+      subst (λ (n : ℕ). AreItems false n next items) (omega arith) are in
       record {
         all = warning ∷ character ∷ items;
         are = subst (AreItems false j (w ++ next)) is
@@ -184,8 +183,8 @@ module _ (mode : Mode) (begin close : ℕ) where
             ((lines_warning j space ++ space_warning j space (c ∷ next)) ++ character ∷ items))
             (ap line (sym (append_assoc space (c ∷ []) next)))
             (the.line_end space all stays
-                (the.element (the.plain (plain-space c white stays))
-                (λ e. absurd (let not : c ∷ [] ≡ 92 ∷ 10 ∷ [] = e in cc)) after)));
+            (the.element (the.plain (plain-space c white stays))
+            (λ e. absurd (let not : c ∷ [] ≡ 92 ∷ 10 ∷ [] = e in cc)) after)));
         same = λ at le. fresh at warning (character ∷ items) le (fault-look mode UnskippedWhitespaceWarning)
             (told (begin + (j + bytes w)) character items (omega arith));
       }
@@ -197,13 +196,13 @@ module _ (mode : Mode) (begin close : ℕ) where
   gap-read {next = next} (lit.more {w} space all one quiet are) i items rest =
       let size : bytes (line (space ++ w)) ≡ bytes (line space) + bytes w = bytes-append (line space) w in
       let after : AreItems false (i + bytes (line space) + bytes w) next items =
-          subst (λ (n : ℕ). AreItems false n next items) (omega arith) rest in
+      subst (λ (n : ℕ). AreItems false n next items) (omega arith) rest in
       let is : (lines_warning i space ++ space_warning i space (w ++ next)) ++ items ≡ items =
-          rw (one, quiet-space i space (w ++ next) quiet) refl in
+      rw (one, quiet-space i space (w ++ next) quiet) refl in
       subst (AreItems false i (line (space ++ w) ++ next)) is
-          (subst (λ (s : Chars). AreItems false i s
-          ((lines_warning i space ++ space_warning i space (w ++ next)) ++ items))
-          (ap line (sym (append_assoc space w next)))
+      (subst (λ (s : Chars). AreItems false i s
+      ((lines_warning i space ++ space_warning i space (w ++ next)) ++ items))
+      (ap line (sym (append_assoc space w next)))
       (the.line_end space all (stops (w ++ next) quiet) (gap-read are (i + bytes (line space)) items after)))
     where
       quiet-space : (i : ℕ) (space s : Chars) → next_is is_whitespace s ≡ false → space_warning i space s ≡ []
@@ -235,7 +234,7 @@ module _ (mode : Mode) (begin close : ℕ) where
   }
   pieces-read {raw} (lit.more {gap = g} {w} {next} {look} {pieces} are is rest) i ends =
       let size : bytes (g ++ (w ++ next)) ≡ bytes g + (bytes w + bytes next) =
-          bytes-append g (w ++ next) ∙ ap (λ (n : ℕ). bytes g + n) (bytes-append w next) in
+      bytes-append g (w ++ next) ∙ ap (λ (n : ℕ). bytes g + n) (bytes-append w next) in
       let j : ℕ = i + bytes g in
       let more = pieces-read rest (j + bytes w) (omega arith) in
       let one = piece-read is j more.items more.are in
@@ -246,6 +245,6 @@ module _ (mode : Mode) (begin close : ℕ) where
         are = gap-read are i one.all one.are;
         same = one.same (begin + i) (omega arith)
             ∙ (ap (λ (ss : List Stretch). gap (begin + i) (begin + j)
-                ++ (stretch (begin + j) (begin + (j + bytes w)) look ++ ss)) more.same
+            ++ (stretch (begin + j) (begin + (j + bytes w)) look ++ ss)) more.same
             ∙ (rw (at, to, gap-stretch (begin + i) g, past-gap (begin + i) g ((w, look) ∷ pieces)) refl));
       }

@@ -1,8 +1,6 @@
 -- Where a block comment ends: the definition finds the end that the grammar has.
-use Rattle.std.proofs.Common.{
-    ◌≡◌, ℕ, zero, suc, ◌+◌, ◌≤◌, ◌<◌, false, List, [], ◌∷◌, ◌++◌, length, take, codes, refl, sym, ap, ◌∙◌, subst, arith,
-    append_assoc, length-append, take_at, Option, Some
-}
+use Rattle.std.proofs.Common.{◌≡◌, ℕ, zero, suc, ◌+◌, ◌≤◌, ◌<◌, false, List, [], ◌∷◌, ◌++◌, length, take, codes, refl}
+use Rattle.std.proofs.Common.{sym, ap, ◌∙◌, subst, arith, append_assoc, length-append, take_at, Option, Some}
 use Rattle.std.proofs.lemmas.Grind.{common_steps}
 use Rattle.rustc_lexer.specs.Language as the
 use Rattle.rustc_lexer.specs.Language.{IsCommentRest}
@@ -47,12 +45,12 @@ out_of-rest (the.nested {v} {w} p q) depth next =
     ap (λ u. more 2 (out_of (suc (suc depth)) u)) (append_assoc v w next)
     ∙ (ap (more 2) (out_of-rest p (suc depth) (w ++ next) ∙ ap (more (length v)) (out_of-rest q depth next))
     ∙ (ap (more 2) (more-more (length v) (length w) o)
-        ∙ (more-more 2 (length v + length w) o ∙ ap (λ n. more n o) (omega (arith, length-append v w)))))
+    ∙ (more-more 2 (length v + length w) o ∙ ap (λ n. more n o) (omega (arith, length-append v w)))))
 out_of-rest (the.other {c} {w} e f p) depth next =
     out_of-plain (suc depth) c (w ++ next) (omega arith) (begins-rest 42 47 c p next ∙ e)
-        (begins-rest 47 42 c p next ∙ f)
+    (begins-rest 47 42 c p next ∙ f)
     ∙ (ap (more 1) (out_of-rest p depth next)
-        ∙ (more-more 1 (length w) (out_of depth next) ∙ ap (λ n. more n (out_of depth next)) (omega arith)))
+    ∙ (more-more 1 (length w) (out_of depth next) ∙ ap (λ n. more n (out_of depth next)) (omega arith)))
 
 pub comment_end-found : {w : List ℕ} → IsCommentRest w → (next : List ℕ) → comment_end (w ++ next) ≡ Some (length w)
 unfolding out_of
@@ -83,16 +81,28 @@ are-rests (suc depth) (c ∷ d ∷ s) n e = by_either (at_closing (c ∷ d ∷ s
     let w = v.6 in
     let inner : s ≡ (v.0 ++ w.0) ++ w.1 = v.3 ∙ (ap (λ u. v.0 ++ u) w.3 ∙ sym (append_assoc v.0 w.0 w.1)) in
     let whole : c ∷ d ∷ s ≡ 47 ∷ 42 ∷ (v.0 ++ w.0) ++ w.1 = begins-whole (codes "/*") (c ∷ d ∷ s) f
-        ∙ ap (λ u. 47 ∷ 42 ∷ u) inner in
-    (codes "/*" ++ v.0 ++ w.0, w.1, w.2, whole, omega (arith, m.2, v.4, w.4, length-append v.0 w.0), the.nested v.5 w.5,
-        w.6))
+    ∙ ap (λ u. 47 ∷ 42 ∷ u) inner in (
+      codes "/*" ++ v.0 ++ w.0,
+      w.1,
+      w.2,
+      whole,
+      omega (arith, m.2, v.4, w.4, length-append v.0 w.0),
+      the.nested v.5 w.5,
+      w.6,
+    ))
     (λ f.
     let m = more-some 1 n (out_of (suc depth) (d ∷ s)) (sym (rw (t, f) refl) ∙ e) in
     let v = are-rests (suc depth) (d ∷ s) m.0 m.1 in
     let plain : (a b : ℕ) → begins (a ∷ b ∷ []) (c ∷ d ∷ s) ≡ false → begins (a ∷ b ∷ []) (c ∷ v.0) ≡ false =
-    λ a b none. sym (begins-rest a b c v.5 v.1) ∙ (ap (λ u. begins (a ∷ b ∷ []) (c ∷ u)) (sym v.3) ∙ none) in
-    (c ∷ v.0, v.1, v.2, ap (λ u. c ∷ u) v.3, omega (arith, m.2, v.4), the.other (plain 42 47 t) (plain 47 42 f) v.5,
-        v.6)))
+    λ a b none. sym (begins-rest a b c v.5 v.1) ∙ (ap (λ u. begins (a ∷ b ∷ []) (c ∷ u)) (sym v.3) ∙ none) in (
+      c ∷ v.0,
+      v.1,
+      v.2,
+      ap (λ u. c ∷ u) v.3,
+      omega (arith, m.2, v.4),
+      the.other (plain 42 47 t) (plain 47 42 f) v.5,
+      v.6,
+    )))
 
 pub comment_end-rest : (s : List ℕ) (n : ℕ) → comment_end s ≡ Some n → IsCommentRest (take n s)
 comment_end-rest s n e = let v = are-rests 1 s n e in

@@ -26,5 +26,10 @@ pub by_symbol : (p : TokenKind → Bool) (ss : List (ℕ × TokenKind)) (c : ℕ
     → list_all (λ (s : ℕ × TokenKind). p s.1) ss ≡ true → p Unknown ≡ true → p (kind_among ss c) ≡ true
 by_symbol p [] c all unknown = unknown
 by_symbol p (s ∷ ss) c all unknown =
-    grind (arith, common_steps, and_parts, by_test,
-    by_symbol p ss c (and_parts (p s.1) (list_all (λ (s : ℕ × TokenKind). p s.1) ss) all).1 unknown)
+    grind (
+      arith,
+      common_steps,
+      and_parts,
+      by_test,
+      by_symbol p ss c (and_parts (p s.1) (list_all (λ (s : ℕ × TokenKind). p s.1) ss) all).1 unknown,
+    )

@@ -1,9 +1,7 @@
 -- Cutting a text: locality of lists of tokens, and what follows a bound.
 use Rattle.std.proofs.lemmas.Grind.{common_steps}
-use Rattle.std.proofs.Common.{
-    ◌≡◌, ℕ, zero, suc, ◌+◌, ◌<◌, ◌≤◌, List, [], ◌∷◌, ◌++◌, length, take, drop, refl, sym, ap, ◌∙◌, arith, length-drop,
-    IsUtf8, chars, drop-drop, take-add, take-take, take-append-drop
-}
+use Rattle.std.proofs.Common.{◌≡◌, ℕ, zero, suc, ◌+◌, ◌<◌, ◌≤◌, List, [], ◌∷◌, ◌++◌, length, take, drop, refl, sym, ap}
+use Rattle.std.proofs.Common.{◌∙◌, arith, length-drop, IsUtf8, chars, drop-drop, take-add, take-take, take-append-drop}
 use Rattle.std.proofs.lemmas.{List.{drop-take}, Str.{chars-append, IsUtf8-append, IsUtf8-nil, IsUtf8-take}}
 use Rattle.rustc_lexer.specs.{Token}
 use Rattle.rustc_lexer.specs.Locality.{AgreePast, IsGrammar}
@@ -73,11 +71,16 @@ at_bound {first} law (suc k) (c ∷ cs) is =
     let whole : drop m left ≡ drop (n + m) text = drop-drop m n text in
     let cons : tokens_by first text ≡ first text ∷ tokens_by first left = tokens-cons law text is some in
     let front : IsUtf8 (take (n + m) text) =
-        rw (take-add n m text) (IsUtf8-append _ _ (IsUtf8-take text n is.utf8 (law.boundary text is some)) ih.front) in
+    rw (take-add n m text) (IsUtf8-append _ _ (IsUtf8-take text n is.utf8 (law.boundary text is some)) ih.front) in
     let inside : n + m ≤ length text = let i = ih.inside in
     omega (arith, length-drop n text, (law.boundary text is some).0) in
-    rw cons record { inside = inside; front = front; past = rw (← whole) ih.past; rest = ih.rest
-        ∙ ap (tokens_by first) whole }
+    rw cons record {
+      inside = inside;
+      front = front;
+      past = rw (← whole) ih.past;
+      rest = ih.rest
+          ∙ ap (tokens_by first) whole;
+    }
 
 -- what two texts show past a common front follows from what they show past it
 pub look-append : (xs ys zs : List ℕ) → IsUtf8 xs → look ys ≡ look zs → look (xs ++ ys) ≡ look (xs ++ zs)
@@ -89,11 +92,11 @@ pub agree_before : (n m : ℕ) (text other : List ℕ) → IsUtf8 (take m (drop 
     → AgreePast n text other
 agree_before n m text other front agree =
     let same : take m (drop n text) ≡ take m (drop n other) =
-        sym (drop-take n m text) ∙ (ap (drop n) agree.below ∙ drop-take n m other) in
+    sym (drop-take n m text) ∙ (ap (drop n) agree.below ∙ drop-take n m other) in
     let past : look (drop m (drop n text)) ≡ look (drop m (drop n other)) =
-        rw (drop-drop m n text, drop-drop m n other) agree.past in
+    rw (drop-drop m n text, drop-drop m n other) agree.past in
     let there : look (take m (drop n text) ++ drop m (drop n text)) ≡
-        look (take m (drop n text) ++ drop m (drop n other)) = look-append _ _ _ front past in
+    look (take m (drop n text) ++ drop m (drop n other)) = look-append _ _ _ front past in
     record {
       below = sym (take-take n (n + m) text (omega arith))
           ∙ (ap (take n) agree.below ∙ take-take n (n + m) other (omega arith));
@@ -134,8 +137,8 @@ tokens_local {first} law (suc k) (c ∷ cs) other is its few agree =
     let its_some : 0 < length other = omega arith in
     let front : IsUtf8 (take n other) = rw (← near.below) (IsUtf8-take text n is.utf8 (law.boundary text is some)) in
     let its_cons : tokens_by first other ≡ first text ∷ tokens_by first (drop n other) =
-        tokens-cons law other its its_some ∙ ap (λ (t : Token). t ∷ tokens_by first (drop t.len other)) same in
+    tokens-cons law other its its_some ∙ ap (λ (t : Token). t ∷ tokens_by first (drop t.len other)) same in
     rw (cons, its_cons)
-        (ap (λ ts. first text ∷ ts)
-        (tokens_local law k left (drop n other) (past_first law text is some) (left_text other n its inside front)
-        (omega arith) (agree_left n m text other agrees)))
+    (ap (λ ts. first text ∷ ts)
+    (tokens_local law k left (drop n other) (past_first law text is some) (left_text other n its inside front)
+    (omega arith) (agree_left n m text other agrees)))

@@ -44,8 +44,12 @@ module _ (edition : Edition) where
   parts : (text : List ℕ) → IsText text → 0 < length text → Parts text
   parts text is some =
       let at = first-front edition text (chars text) is some refl in
-      record { at = at; len = ap (λ (t : Token). t.len) at.same; pieces = split text (at.c ∷ at.w) at.next is
-          (sym at.whole) }
+      record {
+        at = at;
+        len = ap (λ (t : Token). t.len) at.same;
+        pieces = split text (at.c ∷ at.w) at.next is
+            (sym at.whole);
+      }
 
   same_token : (text other : List ℕ) → Parts text → AgreePast (first_token_in edition text).len text other
       → first_token_in edition other ≡ first_token_in edition text
@@ -53,9 +57,9 @@ module _ (edition : Edition) where
       let n : ℕ = bytes (p.at.c ∷ p.at.w) in
       let here : AgreePast n text other = subst (λ (k : ℕ). AgreePast k text other) p.len agree in
       let past : take 2 (chars (drop n other)) ≡ take 2 p.at.next =
-          sym here.past ∙ ap (take 2) (ap chars p.pieces.left ∙ p.pieces.again) in
+      sym here.past ∙ ap (take 2) (ap chars p.pieces.left ∙ p.pieces.again) in
       token-read-in (in-alike p.at.is (chars (drop n other)) past) other (split-same other p.pieces here.below)
-          ∙ sym p.at.same
+      ∙ sym p.at.same
 
   pub edition_grammar : IsGrammar (first_token_in edition)
   edition_grammar = record {

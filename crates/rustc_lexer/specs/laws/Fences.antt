@@ -1,17 +1,14 @@
 -- Searches of a frontmatter's closing.
-use Rattle.std.proofs.Common.{
-    ◌≡◌, ℕ, zero, suc, ◌+◌, ◌-◌, ◌<◌, ◌≤◌, ◌==◌, ◌&&◌, nat_lt, Bool, true, false, true≢false, if◌then◌else◌, List, [],
-    ◌∷◌, ◌++◌, length, take, drop, get_or, refl, sym, ap, ◌∙◌, subst, arith, Option, Some, None, length-drop, drop-drop,
-    inl, inr
-}
+use Rattle.std.proofs.Common.{◌≡◌, ℕ, zero, suc, ◌+◌, ◌-◌, ◌<◌, ◌≤◌, ◌==◌, ◌&&◌, nat_lt, Bool, true, false, true≢false}
+use Rattle.std.proofs.Common.{if◌then◌else◌, List, [], ◌∷◌, ◌++◌, length, take, drop, get_or, refl, sym, ap, ◌∙◌, subst}
+use Rattle.std.proofs.Common.{arith, Option, Some, None, length-drop, drop-drop, inl, inr}
 use Rattle.std.proofs.{Math.Seq.{take-suc}, lemmas.{Bool.{eqb-true, and_parts, lt-ltb, cases_lt}, List.{get_or-drop}}}
 use Rattle.std.proofs.lemmas.Grind.{common_steps}
 use Rattle.rustc_lexer.specs.Classes.{is_horizontal_whitespace, is_inline}
 use Rattle.memchr.specs.Find.{IsFirstByte, is_byte}
 use Rattle.rustc_lexer.specs.FrontmatterGrammar.{fence}
-use Rattle.rustc_lexer.specs.means.Frontmatter.{
-    first, blank_past, blank_over, first_lone, is_dash, is_newline, line_end
-}
+use Rattle.rustc_lexer.specs.means.Frontmatter.{first, blank_past, blank_over, first_lone, is_dash, is_newline}
+use Rattle.rustc_lexer.specs.means.Frontmatter.{line_end}
 use Rattle.rustc_lexer.specs.means.Least.{more, one_more}
 use Rattle.rustc_lexer.specs.means.Raw.{least_offset}
 use Rattle.rustc_lexer.specs.means.Scan.{begins, run_len}
@@ -65,7 +62,7 @@ begins-enough zero s le = refl
 begins-enough (suc n) [] le = absurd (omega arith)
 begins-enough (suc n) (c ∷ s) le = by_either (is_dash c)
     (λ e. let more : run_len is_dash (c ∷ s) ≡ suc (run_len is_dash s) = rw e refl in
-        rw (e, begins-enough n s (omega arith)) refl)
+    rw (e, begins-enough n s (omega arith)) refl)
     (λ e. let none : run_len is_dash (c ∷ s) ≡ 0 = rw e refl in absurd (omega arith))
 
 pub begins-few : (n : ℕ) (s : List ℕ) → run_len is_dash s < n → begins (fence n) s ≡ false
@@ -73,13 +70,16 @@ begins-few zero s less = absurd (omega arith)
 begins-few (suc n) [] less = refl
 begins-few (suc n) (c ∷ s) less = by_either (is_dash c)
     (λ e. let more : run_len is_dash (c ∷ s) ≡ suc (run_len is_dash s) = rw e refl in
-        rw (e, begins-few n s (omega arith)) refl)
+    rw (e, begins-few n s (omega arith)) refl)
     (λ e. rw e refl)
 
 pub begins-dashes : (n : ℕ) (s : List ℕ) → begins (fence n) s ≡ true → n ≤ run_len is_dash s
 begins-dashes n s e =
-    elim (cases_lt (run_len is_dash s) n) [ inl few ↦ absurd (true≢false (sym e ∙ begins-few n s few)) | inr enough ↦
-    enough ]
+    elim (cases_lt (run_len is_dash s) n) [
+      | inl few ↦ absurd (true≢false (sym e ∙ begins-few n s few))
+      | inr enough ↦
+          enough
+    ]
 
 -- ---- lone dashes, as the code searches for them
 
@@ -96,12 +96,12 @@ module _ (end start : ℕ) (rest : List ℕ) (past_end : end < start) (inside : 
       let n : ℕ = start - 1 - end in
       let more : start - end ≡ suc (start - 1 - end) = omega arith in
       let there : get_or (drop end rest) (start - 1 - end) 0 ≡ get_or rest (start - 1) 0 =
-          get_or-drop end rest (start - 1 - end) 0
-          ∙ ap (λ (k : ℕ). get_or rest k 0) (let same : end + (start - 1 - end) ≡ start - 1 = omega arith in same) in
+      get_or-drop end rest (start - 1 - end) 0
+      ∙ ap (λ (k : ℕ). get_or rest k 0) (let same : end + (start - 1 - end) ≡ start - 1 = omega arith in same) in
       ap (λ (k : ℕ). blank_over true (take k (drop end rest))) more
       ∙ (ap (blank_over true) (take-suc (drop end rest) (start - 1 - end) 0 (omega (arith, length-drop end rest)))
       ∙ (blank-last true (take (start - 1 - end) (drop end rest)) (get_or (drop end rest) (start - 1 - end) 0)
-          ∙ ap (blank_past (blank_over true (take (start - 1 - end) (drop end rest)))) there))
+      ∙ ap (blank_past (blank_over true (take (start - 1 - end) (drop end rest)))) there))
 
   pub blank_on : is_horizontal_whitespace (get_or rest (start - 1) 0) ≡ true
       → blank_over true (take (start - end) (drop end rest)) ≡ blank_over true (take (start - 1 - end) (drop end rest))
@@ -118,25 +118,25 @@ lone-none blank [] e = refl
 lone-none blank (c ∷ s) e = by_either (begins (fence 3) (c ∷ s))
     (λ t. absurd (let no : None ≡ Some 0 = sym e ∙ offset-here (begins (fence 3)) c s t in cc))
     (λ t. rw t (ap one_more
-        (lone-none (blank_past blank c) s
-        (one_more-none (first (fence 3) s) (sym (offset-on (begins (fence 3)) c s t) ∙ e)))))
+    (lone-none (blank_past blank c) s
+    (one_more-none (first (fence 3) s) (sym (offset-on (begins (fence 3)) c s t) ∙ e)))))
 
 -- by the first three dashes
 pub lone-three : (blank : Bool) (k : ℕ) (s : List ℕ) → first (fence 3) s ≡ Some k
     → first_lone blank 0 s ≡
-        (if blank_over blank (take k s) then Some k else more (k + 3) (first_lone true 0 (drop (k + 3) s)))
+    (if blank_over blank (take k s) then Some k else more (k + 3) (first_lone true 0 (drop (k + 3) s)))
 lone-three blank k [] e = absurd (let no : None ≡ Some k = e in cc)
 lone-three blank k (c ∷ s) e = by_either (begins (fence 3) (c ∷ s))
     (λ t.
     let some : Some 0 ≡ Some k = sym (offset-here (begins (fence 3)) c s t) ∙ e in
     let none : 0 ≡ k = cc in
     subst (λ (n : ℕ). first_lone blank 0 (c ∷ s) ≡
-        (if blank_over blank (take n (c ∷ s)) then Some n else more (n + 3) (first_lone true 0 (drop (n + 3) (c ∷ s)))))
-        none
+    (if blank_over blank (take n (c ∷ s)) then Some n else more (n + 3) (first_lone true 0 (drop (n + 3) (c ∷ s)))))
+    none
     (ap (first_lone blank 0) (begins-whole (fence 3) (c ∷ s) t)
-        ∙ by_either blank (λ b. rw b refl) (λ b. rw b (three (first_lone true 0 (drop 2 s))))))
+    ∙ by_either blank (λ b. rw b refl) (λ b. rw b (three (first_lone true 0 (drop 2 s))))))
     (λ t. let m = one_more-some (first (fence 3) s) k (sym (offset-on (begins (fence 3)) c s t) ∙ e) in
-        on m.0 m.2 t (lone-three (blank_past blank c) m.0 s m.1))
+    on m.0 m.2 t (lone-three (blank_past blank c) m.0 s m.1))
   where
     three : (o : Option ℕ) → one_more (one_more (one_more o)) ≡ more 3 o
     three None = refl
@@ -144,20 +144,20 @@ lone-three blank k (c ∷ s) e = by_either (begins (fence 3) (c ∷ s))
 
     on : (m : ℕ) → k ≡ suc m → begins (fence 3) (c ∷ s) ≡ false
         → first_lone (blank_past blank c) 0 s ≡
-            (if blank_over (blank_past blank c) (take m s) then Some m else more (m + 3)
-            (first_lone true 0 (drop (m + 3) s)))
+        (if blank_over (blank_past blank c) (take m s) then Some m else more (m + 3)
+        (first_lone true 0 (drop (m + 3) s)))
         → first_lone blank 0 (c ∷ s) ≡
-            (if blank_over blank (take k (c ∷ s)) then Some k else more (k + 3)
-            (first_lone true 0 (drop (k + 3) (c ∷ s))))
+        (if blank_over blank (take k (c ∷ s)) then Some k else more (k + 3)
+        (first_lone true 0 (drop (k + 3) (c ∷ s))))
     on m same t ih =
         let far : suc (m + 3) ≡ k + 3 = omega (arith, same) in
         let past : Option ℕ = more (k + 3) (first_lone true 0 (drop (k + 3) (c ∷ s))) in
         rw t (ap one_more ih
         ∙ (by_either (blank_over (blank_past blank c) (take m s)) (λ b. rw b refl)
-            (λ b. rw b (one_more-more (m + 3) (first_lone true 0 (drop (m + 3) s))
-            ∙ ap (λ (n : ℕ). more n (first_lone true 0 (drop n (c ∷ s)))) far))
+        (λ b. rw b (one_more-more (m + 3) (first_lone true 0 (drop (m + 3) s))
+        ∙ ap (λ (n : ℕ). more n (first_lone true 0 (drop n (c ∷ s)))) far))
         ∙ ap (λ (n : ℕ). if blank_over blank (take n (c ∷ s)) then Some n else more (k + 3)
-            (first_lone true 0 (drop (k + 3) (c ∷ s)))) (sym same)))
+        (first_lone true 0 (drop (k + 3) (c ∷ s)))) (sym same)))
 
 -- the loop over the places stands at `end`
 pub record IsWalking (rest : List ℕ) (end : ℕ) : Type 0 where

@@ -1,16 +1,12 @@
 -- The opening of a frontmatter, and where the token ends.
-use Rattle.std.proofs.Common.{
-    ◌≡◌, ℕ, zero, suc, ◌+◌, ◌-◌, ◌<◌, ◌≤◌, ◌&&◌, ◌||◌, nat_lt, not, Bool, true, false, if◌then◌else◌, List, [], ◌∷◌,
-    ◌++◌, codes, length, take, drop, get_or, refl, sym, ap, ◌∙◌, subst, arith, Some, None, length-append, length-drop,
-    length-take, append_assoc
-}
+use Rattle.std.proofs.Common.{◌≡◌, ℕ, zero, suc, ◌+◌, ◌-◌, ◌<◌, ◌≤◌, ◌&&◌, ◌||◌, nat_lt, not, Bool, true, false}
+use Rattle.std.proofs.Common.{if◌then◌else◌, List, [], ◌∷◌, ◌++◌, codes, length, take, drop, get_or, refl, sym, ap, ◌∙◌}
+use Rattle.std.proofs.Common.{subst, arith, Some, None, length-append, length-drop, length-take, append_assoc}
 use Rattle.std.specs.{Char.{encode_utf8}, Str.{chars, encode_utf8_all, IsUtf8, IsCharBoundary}}
 use Rattle.std.proofs.Math.Seq.{drop-append_seam, take-append_seam}
 use Rattle.std.proofs.lemmas.{Bool.{eqb-true, and_parts, lt-ltb, or_parts}, List.{get_or-drop}}
-use Rattle.std.proofs.lemmas.Str.{
-    encode_ascii, byte_from_char, inside_one, length-encode, len_utf8_bounds, length-le-encodes,
-    IsCharBoundary-from_drop
-}
+use Rattle.std.proofs.lemmas.Str.{encode_ascii, byte_from_char, inside_one, length-encode, len_utf8_bounds}
+use Rattle.std.proofs.lemmas.Str.{length-le-encodes, IsCharBoundary-from_drop}
 use Rattle.std.proofs.{Math.Bool.{and-false}, lemmas.Grind.{common_steps}}
 use Rattle.rustc_lexer.specs.{Edition, Token, Frontmatter}
 use Rattle.rustc_lexer.specs.Classes.{is_whitespace, is_id_start, is_info}
@@ -18,10 +14,9 @@ use Rattle.rustc_lexer.specs.LanguageText.{Mode}
 use Rattle.rustc_lexer.specs.means.Edition.{first_token_in}
 use Rattle.rustc_lexer.specs.FrontmatterGrammar as the
 use Rattle.rustc_lexer.specs.FrontmatterGrammar.{fence, endings}
-use Rattle.rustc_lexer.specs.means.Frontmatter.{
-    closing_end, ends_line, fence_len, first, first_lone, frontmatter, if_found, infostring_len, is_dash, is_newline,
-    label_len, line_end, newline, opening_len, opens, past_opening, spaces_len, then_len
-}
+use Rattle.rustc_lexer.specs.means.Frontmatter.{closing_end, ends_line, fence_len, first, first_lone, frontmatter}
+use Rattle.rustc_lexer.specs.means.Frontmatter.{if_found, infostring_len, is_dash, is_newline, label_len, line_end}
+use Rattle.rustc_lexer.specs.means.Frontmatter.{newline, opening_len, opens, past_opening, spaces_len, then_len}
 use Rattle.rustc_lexer.specs.laws.Reach.{run_len_le}
 use Rattle.rustc_lexer.specs.means.Scan.{begins, bytes_of, next_is, past, run_len}
 use Rattle.rustc_lexer.specs.means.Taking.{token_at}
@@ -30,9 +25,8 @@ use Rattle.rustc_lexer.specs.laws.Fences.{begins-enough, begins-few, begins-dash
 use Rattle.rustc_lexer.specs.laws.LanguageClosing.{body-at, body-read, endings-patterns}
 use Rattle.rustc_lexer.specs.laws.LanguageFrontmatter.{fence-length, run-fence}
 use Rattle.rustc_lexer.specs.laws.Scan.{length-run, next_is-cons, next_is-nil}
-use Rattle.rustc_lexer.specs.laws.Past.{
-    past-zero, split_past, past-past, past-drop, chars-past, IsUtf8-past, length-past
-}
+use Rattle.rustc_lexer.specs.laws.Past.{past-zero, split_past, past-past, past-drop, chars-past, IsUtf8-past}
+use Rattle.rustc_lexer.specs.laws.Past.{length-past}
 
 -- past one length, and then another
 pub past-then : (f g : List ℕ → ℕ) (text mid left : List ℕ) → IsUtf8 text → mid ≡ past (f (chars text)) text
@@ -61,25 +55,36 @@ last_byte : (cs text rest : List ℕ) → text ≡ encode_utf8_all cs ++ rest
     ends_line cs
 last_byte [] text rest e = refl
 last_byte (c ∷ []) text rest e =
-    grind (arith, common_steps, length-append, append_assoc, length-encode, len_utf8_bounds, eqb-true, inside_one,
-    lt-ltb, encode_ascii, byte_from_char)
+    grind (
+      arith,
+      common_steps,
+      length-append,
+      append_assoc,
+      length-encode,
+      len_utf8_bounds,
+      eqb-true,
+      inside_one,
+      lt-ltb,
+      encode_ascii,
+      byte_from_char,
+    )
 last_byte (c ∷ d ∷ s) text rest e =
     let long : length (encode_utf8_all (c ∷ d ∷ s)) ≡ length (encode_utf8 c) + length (encode_utf8_all (d ∷ s)) =
-        length-append (encode_utf8 c) (encode_utf8_all (d ∷ s)) in
+    length-append (encode_utf8 c) (encode_utf8_all (d ∷ s)) in
     let some : 1 ≤ length (encode_utf8_all (d ∷ s)) = omega (arith, length-le-encodes (d ∷ s)) in
     let tail : List ℕ = encode_utf8_all (d ∷ s) ++ rest in
     let split : text ≡ encode_utf8 c ++ tail = e ∙ append_assoc (encode_utf8 c) (encode_utf8_all (d ∷ s)) rest in
     let tail_is : drop (length (encode_utf8 c)) text ≡ tail = ap (drop (length (encode_utf8 c))) split
-        ∙ drop-append_seam (encode_utf8 c) tail in
+    ∙ drop-append_seam (encode_utf8 c) tail in
     let there : get_or text (length (encode_utf8_all (c ∷ d ∷ s)) - 1) 0 ≡
-        get_or tail (length (encode_utf8_all (d ∷ s)) - 1) 0 =
+    get_or tail (length (encode_utf8_all (d ∷ s)) - 1) 0 =
     ap (λ k. get_or text k 0)
-        (let sum : length (encode_utf8_all (c ∷ d ∷ s)) - 1 ≡
-        length (encode_utf8 c) + (length (encode_utf8_all (d ∷ s)) - 1) = omega (arith, long, some) in sum)
+    (let sum : length (encode_utf8_all (c ∷ d ∷ s)) - 1 ≡
+    length (encode_utf8 c) + (length (encode_utf8_all (d ∷ s)) - 1) = omega (arith, long, some) in sum)
     ∙ (sym (get_or-drop (length (encode_utf8 c)) text (length (encode_utf8_all (d ∷ s)) - 1) 0)
-        ∙ ap (λ xs. get_or xs (length (encode_utf8_all (d ∷ s)) - 1) 0) tail_is) in
+    ∙ ap (λ xs. get_or xs (length (encode_utf8_all (d ∷ s)) - 1) 0) tail_is) in
     let both : nat_lt 0 (length (encode_utf8_all (c ∷ d ∷ s))) ≡ nat_lt 0 (length (encode_utf8_all (d ∷ s))) =
-        lt-ltb 0 _ (omega (arith, long, some)) ∙ sym (lt-ltb 0 _ (omega (arith, some))) in
+    lt-ltb 0 _ (omega (arith, long, some)) ∙ sym (lt-ltb 0 _ (omega (arith, some))) in
     ap (λ b. b && is_newline (get_or text (length (encode_utf8_all (c ∷ d ∷ s)) - 1) 0)) both
     ∙ (ap (λ k. nat_lt 0 (length (encode_utf8_all (d ∷ s))) && is_newline k) there ∙ last_byte (d ∷ s) tail rest refl)
 
@@ -106,15 +111,15 @@ module _ (text fence label : List ℕ) (is : IsUtf8 text) (fence_is : fence ≡ 
   dashes_fence =
       let n : ℕ = run_len is_dash (chars fence) in
       let dashes : encode_utf8_all (take n (chars fence)) ≡ the.fence n = ap encode_utf8_all (run-fence (chars fence))
-          ∙ fence-encode n in
+      ∙ fence-encode n in
       let size : length fence - length label ≡ n = length-run is_dash (λ c e. let f = eqb-true c 45 e in
-          omega arith) fence label fence_utf8 label_is in
+      omega arith) fence label fence_utf8 label_is in
       let whole : fence ≡ the.fence n ++ past n fence = split_past n fence fence_utf8
-          ∙ ap (λ (w : List ℕ). w ++ past n fence) dashes in
+      ∙ ap (λ (w : List ℕ). w ++ past n fence) dashes in
       ap (λ (k : ℕ). take k fence) size
-          ∙ (ap (take n) whole
-          ∙ (ap (λ (k : ℕ). take k (the.fence n ++ past n fence)) (sym (fence-length n))
-          ∙ (take-append_seam (the.fence n) (past n fence) ∙ ap the.fence (sym size))))
+      ∙ (ap (take n) whole
+      ∙ (ap (λ (k : ℕ). take k (the.fence n ++ past n fence)) (sym (fence-length n))
+      ∙ (take-append_seam (the.fence n) (past n fence) ∙ ap the.fence (sym size))))
 
   spaces_are : length text - length fence ≡ bytes_of (spaces_len (chars text)) (chars text)
   spaces_are = grind (arith, common_steps, length-past)
@@ -124,7 +129,7 @@ module _ (text fence label : List ℕ) (is : IsUtf8 text) (fence_is : fence ≡ 
   newline_before =
       ap (λ n. nat_lt 0 n && is_newline (get_or text (n - 1) 0)) spaces_are
       ∙ last_byte (take (spaces_len (chars text)) (chars text)) text fence (split_past (spaces_len (chars text)) text is
-          ∙ ap (λ xs. encode_utf8_all (take (spaces_len (chars text)) (chars text)) ++ xs) (sym fence_is))
+      ∙ ap (λ xs. encode_utf8_all (take (spaces_len (chars text)) (chars text)) ++ xs) (sym fence_is))
 
   pub opens-few : length fence - length label < 3 → opens (chars text) ≡ false
   opens-few few = rw (begins-few 3 (drop (spaces_len (chars text)) (chars text)) (omega (arith, dashes_are))) refl
@@ -143,8 +148,11 @@ module _ (text fence label : List ℕ) (is : IsUtf8 text) (fence_is : fence ≡ 
 
     pub opens-yes : newline_there ≡ false → 3 ≤ length fence - length label → opens (chars text) ≡ true
     opens-yes none enough =
-        rw (begins-enough 3 (drop (spaces_len (chars text)) (chars text)) (omega (arith, dashes_are)), sym decided_so
-        ∙ none) refl
+        rw (
+          begins-enough 3 (drop (spaces_len (chars text)) (chars text)) (omega (arith, dashes_are)),
+          sym decided_so
+              ∙ none,
+        ) refl
 
   module _ (rest : List ℕ) (rest_is : rest ≡ past (label_len (chars label)) label) where
     pub past_opening-is : rest ≡ past_opening text
@@ -169,10 +177,10 @@ if_found_none end otherwise = refl
 -- the closing, by what the searches answer
 pub closing_end_is : (n : ℕ) (rest : List ℕ)
     → closing_end n rest ≡ if_found (first (newline ∷ fence n) rest) (λ offset. line_end (offset + 1) rest)
-        (if_found (first (codes "\n---") rest) (λ offset. line_end (offset + 1) rest)
+    (if_found (first (codes "\n---") rest) (λ offset. line_end (offset + 1) rest)
     (if_found (first (codes "\nuse ") rest) (λ offset. offset) (if_found (first (codes "\n//!") rest) (λ offset. offset)
     (if_found (first (codes "\n#![") rest) (λ offset. offset)
-        (if_found (first_lone true 0 rest) (λ offset. line_end offset rest) (length rest))))))
+    (if_found (first_lone true 0 rest) (λ offset. line_end offset rest) (length rest))))))
 unfolding closing_end
 closing_end_is n rest = refl
 
@@ -191,15 +199,15 @@ frontmatter-cut text is e =
     let k : ℕ = length b.body in
     let front : take k (drop n s) ≡ b.body = ap (take k) (sym b.whole) ∙ take-append_seam b.body b.next in
     let closes : closing_end (fence_len s) (past_opening text) ≡ bytes_of k (drop n s) =
-        ap (λ (u : List ℕ). closing_end (fence_len s) (encode_utf8_all u)) (sym b.whole)
-        ∙ (body-read (fence_len s) b.is ∙ ap (λ (u : List ℕ). length (encode_utf8_all u)) (sym front)) in
+    ap (λ (u : List ℕ). closing_end (fence_len s) (encode_utf8_all u)) (sym b.whole)
+    ∙ (body-read (fence_len s) b.is ∙ ap (λ (u : List ℕ). length (encode_utf8_all u)) (sym front)) in
     let end : bytes_of n s + closing_end (fence_len s) (past_opening text) ≡ bytes_of (n + k) s =
-        omega (arith, closes, bytes_of-add n k s) in
+    omega (arith, closes, bytes_of-add n k s) in
     let inside : bytes_of (n + k) s ≤ length text = omega (arith, length-past (n + k) text is) in
     let some : 3 ≤ fence_len s =
-        begins-dashes 3 (drop (spaces_len s) s) (and_parts (begins (fence 3) (drop (spaces_len s) s)) _ e).0 in
+    begins-dashes 3 (drop (spaces_len s) s) (and_parts (begins (fence 3) (drop (spaces_len s) s)) _ e).0 in
     let chars_some : 3 ≤ length s =
-        omega (arith, run_len_le is_dash (drop (spaces_len s) s), length-drop (spaces_len s) s) in
+    omega (arith, run_len_le is_dash (drop (spaces_len s) s), length-drop (spaces_len s) s) in
     record {
       not_empty = omega (arith, length-le-encodes (take n s), length-take n s);
       inside = omega (arith, end, inside);

@@ -1,54 +1,47 @@
 -- What is read at the front of a text is a token of the language, a token of the language is what is read, and how far
 -- it
 -- looks.
-use Rattle.std.proofs.Common.{
-    ◌≡◌, ℕ, ◌==◌, Bool, true, false, List, [], ◌∷◌, ◌++◌, length, take, drop, codes, refl, sym, ap, ◌∙◌, subst,
-    take-append-drop, arith, bytes_eq
-}
+use Rattle.std.proofs.Common.{◌≡◌, ℕ, ◌==◌, Bool, true, false, List, [], ◌∷◌, ◌++◌, length, take, drop, codes, refl}
+use Rattle.std.proofs.Common.{sym, ap, ◌∙◌, subst, take-append-drop, arith, bytes_eq}
 use Rattle.std.proofs.{Math.Seq.{take-append_seam}, lemmas.Bool.{and_parts, or_parts, or_from, eqb-true}}
 use Rattle.std.proofs.lemmas.List.{append-nil}
 use Rattle.std.specs.Char.{is_ascii_digit}
 use Rattle.std.proofs.lemmas.Grind.{common_steps}
 use Rattle.rustc_lexer.specs.declared.lexemes.family.Family.{Family}
-use Rattle.rustc_lexer.specs.declared.lexemes.family.Family.TheVariants.{
-    Slash, Space, Word, Number, Quote, Str, Emoji, Hash, Symbol
-}
+use Rattle.rustc_lexer.specs.declared.lexemes.family.Family.TheVariants.{Slash, Space, Word, Number, Quote, Str, Emoji}
+use Rattle.rustc_lexer.specs.declared.lexemes.family.Family.TheVariants.{Hash, Symbol}
 use Rattle.rustc_lexer.specs.declared.lexemes.raw.RawPrefix.TheVariants.{Br, Cr}
 use Rattle.rustc_lexer.specs.{LiteralKind, TokenKind}
 use Rattle.rustc_lexer.specs.Classes.{is_whitespace, is_id_start, NextIs}
 use Rattle.rustc_lexer.specs.Tables.{is_emoji}
 use Rattle.rustc_lexer.specs.means.Ident.{ident_or_unknown_prefix}
 use Rattle.rustc_lexer.specs.laws.Choice.{by_test}
-use Rattle.rustc_lexer.specs.laws.LanguageComments.{
-    space-sound, space-read, hash-sound, pound-read, guarded-read, symbol-read, slash-sound, slash-read, line-read,
-    block-read, open-read
-}
-use Rattle.rustc_lexer.specs.laws.LanguageLifetimes.{
-    quote-sound, lifetime-read, prefix-read, raw_lifetime-read, char-reads, one-reads, name-reads
-}
-use Rattle.rustc_lexer.specs.laws.LanguageLiterals.{
-    str-sound, byte-sound, byte_str-sound, c_str-sound, raw_str-sound, raw_byte_str-sound, raw_c_str-sound,
-    number-sound, ReadsLiteral, plain-read, with_suffix-read, str-reads, byte-reads, byte_str-reads, c_str-reads,
-    raw_str-reads, raw_byte_str-reads, raw_c_str-reads, number-reads
-}
-use Rattle.rustc_lexer.specs.laws.LanguageReach.{
-    ends, same, stays, literal_reach, reach-literal, suffix-alike, literal-looks, literal-alike, no-hash, known-decided,
-    by_only, unknown_k, raw_ident-decided_by
-}
+use Rattle.rustc_lexer.specs.laws.LanguageComments.{space-sound, space-read, hash-sound, pound-read, guarded-read}
+use Rattle.rustc_lexer.specs.laws.LanguageComments.{symbol-read, slash-sound, slash-read, line-read, block-read}
+use Rattle.rustc_lexer.specs.laws.LanguageComments.{open-read}
+use Rattle.rustc_lexer.specs.laws.LanguageLifetimes.{quote-sound, lifetime-read, prefix-read, raw_lifetime-read}
+use Rattle.rustc_lexer.specs.laws.LanguageLifetimes.{char-reads, one-reads, name-reads}
+use Rattle.rustc_lexer.specs.laws.LanguageLiterals.{str-sound, byte-sound, byte_str-sound, c_str-sound, raw_str-sound}
+use Rattle.rustc_lexer.specs.laws.LanguageLiterals.{raw_byte_str-sound, raw_c_str-sound, number-sound, ReadsLiteral}
+use Rattle.rustc_lexer.specs.laws.LanguageLiterals.{plain-read, with_suffix-read, str-reads, byte-reads, byte_str-reads}
+use Rattle.rustc_lexer.specs.laws.LanguageLiterals.{c_str-reads, raw_str-reads, raw_byte_str-reads, raw_c_str-reads}
+use Rattle.rustc_lexer.specs.laws.LanguageLiterals.{number-reads}
+use Rattle.rustc_lexer.specs.laws.LanguageReach.{ends, same, stays, literal_reach, reach-literal, suffix-alike}
+use Rattle.rustc_lexer.specs.laws.LanguageReach.{literal-looks, literal-alike, no-hash, known-decided, by_only}
+use Rattle.rustc_lexer.specs.laws.LanguageReach.{unknown_k, raw_ident-decided_by}
 use Rattle.rustc_lexer.specs.laws.LanguageRuns.{Sound, letters-start}
-use Rattle.rustc_lexer.specs.laws.LanguageWords.{
-    by_letter, continue-word, no-opening, opens_raw-none, none-raw, ident-sound, invalid-sound, raw_ident-sound,
-    keyword-sound, ident-is_read, prefix-read as word_prefix-read, invalid-read, raw_ident-read, keyword-read
-}
+use Rattle.rustc_lexer.specs.laws.LanguageWords.{by_letter, continue-word, no-opening, opens_raw-none, none-raw}
+use Rattle.rustc_lexer.specs.laws.LanguageWords.{ident-sound, invalid-sound, raw_ident-sound, keyword-sound}
+use Rattle.rustc_lexer.specs.laws.LanguageWords.{ident-is_read, prefix-read as word_prefix-read, invalid-read}
+use Rattle.rustc_lexer.specs.laws.LanguageWords.{raw_ident-read, keyword-read}
 use Rattle.rustc_lexer.specs.laws.Reach.{cut, past}
 use Rattle.rustc_lexer.specs.Language as the
 use Rattle.rustc_lexer.specs.Language.{begins_prefixed, IsTokenBefore}
 use Rattle.rustc_lexer.specs.LiteralGrammar.{IsLiteralBefore}
 use Rattle.rustc_lexer.specs.LanguageText.{TheOnly}
 use Rattle.rustc_lexer.specs.GrammarLaws.{reach, BeginsWith}
-use Rattle.rustc_lexer.specs.means.Lexeme.{
-    opens_raw, begins_raw, raw_past_or_ident, letter_r, letter_k, letter_b, letter_c, word, past_first, read_by, lexeme
-}
+use Rattle.rustc_lexer.specs.means.Lexeme.{opens_raw, begins_raw, raw_past_or_ident, letter_r, letter_k, letter_b}
+use Rattle.rustc_lexer.specs.means.Lexeme.{letter_c, word, past_first, read_by, lexeme}
 use Rattle.rustc_lexer.specs.means.Literal.{literal}
 use Rattle.rustc_lexer.specs.means.Quoted.{byte_body, byte_str_body, c_str_body}
 use Rattle.rustc_lexer.specs.means.Raw.{raw_literal}
@@ -75,29 +68,49 @@ raw-parts c scan is w3 e = grind (arith, common_steps, and_parts, eqb-true)
 b-sound : SoundAll 98 letter_b
 b-sound s = by_test (Sound 98 s) (begins (codes "'") s) (literal (after 1 byte_body) s) _ (byte-sound s)
     (λ e. by_test (Sound 98 s) (begins (codes "\"") s) (literal (after 1 byte_str_body) s) (raw_past_or_ident Br s)
-        (byte_str-sound s)
+    (byte_str-sound s)
     (λ f. by_test (Sound 98 s) (begins_raw s) (after 1 (raw_literal Br) s) (ident_or_unknown_prefix s)
-        (raw-parts 98 (after 1 (raw_literal Br)) raw_byte_str-sound s)
-        (λ g. ident-sound 98 letters-start.2 s (free e f g))))
+    (raw-parts 98 (after 1 (raw_literal Br)) raw_byte_str-sound s)
+    (λ g. ident-sound 98 letters-start.2 s (free e f g))))
   where
     free : begins (codes "'") s ≡ false → begins (codes "\"") s ≡ false → begins_raw s ≡ false
         → begins_prefixed (98 ∷ s) ≡ false
     free e f g =
         let none = none-raw s g in
-        no-opening (98 ∷ s) record { r_quote = refl; r_hash = refl; b_one = e; b_quote = f; br_quote = none.0;
-            br_hash = none.1; c_quote = refl; cr_quote = refl; cr_hash = refl; k_hash = refl }
+        no-opening (98 ∷ s) record {
+          r_quote = refl;
+          r_hash = refl;
+          b_one = e;
+          b_quote = f;
+          br_quote = none.0;
+          br_hash = none.1;
+          c_quote = refl;
+          cr_quote = refl;
+          cr_hash = refl;
+          k_hash = refl;
+        }
 
 c-sound : SoundAll 99 letter_c
 c-sound s = by_test (Sound 99 s) (begins (codes "\"") s) (literal (after 1 c_str_body) s) (raw_past_or_ident Cr s)
     (c_str-sound s)
     (λ f. by_test (Sound 99 s) (begins_raw s) (after 1 (raw_literal Cr) s) (ident_or_unknown_prefix s)
-        (raw-parts 99 (after 1 (raw_literal Cr)) raw_c_str-sound s) (λ g. ident-sound 99 letters-start.3 s (free f g)))
+    (raw-parts 99 (after 1 (raw_literal Cr)) raw_c_str-sound s) (λ g. ident-sound 99 letters-start.3 s (free f g)))
   where
     free : begins (codes "\"") s ≡ false → begins_raw s ≡ false → begins_prefixed (99 ∷ s) ≡ false
     free f g =
         let none = none-raw s g in
-        no-opening (99 ∷ s) record { r_quote = refl; r_hash = refl; b_one = refl; b_quote = refl; br_quote = refl;
-            br_hash = refl; c_quote = f; cr_quote = none.0; cr_hash = none.1; k_hash = refl }
+        no-opening (99 ∷ s) record {
+          r_quote = refl;
+          r_hash = refl;
+          b_one = refl;
+          b_quote = refl;
+          br_quote = refl;
+          br_hash = refl;
+          c_quote = f;
+          cr_quote = none.0;
+          cr_hash = none.1;
+          k_hash = refl;
+        }
 
 word-sound : (c : ℕ) → is_id_start c ≡ true → SoundAll c (word c)
 word-sound c start =
@@ -132,8 +145,20 @@ lexeme-sound (c ∷ s) = each-sound c s
 literal-reads : {next : List ℕ} {kind : LiteralKind} {takes : Bool} {w : List ℕ} → IsLiteralBefore next kind takes w
     → ReadsLiteral next kind takes w
 literal-reads w0 =
-    search (arith, number-reads, str-reads, byte_str-reads, c_str-reads, byte-reads, one-reads, char-reads, name-reads,
-    raw_str-reads, raw_byte_str-reads, raw_c_str-reads)
+    search (
+      arith,
+      number-reads,
+      str-reads,
+      byte_str-reads,
+      c_str-reads,
+      byte-reads,
+      one-reads,
+      char-reads,
+      name-reads,
+      raw_str-reads,
+      raw_byte_str-reads,
+      raw_c_str-reads,
+    )
 
 pub token-read : {next : List ℕ} {kind : TokenKind} {w : List ℕ} → IsTokenBefore next kind w
     → lexeme (w ++ next) ≡ (kind, length w)
@@ -172,7 +197,7 @@ token-alike {next} (the.ident is stop none) other e =
 token-alike {next} (the.unknown_prefix {w} is go free) other e = by_only (bytes_eq w (codes "k")) other next e
     (λ is_k two. unknown_k next other w is_k is (stays _ next other (cut 1 2 other next (omega arith) two) go) two free)
     (λ no_k one. the.unknown_prefix is (stays _ next other one go)
-        (grind (arith, common_steps, same, known-decided, or_parts, continue-word, and_parts, or_from, no-hash)))
+    (grind (arith, common_steps, same, known-decided, or_parts, continue-word, and_parts, or_from, no-hash)))
 token-alike {next} (the.invalid_ident start all wrong stop) other e =
     the.invalid_ident start all wrong (stays _ next other e stop)
 token-alike {next} (the.raw_ident is stop) other e = the.raw_ident is (stays _ next other e stop)
@@ -183,18 +208,18 @@ token-alike {next} (the.lifetime start all stop quote hash) other e =
 token-alike {next} (the.unknown_prefix_lifetime {c} {w} start all hash free) other e =
     by_only (bytes_eq (c ∷ w) (codes "r")) other next e
     (λ is_r two. the.unknown_prefix_lifetime start all (stays _ next other (cut 1 2 other next (omega arith) two) hash)
-        (raw_ident-decided_by (c ∷ w) is_r next other two free))
+    (raw_ident-decided_by (c ∷ w) is_r next other two free))
     (λ no_r one. the.unknown_prefix_lifetime start all (stays _ next other one hash) (no-hash 114 c w other all no_r))
 token-alike {next} (the.raw_lifetime is stop) other e = the.raw_lifetime is (stays _ next other e stop)
 token-alike {next} (the.literal {kind} {w} is) other far =
     let e = subst (λ (k : ℕ). take k other ≡ take k next)
-        (reach-literal kind _ w ∙ ap (literal_reach kind) (sym (append-nil w))) far in
+    (reach-literal kind _ w ∙ ap (literal_reach kind) (sym (append-nil w))) far in
     the.literal (literal-alike is [] other e)
 token-alike {next} (the.literal_with {kind} {w} {suffix} is suffix_is) other far =
     let e = subst (λ (k : ℕ). take k other ≡ take k next) (reach-literal kind _ (w ++ suffix)) far in
     let k : ℕ = literal_reach kind (w ++ suffix) in
     the.literal_with (literal-alike is suffix (suffix ++ other) (past k suffix next other e))
-        (suffix-alike suffix_is other (cut 1 k other next (literal-looks is refl suffix) e))
+    (suffix-alike suffix_is other (cut 1 k other next (literal-looks is refl suffix) e))
 token-alike {next} (the.slash stop) other e = the.slash (stays _ next other e stop)
 token-alike {next} (the.pound stop) other e = the.pound (stays _ next other e stop)
 token-alike {next} (the.guarded_prefix is) other e = the.guarded_prefix is
@@ -211,7 +236,7 @@ begins-one s = record {
         let read : lexeme s ≡ (other.0, length other.1) = ap lexeme begins.1 ∙ token-read begins.2 in
         let kind = sym (ap (λ (r : TokenKind × ℕ). r.0) read) in
         let text = sym (ap (λ (r : TokenKind × ℕ). take r.1 s) read
-            ∙ (ap (take (length other.1)) begins.1 ∙ take-append_seam other.1 begins.0)) in
+        ∙ (ap (take (length other.1)) begins.1 ∙ take-append_seam other.1 begins.0)) in
         λ i. (kind i, text i)
         ),
     λ same. subst (BeginsWith s) (sym same)

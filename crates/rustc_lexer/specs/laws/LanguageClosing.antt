@@ -1,9 +1,7 @@
 -- The end of a frontmatter is the one that the language has, and it is the same in characters and in bytes.
-use Rattle.std.proofs.Common.{
-    ◌≡◌, ℕ, zero, suc, ◌+◌, ◌≤◌, ◌<◌, ◌==◌, ◌&&◌, nat_lt, not, get_or, inl, inr, Bool, true, false, List, [], ◌∷◌, ◌++◌,
-    length, take, drop, codes, refl, sym, ap, ◌∙◌, subst, arith, append_assoc, length-append, length-take,
-    take-append-drop, Option, Some, None
-}
+use Rattle.std.proofs.Common.{◌≡◌, ℕ, zero, suc, ◌+◌, ◌≤◌, ◌<◌, ◌==◌, ◌&&◌, nat_lt, not, get_or, inl, inr, Bool, true}
+use Rattle.std.proofs.Common.{false, List, [], ◌∷◌, ◌++◌, length, take, drop, codes, refl, sym, ap, ◌∙◌, subst, arith}
+use Rattle.std.proofs.Common.{append_assoc, length-append, length-take, take-append-drop, Option, Some, None}
 use Rattle.std.proofs.Math.Seq.{take-append_seam, drop-append_seam}
 use Rattle.std.proofs.lemmas.Bool.{and_parts, cases_lt, eqb-true, false_from_ne_true, ltb-true, lt-ltb, not-true}
 use Rattle.std.proofs.lemmas.List.{append-nil}
@@ -12,9 +10,8 @@ use Rattle.std.specs.{Char.{encode_utf8}, List.{list_all}, Str.{encode_utf8_all}
 use Rattle.std.proofs.lemmas.Grind.{common_steps}
 use Rattle.rustc_lexer.specs.Classes.{is_inline, bytes, Chars, AreAll, NextIsNot}
 use Rattle.rustc_lexer.specs.FrontmatterGrammar as the
-use Rattle.rustc_lexer.specs.FrontmatterGrammar.{
-    fence, IsFirstPositionOf, IsNowhere, IsAt, IsLone, endings, IsBodyBefore
-}
+use Rattle.rustc_lexer.specs.FrontmatterGrammar.{fence, IsFirstPositionOf, IsNowhere, IsAt, IsLone, endings}
+use Rattle.rustc_lexer.specs.FrontmatterGrammar.{IsBodyBefore}
 use Rattle.rustc_lexer.specs.means.Frontmatter.{first, line_end, blank_past, first_lone, end_by, closing_end}
 use Rattle.rustc_lexer.specs.means.Least.{one_more, more, least}
 use Rattle.rustc_lexer.specs.means.Scan.{begins, bytes_of, run_len}
@@ -24,9 +21,8 @@ use Rattle.rustc_lexer.specs.laws.Fences.{begins-whole}
 use Rattle.rustc_lexer.specs.laws.LanguageRuns.{run_len-here, run-stops, either-way}
 use Rattle.rustc_lexer.specs.laws.Least.{offset-on, more-zero, one_more-more}
 use Rattle.rustc_lexer.specs.laws.LanguageLone.{lone_at, lone-decided, decided-lone, lone-first}
-use Rattle.rustc_lexer.specs.laws.Reach.{
-    begins-length, run_all, run_len-in, least-is, least-none, least-some, none-least
-}
+use Rattle.rustc_lexer.specs.laws.Reach.{begins-length, run_all, run_len-in, least-is, least-none, least-some}
+use Rattle.rustc_lexer.specs.laws.Reach.{none-least}
 
 -- ---- what is found in the bytes
 
@@ -58,8 +54,8 @@ points-all p (c ∷ s) each = rw (each 0 (omega arith), points-all p s (λ n lt.
 high-bytes : (c : ℕ) → 128 ≤ c → AreAll is_high (encode_utf8 c)
 high-bytes c le = points-all is_high (encode_utf8 c) (λ k lt. by_either (is_ascii (get_or (encode_utf8 c) k 0))
     (λ e. absurd (let same : c ≡ get_or (encode_utf8 c) k 0 = inside_one c [] (encode_utf8 c) k
-        (sym (append-nil (encode_utf8 c))) lt (ltb-true _ 128 e) in
-        omega (arith, ltb-true (get_or (encode_utf8 c) k 0) 128 e)))
+    (sym (append-nil (encode_utf8 c))) lt (ltb-true _ 128 e) in
+    omega (arith, ltb-true (get_or (encode_utf8 c) k 0) 128 e)))
     (λ e. rw e refl))
 
 -- a text goes on by a byte in ASCII, or by bytes that are not
@@ -68,8 +64,10 @@ data Encoded (c : ℕ) (s : Chars) : Type 0 where
   high : 128 ≤ c → AreAll is_high (encode_utf8 c) → 0 < length (encode_utf8 c) → Encoded c s
 
 encoded : (c : ℕ) (s : Chars) → Encoded c s
-encoded c s = elim (cases_lt c 128) [ inl lt ↦ one lt (ap (λ (w : List ℕ). w ++ encode_utf8_all s) (encode_ascii c lt))
-    | inr ge ↦ high ge (high-bytes c ge) (omega (arith, length-encode c, len_utf8_bounds c)) ]
+encoded c s = elim (cases_lt c 128) [
+  | inl lt ↦ one lt (ap (λ (w : List ℕ). w ++ encode_utf8_all s) (encode_ascii c lt))
+  | inr ge ↦ high ge (high-bytes c ge) (omega (arith, length-encode c, len_utf8_bounds c))
+]
 
 high-other : (b d : ℕ) → is_high b ≡ true → d < 128 → (b == d) ≡ false
 high-other b d e lt =
@@ -91,14 +89,24 @@ first-high : (d : ℕ) (ds w s : List ℕ) → is_ascii d ≡ true → AreAll is
     → first (d ∷ ds) (w ++ s) ≡ more (length w) (first (d ∷ ds) s)
 first-high d ds [] s f all = more-zero (first (d ∷ ds) s)
 first-high d ds (b ∷ w) s f all =
-    grind (arith, common_steps, begins-high d ds (b ∷ w) s all (omega arith) f, offset-on, one_more-more,
-    first-high d ds w s f (and_parts (is_high b) (list_all is_high w) all).1)
+    grind (
+      arith,
+      common_steps,
+      begins-high d ds (b ∷ w) s all (omega arith) f,
+      offset-on,
+      one_more-more,
+      first-high d ds w s f (and_parts (is_high b) (list_all is_high w) all).1,
+    )
 
 lone-step : (blank : Bool) (b : ℕ) (s : List ℕ) → is_high b ≡ true
     → first_lone blank 0 (b ∷ s) ≡ one_more (first_lone false 0 s)
 lone-step blank b s e =
-    rw (high-other b 45 e (omega arith), high-other b 10 e (omega arith), high-other b 9 e (omega arith),
-    high-other b 32 e (omega arith)) refl
+    rw (
+      high-other b 45 e (omega arith),
+      high-other b 10 e (omega arith),
+      high-other b 9 e (omega arith),
+      high-other b 32 e (omega arith),
+    ) refl
 
 lone-high : (blank : Bool) (w s : List ℕ) → AreAll is_high w → 0 < length w → first_lone blank 0 (w ++ s) ≡
     more (length w) (first_lone false 0 s)
@@ -106,8 +114,14 @@ lone-high blank [] s all some = absurd (omega arith)
 lone-high blank (b ∷ []) s all some = lone-step blank b s (and_parts (is_high b) true all).0
     ∙ (ap one_more (more-zero _) ∙ one_more-more 0 (first_lone false 0 s))
 lone-high blank (b ∷ a ∷ w) s all some =
-    grind (arith, common_steps, and_parts, lone-step, one_more-more,
-    lone-high false (a ∷ w) s (and_parts (is_high b) (list_all is_high (a ∷ w)) all).1 (omega arith))
+    grind (
+      arith,
+      common_steps,
+      and_parts,
+      lone-step,
+      one_more-more,
+      lone-high false (a ∷ w) s (and_parts (is_high b) (list_all is_high (a ∷ w)) all).1 (omega arith),
+    )
 
 run-high : (w s : List ℕ) → AreAll is_high w → run_len is_inline (w ++ s) ≡ length w + run_len is_inline s
 run-high [] s all = omega arith
@@ -131,8 +145,17 @@ pub begins-encode : (pattern s : List ℕ) → list_all is_ascii pattern ≡ tru
 begins-encode [] s ascii = refl
 begins-encode (d ∷ ds) [] ascii = refl
 begins-encode (d ∷ ds) (c ∷ s) ascii =
-    grind (arith, common_steps, and_parts, encoded, begins-high, high-other, ge-high, ltb-true,
-        begins-encode ds s (and_parts (is_ascii d) (list_all is_ascii ds) ascii).1)
+    grind (
+      arith,
+      common_steps,
+      and_parts,
+      encoded,
+      begins-high,
+      high-other,
+      ge-high,
+      ltb-true,
+      begins-encode ds s (and_parts (is_ascii d) (list_all is_ascii ds) ascii).1,
+    )
 
 first-encode : (d : ℕ) (ds s : List ℕ) → list_all is_ascii (d ∷ ds) ≡ true → first (d ∷ ds) (encode_utf8_all s) ≡
     in_bytes s (first (d ∷ ds) s)
@@ -144,32 +167,55 @@ first-encode d ds (c ∷ s) ascii =
           (by_either ((c == d) && begins ds s) (λ t. rw t refl)
           (λ t. rw t (sym (in_bytes-one c s (first (d ∷ ds) s) lt))))
       | high ge all some ↦
-          rw (first-high d ds (encode_utf8 c) (encode_utf8_all s) parts.0 all, first-encode d ds s ascii,
-          high-other c d (ge-high c ge) (ltb-true d 128 parts.0)) (sym (in_bytes-suc c s (first (d ∷ ds) s)))
+          rw (
+            first-high d ds (encode_utf8 c) (encode_utf8_all s) parts.0 all,
+            first-encode d ds s ascii,
+            high-other c d (ge-high c ge) (ltb-true d 128 parts.0),
+          ) (sym (in_bytes-suc c s (first (d ∷ ds) s)))
     ]
 
 lone-encode : (blank : Bool) (skip : ℕ) (s : List ℕ) → begins (fence skip) s ≡ true
     → first_lone blank skip (encode_utf8_all s) ≡ in_bytes s (first_lone blank skip s)
 lone-encode blank skip [] f = refl
 lone-encode blank (suc skip) (c ∷ s) f =
-    grind (arith, common_steps, and_parts, eqb-true, encode_ascii, in_bytes-one,
-    lone-encode blank skip s (and_parts (c == 45) (begins (fence skip) s) f).1)
+    grind (
+      arith,
+      common_steps,
+      and_parts,
+      eqb-true,
+      encode_ascii,
+      in_bytes-one,
+      lone-encode blank skip s (and_parts (c == 45) (begins (fence skip) s) f).1,
+    )
 lone-encode blank zero (c ∷ s) f = elim (encoded c s) [
   | one lt e ↦ rw (e, begins-encode (fence 2) s refl) (by_either ((c == 45) && begins (fence 2) s)
       (λ t. by_either blank (λ b. rw (t, b) refl)
-          (λ b. rw (t, b, lone-encode true 2 s (and_parts (c == 45) (begins (fence 2) s) t).1)
-          (sym (in_bytes-one c s (first_lone true 2 s) lt))))
+      (λ b. rw (t, b, lone-encode true 2 s (and_parts (c == 45) (begins (fence 2) s) t).1)
+      (sym (in_bytes-one c s (first_lone true 2 s) lt))))
       (λ t. rw (t, lone-encode (blank_past blank c) 0 s refl)
-          (sym (in_bytes-one c s (first_lone (blank_past blank c) 0 s) lt))))
-  | high ge all some ↦ rw (lone-high blank (encode_utf8 c) (encode_utf8_all s) all some, lone-encode false 0 s refl,
-      lone-step blank c s (ge-high c ge)) (sym (in_bytes-suc c s (first_lone false 0 s)))
+      (sym (in_bytes-one c s (first_lone (blank_past blank c) 0 s) lt))))
+  | high ge all some ↦ rw (
+    lone-high blank (encode_utf8 c) (encode_utf8_all s) all some,
+    lone-encode false 0 s refl,
+    lone-step blank c s (ge-high c ge),
+  ) (sym (in_bytes-suc c s (first_lone false 0 s)))
 ]
 
 run-encode : (s : List ℕ) → run_len is_inline (encode_utf8_all s) ≡ bytes_of (run_len is_inline s) s
 run-encode [] = refl
 run-encode (c ∷ s) =
-    grind (arith, common_steps, encoded, encode_ascii, bytes_of-suc, run-high, run_len-in, high-other, ge-high,
-    run-encode s)
+    grind (
+      arith,
+      common_steps,
+      encoded,
+      encode_ascii,
+      bytes_of-suc,
+      run-high,
+      run_len-in,
+      high-other,
+      ge-high,
+      run-encode s,
+    )
 
 -- ---- the first place
 
@@ -192,18 +238,18 @@ module _ {IsSuch : Chars → Chars → Type 0} {test : Chars → ℕ → Bool} {
   no-offset : (s : Chars) → least (test s) (length s) ≡ None → IsNowhere IsSuch s
   no-offset s e x y f such =
       either-way (test s (length x)) (decided-at s x y f such)
-          (none-least (test s) (length s) e (length x)
-          (omega (arith, tells.some x y such, length-append x y, ap length f)))
+      (none-least (test s) (length s) e (length x)
+      (omega (arith, tells.some x y such, length-append x y, ap length f)))
 
   first-read : (u v : Chars) → IsFirstPositionOf IsSuch u v → search_for (encode_utf8_all (u ++ v)) ≡ Some (bytes u)
   first-read u v at =
       tells.found (u ++ v) ∙ ap (in_bytes (u ++ v)) (least-is (test (u ++ v)) (length (u ++ v)) (length u) record {
-    below = omega (arith, length-append u v, tells.some u v at.here);
-    here = tells.decided u v at.here;
-    before = λ i lt. false_from_ne_true _
-        (λ e. let le = at.first (take i (u ++ v)) (drop i (u ++ v)) (take-append-drop i (u ++ v))
-        (tells.is (u ++ v) i e) in omega (arith, length-take i (u ++ v)));
-  }) ∙ ap (λ (w : Chars). Some (bytes w)) (take-append_seam u v)
+        below = omega (arith, length-append u v, tells.some u v at.here);
+        here = tells.decided u v at.here;
+        before = λ i lt. false_from_ne_true _
+            (λ e. let le = at.first (take i (u ++ v)) (drop i (u ++ v)) (take-append-drop i (u ++ v))
+            (tells.is (u ++ v) i e) in omega (arith, length-take i (u ++ v)));
+      }) ∙ ap (λ (w : Chars). Some (bytes w)) (take-append_seam u v)
 
   nowhere-read : (s : Chars) → IsNowhere IsSuch s → search_for (encode_utf8_all s) ≡ None
   nowhere-read s none =
@@ -224,21 +270,36 @@ lone-tells = grind (arith, common_steps, lone-decided, decided-lone, begins-leng
 at-line : (u line next : Chars) → AreAll is_inline line → NextIsNot is_inline next
     → line_end (bytes u) (encode_utf8_all (u ++ (line ++ next))) ≡ bytes (u ++ line)
 at-line u line next all stop =
-    grind (arith, common_steps, encodes-append, drop-append_seam, run-encode, run_len-here is_inline line next all stop,
-        take-append_seam line next, length-append)
+    grind (
+      arith,
+      common_steps,
+      encodes-append,
+      drop-append_seam,
+      run-encode,
+      run_len-here is_inline line next all stop,
+      take-append_seam line next,
+      length-append,
+    )
 
 past-line : (u line next : Chars) → AreAll is_inline line → NextIsNot is_inline next
     → line_end (bytes u + 1) (encode_utf8_all (u ++ (10 ∷ line ++ next))) ≡ bytes (u ++ (10 ∷ line))
 past-line u line next all stop =
-    grind (arith, common_steps, append_assoc u (codes "\n"), at-line (u ++ codes "\n") line next all stop,
-    encodes-append, encode_ascii, length-append)
+    grind (
+      arith,
+      common_steps,
+      append_assoc u (codes "\n"),
+      at-line (u ++ codes "\n") line next all stop,
+      encodes-append,
+      encode_ascii,
+      length-append,
+    )
 
 end-read : {next w : Chars} {es : List (Chars × Bool)} → IsBodyBefore next es w → are_patterns es ≡ true
     → end_by es (encode_utf8_all (w ++ next)) ≡ bytes w
 end-read {next} (the.with_line pattern u line {others} is all stop) good =
     let parts = and_parts (is_pattern pattern) (are_patterns others) good in
     ap (λ (s : Chars). end_by ((pattern, true) ∷ others) (encode_utf8_all s)) (append_assoc u (10 ∷ line) next)
-        ∙ (rw (first-read (pattern-tells pattern parts.0) u (10 ∷ line ++ next) is) (past-line u line next all stop))
+    ∙ (rw (first-read (pattern-tells pattern parts.0) u (10 ∷ line ++ next) is) (past-line u line next all stop))
 end-read {next} (the.before_line pattern w {others} is) good =
     rw (first-read (pattern-tells pattern (and_parts (is_pattern pattern) (are_patterns others) good).0) w next is) refl
 end-read {next} (the.other pattern {takes_line} {w} {others} none rest) good =
@@ -246,7 +307,7 @@ end-read {next} (the.other pattern {takes_line} {w} {others} none rest) good =
     rw (nowhere-read (pattern-tells pattern parts.0) (w ++ next) none) (end-read rest parts.1)
 end-read {next} (the.lone_dashes u line is all stop) good =
     ap (λ (s : Chars). end_by [] (encode_utf8_all s)) (append_assoc u line next)
-        ∙ (rw (first-read lone-tells u (line ++ next) is) (at-line u line next all stop))
+    ∙ (rw (first-read lone-tells u (line ++ next) is) (at-line u line next all stop))
 end-read {next} (the.all {w} ends none) good = rw (ends, append-nil w, nowhere-read lone-tells w none) refl
 
 pub body-read : (n : ℕ) {body next : Chars} → IsBodyBefore next (endings n) body
@@ -266,8 +327,13 @@ record Lined (s : Chars) : Type 0 where
 
 lined : (s : Chars) → Lined s
 lined s = let n : ℕ = run_len is_inline s in
-    record { line = take n s; next = drop n s; whole = take-append-drop n s; inline = run_all is_inline s;
-    stop = run-stops is_inline s }
+    record {
+      line = take n s;
+      next = drop n s;
+      whole = take-append-drop n s;
+      inline = run_all is_inline s;
+      stop = run-stops is_inline s;
+    }
 
 pub record Body (es : List (Chars × Bool)) (s : Chars) : Type 0 where
   pub body : Chars
@@ -294,7 +360,7 @@ body-at [] s good = by_found (least (λ i. lone_at [] i s) (length s))
 body-at ((pattern, takes_line) ∷ others) s good =
     let parts = and_parts (is_pattern pattern) (are_patterns others) good in
     by_found (first pattern s)
-        (λ j e. by_kind takes_line j (first-offset (pattern-tells pattern parts.0) s j e) parts.0)
+    (λ j e. by_kind takes_line j (first-offset (pattern-tells pattern parts.0) s j e) parts.0)
     (λ e. let rest = body-at others s parts.1 in record {
       body = rest.body;
       next = rest.next;
@@ -306,12 +372,16 @@ body-at ((pattern, takes_line) ∷ others) s good =
     by_kind : (b : Bool) (j : ℕ) → IsFirstPositionOf (IsAt pattern) (take j s) (drop j s) → is_pattern pattern ≡ true
         → Body ((pattern, b) ∷ others) s
     by_kind false j at is =
-        record { body = take j s; next = drop j s; whole = take-append-drop j s;
-        is = the.before_line pattern (take j s) at }
+        record {
+          body = take j s;
+          next = drop j s;
+          whole = take-append-drop j s;
+          is = the.before_line pattern (take j s) at;
+        }
     by_kind true j at is =
         let l = lined (drop 1 (drop j s)) in
         let back : drop j s ≡ 10 ∷ l.line ++ l.next = newline-first pattern (drop j s) is at.here
-            ∙ ap (λ (t : Chars). 10 ∷ t) (sym l.whole) in
+        ∙ ap (λ (t : Chars). 10 ∷ t) (sym l.whole) in
         record {
           body = take j s ++ (10 ∷ l.line);
           next = l.next;

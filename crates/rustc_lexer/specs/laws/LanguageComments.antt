@@ -1,23 +1,20 @@
 -- Comments, white space and symbols are in their languages, and what is there is read so.
-use Rattle.std.proofs.Common.{
-    ◌≡◌, ℕ, suc, ◌==◌, ◌&&◌, not, Bool, true, false, true≢false, if◌then◌else◌, List, [], ◌∷◌, ◌++◌, length, take, drop,
-    codes, refl, sym, ap, ◌∙◌, subst, arith, take-append-drop, take_all, Option, Some, None
-}
+use Rattle.std.proofs.Common.{◌≡◌, ℕ, suc, ◌==◌, ◌&&◌, not, Bool, true, false, true≢false, if◌then◌else◌, List, [], ◌∷◌}
+use Rattle.std.proofs.Common.{◌++◌, length, take, drop, codes, refl, sym, ap, ◌∙◌, subst, arith, take-append-drop}
+use Rattle.std.proofs.Common.{take_all, Option, Some, None}
 use Rattle.std.proofs.{Math.Seq.{take-append_seam, drop-length}, lemmas.Bool.{and_parts, eqb-true, or_parts, or_from}}
 use Rattle.std.proofs.lemmas.{List.{append-nil}, Grind.{common_steps}}
-use Rattle.rustc_lexer.specs.{
-    DocStyle, Outer, Inner, LineComment, BlockComment, Whitespace, GuardedStrPrefix, Pound, Slash
-}
+use Rattle.rustc_lexer.specs.{DocStyle, Outer, Inner, LineComment, BlockComment, Whitespace, GuardedStrPrefix, Pound}
+use Rattle.rustc_lexer.specs.{Slash}
 use Rattle.rustc_lexer.specs.means.BlockComment.{block_doc_style, block_comment_to, block_comment, comment_end}
 use Rattle.rustc_lexer.specs.Classes.{is_among, is_whitespace, NextNotIn, AreAll, NextIsNot, is_inline}
 use Rattle.rustc_lexer.specs.means.Comment.{line_doc_style, line_comment, slash}
 use Rattle.rustc_lexer.specs.means.Hash.{opens_guarded, hash}
 use Rattle.rustc_lexer.specs.laws.BlockComment.{comment_end-found, comment_end-rest, rest-long, style_decided}
 use Rattle.rustc_lexer.specs.laws.Choice.{by_found, by_test}
-use Rattle.rustc_lexer.specs.laws.LanguageRuns.{
-    run_len-here, run-stops, Sound, Read, read-first, sound-after, decided-front, begins-next, chooses-slash,
-    chooses-space, chooses-hash, chooses-symbol, pair
-}
+use Rattle.rustc_lexer.specs.laws.LanguageRuns.{run_len-here, run-stops, Sound, Read, read-first, sound-after}
+use Rattle.rustc_lexer.specs.laws.LanguageRuns.{decided-front, begins-next, chooses-slash, chooses-space, chooses-hash}
+use Rattle.rustc_lexer.specs.laws.LanguageRuns.{chooses-symbol, pair}
 use Rattle.rustc_lexer.specs.laws.Reach.{run_all}
 use Rattle.rustc_lexer.specs.Language as the
 use Rattle.rustc_lexer.specs.Language.{IsStyle, inner, outer, no_outer, neither, IsCommentRest, IsTokenBefore, has_rule}
@@ -99,14 +96,24 @@ line-sound : (s : List ℕ)
 line-sound s =
     let n : ℕ = run_len is_inline s in
     the.line_comment (run_all is_inline s) (run-stops is_inline s)
-        (subst (λ (style : Option DocStyle). IsLineStyle style (take n s)) (line_doc_style-own s)
-        (line-styled (take n s)))
+    (subst (λ (style : Option DocStyle). IsLineStyle style (take n s)) (line_doc_style-own s)
+    (line-styled (take n s)))
 
 pub line-read : (style : Option DocStyle) (w next : List ℕ) → AreAll is_inline w → NextIsNot is_inline next
     → IsLineStyle style w → Read (LineComment style) (suc (suc (length w))) (47 ∷ 47 ∷ w ++ next)
 line-read style w next all stop is =
-    grind (arith, common_steps, run_len-here, take-append_seam, line_doc_style-own, read-first, chooses-slash, pair,
-    line-style, style-is)
+    grind (
+      arith,
+      common_steps,
+      run_len-here,
+      take-append_seam,
+      line_doc_style-own,
+      read-first,
+      chooses-slash,
+      pair,
+      line-style,
+      style-is,
+    )
 
 -- ---- block comments
 
@@ -140,22 +147,26 @@ block-sound s = by_end (comment_end s) refl
         let p = comment_end-rest s n e in
         let own : block_doc_style (take n s) ≡ block_doc_style s =
         sym (decided-front 2 block_doc_style style_decided (take n s) (drop n s) (rest-long p))
-            ∙ ap block_doc_style (take-append-drop n s) in
+        ∙ ap block_doc_style (take-append-drop n s) in
         the.block_comment p
-            (subst (λ (style : Option DocStyle). IsBlockStyle style (take n s)) own (block-styled (take n s)))
+        (subst (λ (style : Option DocStyle). IsBlockStyle style (take n s)) own (block-styled (take n s)))
 
 pub block-read : (style : Option DocStyle) (w next : List ℕ) → IsCommentRest w → IsBlockStyle style w
     → Read (BlockComment style true) (suc (suc (length w))) (47 ∷ 42 ∷ w ++ next)
 block-read style w next p is =
-    grind (arith, comment_end-found p next,
-        (decided-front 2 block_doc_style style_decided w next (rest-long p) ∙ block-style-is is), read-first,
-        chooses-slash)
+    grind (
+      arith,
+      comment_end-found p next,
+      (decided-front 2 block_doc_style style_decided w next (rest-long p) ∙ block-style-is is),
+      read-first,
+      chooses-slash,
+    )
 
 pub open-read : (style : Option DocStyle) (w next : List ℕ) → next ≡ [] → ((n : ℕ) → IsCommentRest (take n w) → ⊥)
     → IsBlockStyle style w → Read (BlockComment style false) (suc (suc (length w))) (47 ∷ 42 ∷ w ++ next)
 open-read style w next none never is =
     let lost : comment_end w ≡ None = by_found (comment_end w) (λ n e. absurd (never n (comment_end-rest w n e)))
-        (λ e. e) in
+    (λ e. e) in
     grind (arith, common_steps, none, append-nil w, lost, block-style-is is, read-first, chooses-slash)
 
 -- ---- a slash

@@ -1,14 +1,10 @@
 -- Texts and their characters, and the token of the grammar at the front of a text.
-use Rattle.std.proofs.Common.{
-    ◌≡◌, ℕ, ◌<◌, ◌≤◌, List, [], ◌∷◌, ◌++◌, length, take, drop, refl, sym, ap, ◌∙◌, subst, arith, take_at, drop_at,
-    take-append-drop, length-append
-}
+use Rattle.std.proofs.Common.{◌≡◌, ℕ, ◌<◌, ◌≤◌, List, [], ◌∷◌, ◌++◌, length, take, drop, refl, sym, ap, ◌∙◌, subst}
+use Rattle.std.proofs.Common.{arith, take_at, drop_at, take-append-drop, length-append}
 use lib.Utf8.{scalars}
 use Rattle.std.proofs.Math.Seq.{take-append_seam, drop-append_seam}
-use Rattle.std.proofs.lemmas.Str.{
-    chars-append, chars-encodes, encodes-append, encodes-chars, length-le-encodes, scalars-chars,
-    IsCharBoundary-from_take
-}
+use Rattle.std.proofs.lemmas.Str.{chars-append, chars-encodes, encodes-append, encodes-chars, length-le-encodes}
+use Rattle.std.proofs.lemmas.Str.{scalars-chars, IsCharBoundary-from_take}
 use Rattle.std.specs.Str.{chars, encode_utf8_all, IsCharBoundary, IsUtf8}
 use Rattle.std.proofs.lemmas.Grind.{common_steps}
 use Rattle.rustc_lexer.specs.{TokenKind}
@@ -36,18 +32,27 @@ pub record Split (text w next : List ℕ) : Type 0 where
 pub split : (text w next : List ℕ) → IsText text → chars text ≡ w ++ next → Split text w next
 split text w next is e =
     let whole : text ≡ encode_utf8_all w ++ encode_utf8_all next = sym (encodes-chars text is.utf8)
-        ∙ (ap encode_utf8_all e ∙ encodes-append w next) in
+    ∙ (ap encode_utf8_all e ∙ encodes-append w next) in
     record {
       left = ap (drop (bytes w)) whole ∙ drop_at (encode_utf8_all w) (encode_utf8_all next) _ refl;
       front = ap (take (bytes w)) whole ∙ take_at (encode_utf8_all w) (encode_utf8_all next) _ refl;
       again_front = chars-encodes w (ap scalars (sym (take-append_seam w next) ∙ ap (take (length w)) (sym e))
           ∙ scalars-take (length w) (chars text) (scalars-chars text is.utf8));
       inside = omega (arith, ap length whole, length-append (encode_utf8_all w) (encode_utf8_all next));
-      front_utf8 =
-          (w, (ap scalars (sym (take-append_seam w next) ∙ ap (take (length w)) (sym e))
-          ∙ scalars-take (length w) (chars text) (scalars-chars text is.utf8), refl));
-      some = λ lt. omega (arith, ap length whole, length-append (encode_utf8_all w) (encode_utf8_all next),
-          length-le-encodes w);
+      front_utf8 = (
+        w,
+        (
+          ap scalars (sym (take-append_seam w next) ∙ ap (take (length w)) (sym e))
+              ∙ scalars-take (length w) (chars text) (scalars-chars text is.utf8),
+          refl,
+        ),
+      );
+      some = λ lt. omega (
+        arith,
+        ap length whole,
+        length-append (encode_utf8_all w) (encode_utf8_all next),
+        length-le-encodes w,
+      );
       again = chars-encodes next (ap scalars (sym (drop-append_seam w next) ∙ ap (drop (length w)) (sym e))
           ∙ scalars-drop (length w) (chars text) (scalars-chars text is.utf8));
     }
@@ -61,8 +66,16 @@ split-boundary {text} {w} is cut =
 pub split-same : {text w next : List ℕ} (other : List ℕ) → Split text w next
     → take (bytes w) text ≡ take (bytes w) other → chars other ≡ w ++ chars (drop (bytes w) other)
 split-same {w = w} other cut same =
-    grind (arith, common_steps, same, cut.front, take-append-drop (bytes w) other, chars-append, (sym same ∙ cut.front),
-    cut.again_front)
+    grind (
+      arith,
+      common_steps,
+      same,
+      cut.front,
+      take-append-drop (bytes w) other,
+      chars-append,
+      (sym same ∙ cut.front),
+      cut.again_front,
+    )
 
 -- ---- the token at the front
 

@@ -1,18 +1,15 @@
 -- The opening of a frontmatter is in its language, and what is there is read so.
 use Rattle.std.proofs.lemmas.Grind.{common_steps}
-use Rattle.std.proofs.Common.{
-    ◌≡◌, ℕ, zero, suc, ◌+◌, ◌≤◌, not, Bool, true, false, true≢false, List, [], ◌∷◌, ◌++◌, length, take, drop, codes,
-    refl, sym, ap, ◌∙◌, arith, append_assoc, length-append, take-append-drop
-}
+use Rattle.std.proofs.Common.{◌≡◌, ℕ, zero, suc, ◌+◌, ◌≤◌, not, Bool, true, false, true≢false, List, [], ◌∷◌, ◌++◌}
+use Rattle.std.proofs.Common.{length, take, drop, codes, refl, sym, ap, ◌∙◌, arith, append_assoc, length-append}
+use Rattle.std.proofs.Common.{take-append-drop}
 use Rattle.std.proofs.Math.Seq.{take-append_seam, drop-append_seam}
 use Rattle.std.proofs.lemmas.Bool.{and_parts, eqb-true, or_parts, not-true, false_from_ne_true}
 use Rattle.unicode_ident.proofs.Computing.{unicode_ident}
-use Rattle.rustc_lexer.specs.Classes.{
-    is_among, is_whitespace, is_horizontal_whitespace, is_id_start, AreAll, NextIsNot, is_info
-}
-use Rattle.rustc_lexer.specs.means.Frontmatter.{
-    is_dash, then_len, spaces_len, fence_len, blanks_len, infostring_len, label_len, opening_len, ends_line, opens
-}
+use Rattle.rustc_lexer.specs.Classes.{is_among, is_whitespace, is_horizontal_whitespace, is_id_start, AreAll, NextIsNot}
+use Rattle.rustc_lexer.specs.Classes.{is_info}
+use Rattle.rustc_lexer.specs.means.Frontmatter.{is_dash, then_len, spaces_len, fence_len, blanks_len, infostring_len}
+use Rattle.rustc_lexer.specs.means.Frontmatter.{label_len, opening_len, ends_line, opens}
 use Rattle.rustc_lexer.specs.laws.LanguageRuns.{run_len-here, run-stops, either-way, none-among}
 use Rattle.rustc_lexer.specs.laws.Reach.{run_all, run_len-out}
 use Rattle.rustc_lexer.specs.laws.Fences.{begins-dashes, begins-enough}
@@ -91,21 +88,26 @@ label-read {next} (the.blank {w} all stop start) =
     grind (arith, common_steps, then-read, run_len-here, info-none, blanks-none)
 label-read {next} (the.named u c v w blanks start info info_stops more stop) =
     let text : (u ++ (c ∷ v ++ w)) ++ next ≡ (u ++ (c ∷ v)) ++ (w ++ next) = append_assoc u (c ∷ v ++ w) next
-        ∙ (ap (λ (xs : List ℕ). u ++ (c ∷ xs)) (append_assoc v w next) ∙ sym (append_assoc u (c ∷ v) (w ++ next))) in
+    ∙ (ap (λ (xs : List ℕ). u ++ (c ∷ xs)) (append_assoc v w next) ∙ sym (append_assoc u (c ∷ v) (w ++ next))) in
     let text_first : (u ++ (c ∷ v ++ w)) ++ next ≡ u ++ (c ∷ v ++ (w ++ next)) = append_assoc u (c ∷ v ++ w) next
-        ∙ ap (λ (xs : List ℕ). u ++ (c ∷ xs)) (append_assoc v w next) in
+    ∙ ap (λ (xs : List ℕ). u ++ (c ∷ xs)) (append_assoc v w next) in
     let first : blanks_len ((u ++ (c ∷ v ++ w)) ++ next) ≡ length u =
-        ap blanks_len text_first ∙ run_len-here is_horizontal_whitespace u (c ∷ v ++ (w ++ next)) blanks
-        (start-no_blank c start) in
+    ap blanks_len text_first ∙ run_len-here is_horizontal_whitespace u (c ∷ v ++ (w ++ next)) blanks
+    (start-no_blank c start) in
     let named : infostring_len (c ∷ v ++ (w ++ next)) ≡ 1 + length v =
-        rw start (ap (λ (n : ℕ). 1 + n) (run_len-here is_info v (w ++ next) info info_stops)) in
+    rw start (ap (λ (n : ℕ). 1 + n) (run_len-here is_info v (w ++ next) info info_stops)) in
     let one : then_len blanks_len infostring_len ((u ++ (c ∷ v ++ w)) ++ next) ≡ length (u ++ (c ∷ v)) =
     then-read blanks_len infostring_len u (c ∷ v ++ (w ++ next)) ((u ++ (c ∷ v ++ w)) ++ next) text_first first
-        ∙ omega (arith, named, length-append u (c ∷ v)) in
+    ∙ omega (arith, named, length-append u (c ∷ v)) in
     then-read (then_len blanks_len infostring_len) blanks_len (u ++ (c ∷ v)) (w ++ next)
-        ((u ++ (c ∷ v ++ w)) ++ next) text one
-    ∙ omega (arith, run_len-here is_horizontal_whitespace w next more stop, length-append u (c ∷ v),
-        length-append u (c ∷ v ++ w), length-append v w)
+    ((u ++ (c ∷ v ++ w)) ++ next) text one
+    ∙ omega (
+      arith,
+      run_len-here is_horizontal_whitespace w next more stop,
+      length-append u (c ∷ v),
+      length-append u (c ∷ v ++ w),
+      length-append v w,
+    )
 
 -- what is read of an opening
 pub record ReadsOpening (n : ℕ) (bad_label : Bool) (w next : List ℕ) : Type 0 where
@@ -120,31 +122,36 @@ pub opening-read : {next w : List ℕ} {n : ℕ} {bad_label : Bool} → IsOpenin
 opening-read {next} (the.opening n space label spaces no_line many is stop) =
     let rest : List ℕ = fence n ++ (label ++ next) in
     let text : (space ++ (fence n ++ label)) ++ next ≡ space ++ rest = append_assoc space (fence n ++ label) next
-        ∙ ap (λ (xs : List ℕ). space ++ xs) (append_assoc (fence n) label next) in
+    ∙ ap (λ (xs : List ℕ). space ++ xs) (append_assoc (fence n) label next) in
     let s : List ℕ = (space ++ (fence n ++ label)) ++ next in
     let front : spaces_len s ≡ length space =
-        ap spaces_len text ∙ run_len-here is_whitespace space rest spaces (fence-no_space n (label ++ next) many) in
+    ap spaces_len text ∙ run_len-here is_whitespace space rest spaces (fence-no_space n (label ++ next) many) in
     let left : drop (spaces_len s) s ≡ rest = ap (λ (k : ℕ). drop k s) front
-        ∙ (ap (drop (length space)) text ∙ drop-append_seam space rest) in
+    ∙ (ap (drop (length space)) text ∙ drop-append_seam space rest) in
     let taken : take (spaces_len s) s ≡ space = ap (λ (k : ℕ). take k s) front
-        ∙ (ap (take (length space)) text ∙ take-append_seam space rest) in
+    ∙ (ap (take (length space)) text ∙ take-append_seam space rest) in
     let run : run_len is_dash rest ≡ n = fence-run n (label ++ next) (dash-stops (label ++ next) stop) in
     let begun : begins (fence 3) (drop (spaces_len s) s) ≡ true =
-        ap (begins (fence 3)) left ∙ begins-enough 3 rest (omega (arith, run, many)) in
+    ap (begins (fence 3)) left ∙ begins-enough 3 rest (omega (arith, run, many)) in
     let line : ends_line (take (spaces_len s) s) ≡ false =
-        ap ends_line taken ∙ false_from_ne_true (ends_line space) (λ e. let ends = ends-line space e in
-        no_line ends.front ends.whole) in
+    ap ends_line taken ∙ false_from_ne_true (ends_line space) (λ e. let ends = ends-line space e in
+    no_line ends.front ends.whole) in
     let fences : then_len spaces_len (run_len is_dash) s ≡ length (space ++ fence n) =
-        then-read spaces_len (run_len is_dash) space rest s text front
-        ∙ omega (arith, run, length-append space (fence n), fence-length n) in
+    then-read spaces_len (run_len is_dash) space rest s text front
+    ∙ omega (arith, run, length-append space (fence n), fence-length n) in
     let text_label : s ≡ (space ++ fence n) ++ (label ++ next) =
-        text ∙ sym (append_assoc space (fence n) (label ++ next)) in
+    text ∙ sym (append_assoc space (fence n) (label ++ next)) in
     record {
       opens_here = rw (begun, line) refl;
       len = then-read (then_len spaces_len (run_len is_dash)) label_len (space ++ fence n)
           (label ++ next) s text_label fences
-          ∙ omega (arith, label-read is, length-append space (fence n), length-append space (fence n ++ label),
-          length-append (fence n) label);
+          ∙ omega (
+            arith,
+            label-read is,
+            length-append space (fence n),
+            length-append space (fence n ++ label),
+            length-append (fence n) label,
+          );
       dashes = ap (run_len is_dash) left ∙ run;
       space = some-front is_whitespace (space ++ (fence n ++ label)) next
           (omega (arith, length-append space (fence n ++ label), length-append (fence n) label, fence-length n));
@@ -181,8 +188,13 @@ labelled s = by_rest r refl (run-stops is_horizontal_whitespace s)
     by_start : (c : ℕ) (t : List ℕ) → r ≡ c ∷ t → NextIsNot is_horizontal_whitespace (c ∷ t) → (b : Bool)
         → is_id_start c ≡ b → Labelled s
     by_start c t e stop false f =
-        record { label = u; rest = c ∷ t; whole = ap (λ (xs : List ℕ). u ++ xs) (sym e)
-        ∙ whole; is = the.blank blanks stop f }
+        record {
+          label = u;
+          rest = c ∷ t;
+          whole = ap (λ (xs : List ℕ). u ++ xs) (sym e)
+              ∙ whole;
+          is = the.blank blanks stop f;
+        }
     by_start c t e stop true f =
         let v : List ℕ = take (run_len is_info t) t in
         let t2 : List ℕ = drop (run_len is_info t) t in
@@ -191,9 +203,9 @@ labelled s = by_rest r refl (run-stops is_horizontal_whitespace s)
         let whole_w : w ++ rest ≡ t2 = take-append-drop (blanks_len t2) t2 in
         let whole_v : v ++ t2 ≡ t = take-append-drop (run_len is_info t) t in
         let text : (u ++ (c ∷ v ++ w)) ++ rest ≡ s = append_assoc u (c ∷ v ++ w) rest
-            ∙ (ap (λ (xs : List ℕ). u ++ (c ∷ xs))
-            (append_assoc v w rest ∙ (ap (λ (xs : List ℕ). v ++ xs) whole_w ∙ whole_v))
-            ∙ (ap (λ (xs : List ℕ). u ++ xs) (sym e) ∙ whole)) in
+        ∙ (ap (λ (xs : List ℕ). u ++ (c ∷ xs))
+        (append_assoc v w rest ∙ (ap (λ (xs : List ℕ). v ++ xs) whole_w ∙ whole_v))
+        ∙ (ap (λ (xs : List ℕ). u ++ xs) (sym e) ∙ whole)) in
         record {
           label = u ++ (c ∷ v ++ w);
           rest = rest;
@@ -204,8 +216,13 @@ labelled s = by_rest r refl (run-stops is_horizontal_whitespace s)
 
     by_rest : (t : List ℕ) → r ≡ t → NextIsNot is_horizontal_whitespace r → Labelled s
     by_rest [] e stop =
-        record { label = u; rest = []; whole = ap (λ (xs : List ℕ). u ++ xs) (sym e)
-        ∙ whole; is = the.blank blanks refl refl }
+        record {
+          label = u;
+          rest = [];
+          whole = ap (λ (xs : List ℕ). u ++ xs) (sym e)
+              ∙ whole;
+          is = the.blank blanks refl refl;
+        }
     by_rest (c ∷ t) e stop = by_start c t e (ap (next_is is_horizontal_whitespace) (sym e) ∙ stop) (is_id_start c) refl
 
 pub record Opened (s : List ℕ) : Type 0 where
@@ -225,7 +242,7 @@ opened s e =
     let no_line : ends_line space ≡ false = not-true (ends_line space) parts.1 in
     let stop : NextIsNot is_dash (l.label ++ l.rest) = ap (next_is is_dash) l.whole ∙ run-stops is_dash r in
     let fenced : fence n ++ drop n r ≡ r = ap (λ (xs : List ℕ). xs ++ drop n r) (sym (run-fence r))
-        ∙ take-append-drop n r in
+    ∙ take-append-drop n r in
     record {
       count = n;
       front = space ++ (fence n ++ l.label);

@@ -1,9 +1,7 @@
 -- What is taken as a guarded string is what the language says, and nothing else is.
-use Rattle.std.proofs.Common.{
-    ◌≡◌, ◌↔◌, ℕ, zero, suc, ◌+◌, ◌<◌, ◌≤◌, ◌==◌, min, inl, inr, Bool, true, false, if◌then◌else◌, List, [], ◌∷◌, ◌++◌,
-    length, take, drop, codes, refl, sym, ap, ◌∙◌, subst, arith, append_assoc, length-append, take-append-drop, Option,
-    Some
-}
+use Rattle.std.proofs.Common.{◌≡◌, ◌↔◌, ℕ, zero, suc, ◌+◌, ◌<◌, ◌≤◌, ◌==◌, min, inl, inr, Bool, true, false}
+use Rattle.std.proofs.Common.{if◌then◌else◌, List, [], ◌∷◌, ◌++◌, length, take, drop, codes, refl, sym, ap, ◌∙◌, subst}
+use Rattle.std.proofs.Common.{arith, append_assoc, length-append, take-append-drop, Option, Some}
 use Rattle.std.proofs.Math.Nat.{min-le_left, min-le_right, min-eq_left, min-eq_right}
 use Rattle.std.proofs.{Math.Seq.{take-append_seam, drop-append_seam}, lemmas.Bool.{cases_lt, eqb-true, or_from}}
 use Rattle.std.specs.Str.{chars}
@@ -64,8 +62,18 @@ body-open n w z e =
 closing-read : {n k : ℕ} {suffix next : List ℕ} → k ≤ n → (k < n → NextIsNot (is_among (codes "#")) (suffix ++ next))
     → IsSuffixBefore next suffix → closing_len n (hashes k ++ (suffix ++ next)) ≡ k + length suffix
 closing-read {n} {k} {suffix} {next} le stop is =
-    grind (arith, common_steps, cases_lt, guard-hashes, same-class, min-eq_right, min-eq_left, hash_run-hashes,
-        past-guard, suffix-read)
+    grind (
+      arith,
+      common_steps,
+      cases_lt,
+      guard-hashes,
+      same-class,
+      min-eq_right,
+      min-eq_left,
+      hash_run-hashes,
+      past-guard,
+      suffix-read,
+    )
 
 record GuardedRead (n : ℕ) (t : Bool) (w next : List ℕ) : Type 0 where
   count : hash_run (w ++ next) ≡ n
@@ -77,11 +85,11 @@ read-parts : (n : ℕ) (t : Bool) (v next : List ℕ) (m : ℕ) → guarded_body
 read-parts n t v next m e f =
     let text : (hashes n ++ 34 ∷ v) ++ next ≡ hashes n ++ 34 ∷ (v ++ next) = append_assoc (hashes n) (34 ∷ v) next in
     let size : suc n + m ≡ length (hashes n ++ 34 ∷ v) =
-        omega (arith, length-append (hashes n) (34 ∷ v), guard-length n, f) in
+    omega (arith, length-append (hashes n) (34 ∷ v), guard-length n, f) in
     let taken : bytes_of (suc n + m) (hashes n ++ 34 ∷ (v ++ next)) ≡ bytes (hashes n ++ 34 ∷ v) =
     ap (bytes_of (suc n + m)) (sym text)
-        ∙ (ap (λ (k : ℕ). bytes_of k ((hashes n ++ 34 ∷ v) ++ next)) size
-        ∙ ap bytes (take-append_seam (hashes n ++ 34 ∷ v) next)) in
+    ∙ (ap (λ (k : ℕ). bytes_of k ((hashes n ++ 34 ∷ v) ++ next)) size
+    ∙ ap bytes (take-append_seam (hashes n ++ 34 ∷ v) next)) in
     record {
       count = ap hash_run text ∙ guard-hashes n (34 ∷ (v ++ next)) refl;
       read = ap (string_past n) text
@@ -91,11 +99,16 @@ read-parts n t v next m e f =
 guarded-read : {next : List ℕ} {n : ℕ} {t : Bool} {w : List ℕ} → IsGuardedBefore next n t w → GuardedRead n t w next
 guarded-read {next} (the.closed n k {w} {suffix} q le stop is) =
     let text : (w ++ (hashes k ++ suffix)) ++ next ≡ w ++ (hashes k ++ (suffix ++ next)) =
-        append_assoc w (hashes k ++ suffix) next ∙ ap (λ (x : List ℕ). w ++ x) (append_assoc (hashes k) suffix next) in
+    append_assoc w (hashes k ++ suffix) next ∙ ap (λ (x : List ℕ). w ++ x) (append_assoc (hashes k) suffix next) in
     read-parts n true (w ++ (hashes k ++ suffix)) next (length w + closing_len n (hashes k ++ (suffix ++ next)))
-        (ap (guarded_body n) text ∙ body-closed n w (hashes k ++ (suffix ++ next)) (double-read q))
-    (omega (arith, closing-read le stop is, length-append w (hashes k ++ suffix), length-append (hashes k) suffix,
-        guard-length k))
+    (ap (guarded_body n) text ∙ body-closed n w (hashes k ++ (suffix ++ next)) (double-read q))
+    (omega (
+      arith,
+      closing-read le stop is,
+      length-append w (hashes k ++ suffix),
+      length-append (hashes k) suffix,
+      guard-length k,
+    ))
 guarded-read {next} (the.unclosed n {w} q) =
     read-parts n false w next (length w + 0) (body-open n w next (double-read q)) (omega arith)
 
@@ -125,18 +138,20 @@ taken s = let g = guarded (chars s.rest) in by_left g.count g.left (sym g.whole)
         let there : z ≡ hashes k ++ (take j y ++ drop j y) = hashed ∙ ap (λ (x : List ℕ). hashes k ++ x) (sym parts) in
         let body : (take m u ++ (hashes k ++ take j y)) ++ drop j y ≡ u =
         append_assoc (take m u) (hashes k ++ take j y) (drop j y)
-            ∙ (ap (λ (x : List ℕ). take m u ++ x) (append_assoc (hashes k) (take j y) (drop j y) ∙ sym there)
-            ∙ take-append-drop m u) in
+        ∙ (ap (λ (x : List ℕ). take m u ++ x) (append_assoc (hashes k) (take j y) (drop j y) ∙ sym there)
+        ∙ take-append-drop m u) in
         let whole : chars s.rest ≡ (hashes n ++ (34 ∷ take m u ++ (hashes k ++ take j y))) ++ drop j y =
         e ∙ sym (append_assoc (hashes n) (34 ∷ take m u ++ (hashes k ++ take j y)) (drop j y)
-            ∙ ap (λ (x : List ℕ). hashes n ++ 34 ∷ x) body) in
+        ∙ ap (λ (x : List ℕ). hashes n ++ 34 ∷ x) body) in
         let stop : k < n → NextIsNot (is_among (codes "#")) (take j y ++ drop j y) =
         λ lt. subst (NextIsNot (is_among (codes "#"))) (sym parts)
-            (same-class y ∙ subst (λ (i : ℕ). NextIsNot is_hash (drop i z)) (all lt) (run-stops is_hash z)) in
-        record { answer = _;
-            is = holds.string whole
-            (the.closed n k (subst (λ (x : List ℕ). IsDoubleQuoted x true (take m u)) there is)
-            (min-le_left n (hash_run z)) stop (suffix-sound y)) }
+        (same-class y ∙ subst (λ (i : ℕ). NextIsNot is_hash (drop i z)) (all lt) (run-stops is_hash z)) in
+        record {
+          answer = _;
+          is = holds.string whole
+              (the.closed n k (subst (λ (x : List ℕ). IsDoubleQuoted x true (take m u)) there is)
+              (min-le_left n (hash_run z)) stop (suffix-sound y));
+        }
       where
         all : min n (hash_run (drop m u)) < n → hash_run (drop m u) ≡ min n (hash_run (drop m u))
         all lt = elim (cases_lt (hash_run (drop m u)) n) [
@@ -145,20 +160,25 @@ taken s = let g = guarded (chars s.rest) in by_left g.count g.left (sym g.whole)
         ]
     by_string n u false m e is =
         let whole : chars s.rest ≡ (hashes n ++ (34 ∷ take m u)) ++ drop m u =
-            e ∙ sym (append_assoc (hashes n) (34 ∷ take m u) (drop m u)
-            ∙ ap (λ (x : List ℕ). hashes n ++ 34 ∷ x) (take-append-drop m u)) in
+        e ∙ sym (append_assoc (hashes n) (34 ∷ take m u) (drop m u)
+        ∙ ap (λ (x : List ℕ). hashes n ++ 34 ∷ x) (take-append-drop m u)) in
         record { answer = _; is = holds.string whole (the.unclosed n is) }
 
     by_left : (n : ℕ) (v : List ℕ) → chars s.rest ≡ hashes n ++ v → NextIsNot is_hash v → Taken s
     by_left n [] e stop = record { answer = _; is = holds.none n [] e refl }
     by_left n (c ∷ u) e stop = by_either (c == 34)
         (λ f. by_string n u (double_quoted_string u).0 (double_quoted_string u).1
-            (e ∙ ap (λ (x : ℕ). hashes n ++ x ∷ u) (eqb-true c 34 f)) (double-sound u))
-        (λ f. record { answer = _;
-            is = holds.none n (c ∷ u) e (or_from (c == 34) _ f (or_from (c == 35) false stop refl)) })
+        (e ∙ ap (λ (x : ℕ). hashes n ++ x ∷ u) (eqb-true c 34 f)) (double-sound u))
+        (λ f. record {
+          answer = _;
+          is = holds.none n (c ∷ u) e (or_from (c == 34) _ f (or_from (c == 35) false stop refl));
+        })
 
 -- this and nothing else
 pub guarded-answer : (s : State) (other : Option GuardedStr × State) → TakesGuarded s other
     ↔ (other ≡ spec.take_guarded s)
-guarded-answer s other = (λ is. takes-read is, λ e. let h = taken s in
-    subst (TakesGuarded s) (takes-read h.is ∙ sym e) h.is)
+guarded-answer s other = (
+  λ is. takes-read is,
+  λ e. let h = taken s in
+      subst (TakesGuarded s) (takes-read h.is ∙ sym e) h.is,
+)

@@ -1,23 +1,16 @@
 -- The token at the front of a text in an edition is the one that its language has there.
-use Rattle.std.proofs.Common.{
-    ◌≡◌, ◌≢◌, ◌↔◌, ℕ, ◌+◌, ◌<◌, ◌≤◌, ◌==◌, Bool, true, false, true≢false, List, [], ◌∷◌, ◌++◌, length, take, drop,
-    codes, refl, sym, ap, ◌∙◌, subst, arith, take-append-drop
-}
+use Rattle.std.proofs.Common.{◌≡◌, ◌≢◌, ◌↔◌, ℕ, ◌+◌, ◌<◌, ◌≤◌, ◌==◌, Bool, true, false, true≢false, List, [], ◌∷◌, ◌++◌}
+use Rattle.std.proofs.Common.{length, take, drop, codes, refl, sym, ap, ◌∙◌, subst, arith, take-append-drop}
 use lib.Utf8.{encode}
 use Rattle.std.proofs.{Math.Seq.{take-append_seam}, lemmas.Bool.{and_parts, leb-true, leb-false, eqb-true}}
 use Rattle.std.specs.Str.{chars}
 use Rattle.std.proofs.lemmas.Grind.{common_steps}
-use Rattle.rustc_lexer.specs.{
-    Edition, Token, TokenKind, Ident, UnknownPrefix, UnknownPrefixLifetime, RawLifetime, Lifetime, GuardedStrPrefix,
-    Pound
-}
-use Rattle.rustc_lexer.specs.Classes.{
-    is_among, is_id_continue, is_ident, is_word_continue, is_word_start, begins_ident_after, AreAll, NextIs, bytes,
-    IsText, is_bad_name
-}
-use Rattle.rustc_lexer.specs.LanguageText.{
-    year, lexed_since, newest, IsTokenIn, kept, pound, ident, lifetime, lifetime_r
-}
+use Rattle.rustc_lexer.specs.{Edition, Token, TokenKind, Ident, UnknownPrefix, UnknownPrefixLifetime, RawLifetime}
+use Rattle.rustc_lexer.specs.{Lifetime, GuardedStrPrefix, Pound}
+use Rattle.rustc_lexer.specs.Classes.{is_among, is_id_continue, is_ident, is_word_continue, is_word_start}
+use Rattle.rustc_lexer.specs.Classes.{begins_ident_after, AreAll, NextIs, bytes, IsText, is_bad_name}
+use Rattle.rustc_lexer.specs.LanguageText.{year, lexed_since, newest, IsTokenIn, kept, pound, ident, lifetime}
+use Rattle.rustc_lexer.specs.LanguageText.{lifetime_r}
 use Rattle.rustc_lexer.specs.means.Edition.{token, has_bad_name, before_2024, before_2021, changed, first_token_in}
 use Rattle.rustc_lexer.specs.Language as the
 use Rattle.rustc_lexer.specs.Language.{IsTokenBefore}
@@ -105,8 +98,8 @@ raw-first : (next text : List ℕ) → chars text ≡ 39 ∷ 114 ∷ next → be
 raw-first next text e goes =
     let n : ℕ = 2 + run_len is_id_continue (drop 2 next) in
     ap (λ (t : Token). t.kind)
-        (first-is (hash_ident-sound IsRawBefore (λ w rest is stop. the.raw_lifetime is stop) next goes) text
-        (e ∙ ap (λ (u : List ℕ). 39 ∷ 114 ∷ u) (sym (take-append-drop n next))))
+    (first-is (hash_ident-sound IsRawBefore (λ w rest is stop. the.raw_lifetime is stop) next goes) text
+    (e ∙ ap (λ (u : List ℕ). 39 ∷ 114 ∷ u) (sym (take-append-drop n next))))
 
 pub token-read-in : {edition : Edition} {next : List ℕ} {kind : TokenKind} {c : ℕ} {w : List ℕ}
     → IsTokenIn edition next kind (c ∷ w) → (text : List ℕ) → chars text ≡ c ∷ w ++ next
@@ -119,7 +112,7 @@ token-read-in {edition} {next} (pound lt) text e = by_next next e ∙ ap (token 
     by_next s f = by_either (next_is (is_among (codes "\"#")) s)
         (λ b. guarded s f b)
         (λ b. ap (changed edition (chars text)) (first-is {next = s} (the.pound b) text f)
-            ∙ (keeps edition (chars text) Pound (bytes (35 ∷ [])) (oldest edition) ∙ ap (token Pound) hash-one))
+        ∙ (keeps edition (chars text) Pound (bytes (35 ∷ [])) (oldest edition) ∙ ap (token Pound) hash-one))
       where
         guarded : (u : List ℕ) → chars text ≡ 35 ∷ u → next_is (is_among (codes "\"#")) u ≡ true
             → first_token_in edition text ≡ token Pound 1
@@ -174,21 +167,21 @@ fronts {next} {kind} {c} {w} edition (other old) p = keep edition next kind c w 
 fronts {next} edition (cut_hash {c}) p =
     by_year 2024 (year edition) (λ le. keep edition next GuardedStrPrefix 35 (c ∷ []) le p)
     (λ lt. front-is Pound 35 [] (c ∷ next) refl (guarded-cut edition (35 ∷ c ∷ next) (bytes (35 ∷ c ∷ [])) lt
-        ∙ ap (token Pound) (sym hash-one)) (pound lt))
+    ∙ ap (token Pound) (sym hash-one)) (pound lt))
 fronts {next} edition (cut_raw {w} is) p =
     by_year 2021 (year edition) (λ le. keep edition next RawLifetime 39 (114 ∷ 35 ∷ w) le p)
     (λ lt. front-is (Lifetime false) 39 (114 ∷ []) (35 ∷ w ++ next) refl
-        (before edition (39 ∷ 114 ∷ 35 ∷ w ++ next) (token RawLifetime (bytes (39 ∷ 114 ∷ 35 ∷ w))) lt
-        ∙ ap (token (Lifetime false)) (sym r-two)) (lifetime_r lt (goes-name w next is)))
+    (before edition (39 ∷ 114 ∷ 35 ∷ w ++ next) (token RawLifetime (bytes (39 ∷ 114 ∷ 35 ∷ w))) lt
+    ∙ ap (token (Lifetime false)) (sym r-two)) (lifetime_r lt (goes-name w next is)))
 fronts {next} edition (name {c} {w} start all hash) p =
     by_year 2021 (year edition) (λ le. keep edition next UnknownPrefixLifetime 39 (c ∷ w) le p)
     (λ lt. front-is (Lifetime (is_bad_name (c ∷ w))) 39 (c ∷ w) next refl
-        (before edition (39 ∷ c ∷ w ++ next) (token UnknownPrefixLifetime (bytes (39 ∷ c ∷ w))) lt
-        ∙ ap (λ (b : Bool). token (Lifetime b) (bytes (39 ∷ c ∷ w))) (name-bad c w next all hash)) (lifetime lt p))
+    (before edition (39 ∷ c ∷ w ++ next) (token UnknownPrefixLifetime (bytes (39 ∷ c ∷ w))) lt
+    ∙ ap (λ (b : Bool). token (Lifetime b) (bytes (39 ∷ c ∷ w))) (name-bad c w next all hash)) (lifetime lt p))
 fronts {next} {kind} {c} {w} edition prefix p =
     by_year 2021 (year edition) (λ le. keep edition next UnknownPrefix c w le p)
     (λ lt. front-is Ident c w next refl (before edition (c ∷ w ++ next) (token UnknownPrefix (bytes (c ∷ w))) lt)
-        (ident lt p))
+    (ident lt p))
 
 pub first-front : (edition : Edition) (text cs : List ℕ) → IsText text → 0 < length text → chars text ≡ cs
     → Front edition (chars text) (first_token_in edition text)
@@ -200,9 +193,9 @@ first-front edition text (c ∷ s) is some e =
     let there : Fronts edition (drop m s) (past_first c s).0 c (take m s) = fronts edition (view p) p in
     let here : Front edition (c ∷ s) (changed edition (c ∷ s) (token (past_first c s).0 (bytes (c ∷ take m s)))) =
     subst (λ (u : List ℕ). Front edition (c ∷ u)
-        (changed edition (c ∷ u) (token (past_first c s).0 (bytes (c ∷ take m s))))) (take-append-drop m s) there in
+    (changed edition (c ∷ u) (token (past_first c s).0 (bytes (c ∷ take m s))))) (take-append-drop m s) there in
     subst (λ (cs : List ℕ). Front edition cs (changed edition cs (token (lexeme cs).0 (bytes_of (lexeme cs).1 cs))))
-        (sym e) here
+    (sym e) here
 
 -- ---- the newest edition has the tokens of the grammar
 

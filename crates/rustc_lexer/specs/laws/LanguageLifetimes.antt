@@ -1,28 +1,24 @@
 -- Characters and lifetimes are in their languages, and what is there is read so.
-use Rattle.std.proofs.Common.{
-    ◌≡◌, ℕ, zero, suc, ◌+◌, ◌==◌, ◌&&◌, ◌||◌, not, Bool, true, false, true≢false, if◌then◌else◌, List, [], ◌∷◌, ◌++◌,
-    length, take, drop, codes, refl, sym, ap, ◌∙◌, subst, arith, append_assoc, length-append, take-append-drop,
-    take-add
-}
+use Rattle.std.proofs.Common.{◌≡◌, ℕ, zero, suc, ◌+◌, ◌==◌, ◌&&◌, ◌||◌, not, Bool, true, false, true≢false}
+use Rattle.std.proofs.Common.{if◌then◌else◌, List, [], ◌∷◌, ◌++◌, length, take, drop, codes, refl, sym, ap, ◌∙◌, subst}
+use Rattle.std.proofs.Common.{arith, append_assoc, length-append, take-append-drop, take-add}
 use Rattle.std.proofs.Math.Seq.{take-append_seam, drop-append_seam}
 use Rattle.std.proofs.lemmas.Bool.{and_parts, eqb-true, or_parts, or_left, false_from_ne_true, not-false}
 use Rattle.std.specs.{Char.{is_ascii_digit}, List.{list_all}, Str.{encode_utf8_all}}
 use Rattle.std.proofs.{Math.Bool.{or-true}, lemmas.Grind.{common_steps}}
 use Rattle.unicode_ident.proofs.Computing.{unicode_ident}
 use Rattle.rustc_lexer.specs.{TokenKind, Char, Literal, Lifetime, RawLifetime, UnknownPrefixLifetime}
-use Rattle.rustc_lexer.specs.Classes.{
-    is_among, is_id_continue, is_ident, is_word_continue, is_word_start, is_name_start, begins_ident_after, AreAll,
-    NextIs, NextIsNot, bytes, ends_prefix, is_bad_name
-}
+use Rattle.rustc_lexer.specs.Classes.{is_among, is_id_continue, is_ident, is_word_continue, is_word_start}
+use Rattle.rustc_lexer.specs.Classes.{is_name_start, begins_ident_after, AreAll, NextIs, NextIsNot, bytes, ends_prefix}
+use Rattle.rustc_lexer.specs.Classes.{is_bad_name}
 use Rattle.rustc_lexer.specs.Tables.{is_emoji, emoji_ranges}
 use Rattle.rustc_lexer.specs.means.Ident.{begins_hash_ident}
 use Rattle.rustc_lexer.specs.laws.Choice.{by_either, by_test}
 use Rattle.rustc_lexer.specs.laws.LanguageLiterals.{bytes-append, bytes-one, literal-sound, past-read, ReadsLiteral}
 use Rattle.rustc_lexer.specs.laws.LanguageQuoted.{single-read, single-sound}
-use Rattle.rustc_lexer.specs.laws.LanguageRuns.{
-    run_len-here, run-stops, either-way, other_than, Sound, Read, pair, read-first, begins-next, chooses-quote,
-    word-no_prefix_end, prefix_end-stops, word_start-no_digit
-}
+use Rattle.rustc_lexer.specs.laws.LanguageRuns.{run_len-here, run-stops, either-way, other_than, Sound, Read, pair}
+use Rattle.rustc_lexer.specs.laws.LanguageRuns.{read-first, begins-next, chooses-quote, word-no_prefix_end}
+use Rattle.rustc_lexer.specs.laws.LanguageRuns.{prefix_end-stops, word_start-no_digit}
 use Rattle.rustc_lexer.specs.laws.LanguageWords.{hash_ident-sound}
 use Rattle.rustc_lexer.specs.laws.Lifetime.{raw, quoted_name, unquoted_name}
 use Rattle.rustc_lexer.specs.laws.Reach.{run_all}
@@ -69,12 +65,12 @@ pub lifetime-read : (c : ℕ) (w next : List ℕ) → is_name_start c ≡ true �
     → NextIsNot is_word_continue next → NextIsNot (is_among (codes "'")) next
     → (NextIs (is_among (codes "#")) next → is_ascii_digit c ≡ true)
     → Read (Lifetime (is_ascii_digit c || is_emoji c || not (list_all is_id_continue w))) (suc (suc (length w)))
-        (39 ∷ c ∷ w ++ next)
+    (39 ∷ c ∷ w ++ next)
 lifetime-read c w next start all stop quote hash =
     plain-read c w next (Lifetime (is_bad_name (c ∷ w))) 0 start
-        (word-begins 39 w next refl all (begins-next 39 next ∙ quote))
-        (no_raw-word c w next all (λ e. other_than is_ascii_digit 114 c refl (hash (sym (begins-next 35 next) ∙ e))))
-        all stop
+    (word-begins 39 w next refl all (begins-next 39 next ∙ quote))
+    (no_raw-word c w next all (λ e. other_than is_ascii_digit 114 c refl (hash (sym (begins-next 35 next) ∙ e))))
+    all stop
     (rw (begins-next 39 next ∙ quote) (by_either (begins (codes "#") next)
     (λ e. let digit : is_ascii_digit c ≡ true = hash (sym (begins-next 35 next) ∙ e) in rw (e, digit) refl)
     (λ e. rw e refl)))
@@ -97,8 +93,8 @@ prefix-read c w next start all hash free =
     let at_hash : begins (codes "#") next ≡ true = begins-next 35 next ∙ hash in
     let quote : begins (codes "'") next ≡ false = hash-no_quote next at_hash in
     plain-read c w next UnknownPrefixLifetime 0 (grind (arith, common_steps)) (word-begins 39 w next refl all quote)
-        (sym (raw-same c (w ++ next)) ∙ free) all (hash-stops next hash)
-        (rw (quote, at_hash, word_start-no_digit c start) refl)
+    (sym (raw-same c (w ++ next)) ∙ free) all (hash-stops next hash)
+    (rw (quote, at_hash, word_start-no_digit c start) refl)
     ∙ pair _ _ _ _ refl (omega arith)
 
 r-name : is_name_start 114 ≡ true
@@ -121,7 +117,7 @@ name-sound c s start none no_raw =
     by_test (λ r. IsLifetime c s (r.0, n + r.1)) (begins (codes "'") left) (quoted_name c name left)
     (unquoted_name c name left) (λ e. quoted name left refl refl e)
     (λ e. subst (λ (m : ℕ). IsTokenBefore (drop m s) (unquoted_name c name left).0 (39 ∷ c ∷ take m s)) same
-        (unquoted e (begins (codes "#") left) (is_ascii_digit c) refl refl))
+    (unquoted e (begins (codes "#") left) (is_ascii_digit c) refl refl))
   where
     n : ℕ
     n = run_len is_word_continue s
@@ -145,19 +141,23 @@ name-sound c s start none no_raw =
     quoted (d ∷ w) (q ∷ rest) e f g =
         let quote : q ≡ 39 = eqb-true q 39 (and_parts (q == 39) true g).0 in
         let all : AreAll is_word_continue (d ∷ w) = ap (list_all is_word_continue) (sym e)
-            ∙ run_all is_word_continue s in
+        ∙ run_all is_word_continue s in
         let text : 39 ∷ c ∷ d ∷ w ++ 39 ∷ [] ≡ 39 ∷ c ∷ take (n + 1) s =
-            ap (λ (u : List ℕ). 39 ∷ c ∷ u)
-            (ap (λ (x : ℕ). d ∷ w ++ x ∷ []) (sym quote)
-            ∙ (ap (λ (u : List ℕ). u ++ take 1 (q ∷ rest)) (sym e)
-            ∙ (ap (λ (u : List ℕ). take n s ++ take 1 u) (sym f) ∙ sym (take-add n 1 s)))) in
+        ap (λ (u : List ℕ). 39 ∷ c ∷ u)
+        (ap (λ (x : ℕ). d ∷ w ++ x ∷ []) (sym quote)
+        ∙ (ap (λ (u : List ℕ). u ++ take 1 (q ∷ rest)) (sym e)
+        ∙ (ap (λ (u : List ℕ). take n s ++ take 1 u) (sym f) ∙ sym (take-add n 1 s)))) in
         let size : bytes (39 ∷ c ∷ d ∷ w ++ 39 ∷ []) ≡ 2 + length (encode_utf8_all (c ∷ d ∷ w)) =
-            omega (arith, bytes-one 39 (c ∷ d ∷ w ++ 39 ∷ []) refl, bytes-append (c ∷ d ∷ w) (39 ∷ []),
-            bytes-one 39 [] refl) in
+        omega (
+          arith,
+          bytes-one 39 (c ∷ d ∷ w ++ 39 ∷ []) refl,
+          bytes-append (c ∷ d ∷ w) (39 ∷ []),
+          bytes-one 39 [] refl,
+        ) in
         subst (λ (u : List ℕ). IsTokenBefore (drop (n + 1) s)
-            (Literal (Char true) (2 + length (encode_utf8_all (c ∷ d ∷ w)))) u) text
+        (Literal (Char true) (2 + length (encode_utf8_all (c ∷ d ∷ w)))) u) text
         (subst (λ (b : ℕ). IsTokenBefore (drop (n + 1) s) (Literal (Char true) b) (39 ∷ c ∷ d ∷ w ++ 39 ∷ [])) size
-            (the.literal (lit.char_of_name w start all)))
+        (the.literal (lit.char_of_name w start all)))
 
     stops : NextIsNot is_word_continue left
     stops = run-stops is_word_continue s
@@ -165,7 +165,7 @@ name-sound c s start none no_raw =
     unquoted : begins (codes "'") left ≡ false → (hash digit : Bool) → begins (codes "#") left ≡ hash
         → is_ascii_digit c ≡ digit
         → IsTokenBefore left (if hash && not digit then UnknownPrefixLifetime else Lifetime (is_bad_name (c ∷ name)))
-            (39 ∷ c ∷ name)
+        (39 ∷ c ∷ name)
     unquoted e true false f g = the.unknown_prefix_lifetime (grind (arith, common_steps)) (run_all is_word_continue s)
         (sym (begins-next 35 left) ∙ f) (raw-same c (name ++ left) ∙ (ap (is_raw c) (take-append-drop n s) ∙ no_raw))
     unquoted e true true f g = the.lifetime start (run_all is_word_continue s) stops (sym (begins-next 39 left) ∙ e)
@@ -178,8 +178,8 @@ raw-lifetime c s e =
     let parts = and_parts (c == 114) (begins_hash_ident s) e in
     let letter : 114 ≡ c = sym (eqb-true c 114 parts.0) in
     subst (λ (x : ℕ). IsLifetime x s (raw s)) letter
-        (hash_ident-sound (λ next w. IsTokenBefore next RawLifetime (39 ∷ 114 ∷ w))
-        (λ w next is stop. the.raw_lifetime is stop) s parts.1)
+    (hash_ident-sound (λ next w. IsTokenBefore next RawLifetime (39 ∷ 114 ∷ w))
+    (λ w next is stop. the.raw_lifetime is stop) s parts.1)
 
 -- ---- characters
 
@@ -204,9 +204,9 @@ one-sound c (d ∷ s) start e =
     let one : IsLiteralBefore (drop 2 (c ∷ 39 ∷ s)) (Char true) true (39 ∷ take 2 (c ∷ 39 ∷ s)) = lit.char_of_one out in
     subst (λ (x : ℕ). Sound 39 (c ∷ x ∷ s) (literal char_body (c ∷ x ∷ s))) quote
     (literal-sound (39 ∷ []) 1 (Char (single_quoted_string (c ∷ 39 ∷ s)).0) (single_quoted_string (c ∷ 39 ∷ s)).0
-        (single_quoted_string (c ∷ 39 ∷ s)).1 (c ∷ 39 ∷ s) (bytes-one 39 [] refl ∙ omega arith)
+    (single_quoted_string (c ∷ 39 ∷ s)).1 (c ∷ 39 ∷ s) (bytes-one 39 [] refl ∙ omega arith)
     (subst (λ (r : Bool × ℕ). IsLiteralBefore (drop r.1 (c ∷ 39 ∷ s)) (Char r.0) r.0 (39 ∷ take r.1 (c ∷ 39 ∷ s)))
-        (sym read) one))
+    (sym read) one))
 
 pub quote-sound : (s : List ℕ) → Sound 39 s (lifetime_or_char s)
 quote-sound [] = char-sound [] refl
@@ -247,17 +247,21 @@ pub name-reads : (next : List ℕ) (c d : ℕ) (w : List ℕ) → is_name_start 
     → ReadsLiteral next (Char true) false (39 ∷ c ∷ d ∷ w ++ 39 ∷ [])
 name-reads next c d w start all =
     let text : 39 ∷ c ∷ d ∷ w ++ 39 ∷ next ≡ 39 ∷ c ∷ d ∷ w ++ 39 ∷ [] ++ next =
-        ap (λ (u : List ℕ). 39 ∷ c ∷ d ∷ u) (sym (append_assoc w (39 ∷ []) next)) in
+    ap (λ (u : List ℕ). 39 ∷ c ∷ d ∷ u) (sym (append_assoc w (39 ∷ []) next)) in
     let first_word : is_word_continue d ≡ true = (and_parts (is_word_continue d) (list_all is_word_continue w) all).0 in
     let none : (d == 39) ≡ false =
-        false_from_ne_true (d == 39)
-        (λ e. either-way (ends_prefix d) (ap ends_prefix (eqb-true d 39 e)) (word-no_prefix_end d first_word)) in
+    false_from_ne_true (d == 39)
+    (λ e. either-way (ends_prefix d) (ap ends_prefix (eqb-true d 39 e)) (word-no_prefix_end d first_word)) in
     let size : 2 + length (encode_utf8_all (c ∷ d ∷ w)) ≡ bytes (39 ∷ c ∷ d ∷ w ++ 39 ∷ []) =
-        omega (arith, bytes-one 39 (c ∷ d ∷ w ++ 39 ∷ []) refl, bytes-append (c ∷ d ∷ w) (39 ∷ []),
-        bytes-one 39 [] refl) in
+    omega (
+      arith,
+      bytes-one 39 (c ∷ d ∷ w ++ 39 ∷ []) refl,
+      bytes-append (c ∷ d ∷ w) (39 ∷ []),
+      bytes-one 39 [] refl,
+    ) in
     subst (λ (s : List ℕ). Read (Literal (Char true) (bytes (39 ∷ c ∷ d ∷ w ++ 39 ∷ [])))
-        (length (39 ∷ c ∷ d ∷ w ++ 39 ∷ []) + 0) s) text
+    (length (39 ∷ c ∷ d ∷ w ++ 39 ∷ []) + 0) s) text
     (plain-read c (d ∷ w) (39 ∷ next) (Literal (Char true) (2 + length (encode_utf8_all (c ∷ d ∷ w)))) 1 start
-        (rw none refl) (no_raw-word c (d ∷ w) (39 ∷ next) all (λ e. absurd (true≢false (sym e)))) all
-        (prefix_end-stops (39 ∷ next) refl) refl
+    (rw none refl) (no_raw-word c (d ∷ w) (39 ∷ next) all (λ e. absurd (true≢false (sym e)))) all
+    (prefix_end-stops (39 ∷ next) refl) refl
     ∙ pair _ _ _ _ (ap (Literal (Char true)) size) (omega (arith, length-append w (39 ∷ []))))

@@ -1,42 +1,37 @@
 -- Literals are in their languages, with their suffixes, and what is there is read so.
-use Rattle.std.proofs.Common.{
-    ◌≡◌, ℕ, suc, ◌+◌, nat_lt, Bool, true, false, List, [], ◌∷◌, ◌++◌, length, take, drop, codes, refl, sym, ap, ◌∙◌,
-    subst, arith, append_assoc, length-append, take-append-drop, take-add, drop-drop, Option, Result
-}
+use Rattle.std.proofs.Common.{◌≡◌, ℕ, suc, ◌+◌, nat_lt, Bool, true, false, List, [], ◌∷◌, ◌++◌, length, take, drop}
+use Rattle.std.proofs.Common.{codes, refl, sym, ap, ◌∙◌, subst, arith, append_assoc, length-append, take-append-drop}
+use Rattle.std.proofs.Common.{take-add, drop-drop, Option, Result}
 use Rattle.std.proofs.{Math.Seq.{take-append_seam, drop-append_seam}, lemmas.Bool.{and_parts, eqb-true, lt-ltb}}
 use Rattle.std.proofs.lemmas.{List.{append-nil}, Str.{encodes-append, length-encode}}
 use Rattle.std.specs.{Char.{encode_utf8, len_utf8, is_ascii_digit}, Option.{is_some}, Str.{encode_utf8_all}}
 use Rattle.std.proofs.lemmas.Grind.{common_steps}
 use Rattle.rustc_lexer.specs.declared.lexemes.raw.RawPrefix.{RawPrefix}
 use Rattle.rustc_lexer.specs.declared.lexemes.raw.RawPrefix.TheVariants.{R, Br, Cr}
-use Rattle.rustc_lexer.specs.{
-    LiteralKind, RawStrError, TokenKind, Byte, Str, ByteStr, CStr, RawStr, RawByteStr, RawCStr, Literal
-}
+use Rattle.rustc_lexer.specs.{LiteralKind, RawStrError, TokenKind, Byte, Str, ByteStr, CStr, RawStr, RawByteStr}
+use Rattle.rustc_lexer.specs.{RawCStr, Literal}
 use Rattle.rustc_lexer.specs.Classes.{is_id_start, is_id_continue, begins_ident_after, NextIs, bytes}
 use Rattle.rustc_lexer.specs.means.Ident.{begins_hash_ident}
 use Rattle.rustc_lexer.specs.laws.Choice.{by_test}
 use Rattle.rustc_lexer.specs.laws.Ident.{begins_hash_ident-decided}
 use Rattle.rustc_lexer.specs.laws.LanguageQuoted.{double-read, double-sound, single-read, single-sound}
 use Rattle.rustc_lexer.specs.laws.LanguageRaw.{raw-read, raw-sound}
-use Rattle.rustc_lexer.specs.laws.LanguageRuns.{
-    run_len-here, run-stops, Sound, Read, pair, read-first, sound-after, decided-front, digit-small, letters-start,
-    chooses-word, chooses-number, chooses-str
-}
+use Rattle.rustc_lexer.specs.laws.LanguageRuns.{run_len-here, run-stops, Sound, Read, pair, read-first, sound-after}
+use Rattle.rustc_lexer.specs.laws.LanguageRuns.{decided-front, digit-small, letters-start, chooses-word, chooses-number}
+use Rattle.rustc_lexer.specs.laws.LanguageRuns.{chooses-str}
 use Rattle.rustc_lexer.specs.laws.NumberLongest.{number-read, number-is}
 use Rattle.rustc_lexer.specs.laws.Reach.{run_all}
 use Rattle.rustc_lexer.specs.Language as the
 use Rattle.rustc_lexer.specs.LiteralGrammar as lit
-use Rattle.rustc_lexer.specs.LiteralGrammar.{
-    hashes, IsDoubleQuoted, IsSingleQuoted, IsRaw, IsLiteralBefore, IsSuffixBefore
-}
+use Rattle.rustc_lexer.specs.LiteralGrammar.{hashes, IsDoubleQuoted, IsSingleQuoted, IsRaw, IsLiteralBefore}
+use Rattle.rustc_lexer.specs.LiteralGrammar.{IsSuffixBefore}
 use Rattle.rustc_lexer.specs.Language.{IsTokenBefore}
 use Rattle.rustc_lexer.specs.means.Lexeme.{opens_raw, word}
 use Rattle.rustc_lexer.specs.means.Literal.{Body, suffix_len, suffixed, literal_past, literal}
 use Rattle.rustc_lexer.specs.means.Number.{number_kind, number}
 use Rattle.rustc_lexer.specs.NumberGrammar.{HasNumberForm, IsNumberBefore}
-use Rattle.rustc_lexer.specs.means.Quoted.{
-    double_quoted_string, single_quoted_string, quoted_body, str_body, byte_str_body, c_str_body, byte_body
-}
+use Rattle.rustc_lexer.specs.means.Quoted.{double_quoted_string, single_quoted_string, quoted_body, str_body}
+use Rattle.rustc_lexer.specs.means.Quoted.{byte_str_body, c_str_body, byte_body}
 use Rattle.rustc_lexer.specs.means.Raw.{raw_read, accepted, is_accepted, raw_body, prefix_kind, prefix_len, raw_literal}
 use Rattle.rustc_lexer.specs.means.Scan.{after, begins, bytes_of, run_len}
 
@@ -61,11 +56,11 @@ pub suffix-sound : (s : List ℕ) → IsSuffixBefore (drop (suffix_len s) s) (ta
 suffix-sound [] = lit.none refl
 suffix-sound (c ∷ s) =
     by_test (λ (n : ℕ). IsSuffixBefore (drop n (c ∷ s)) (take n (c ∷ s))) (is_id_start c)
-        (1 + run_len is_id_continue s) 0 (λ e.
+    (1 + run_len is_id_continue s) 0 (λ e.
     let n : ℕ = run_len is_id_continue s in
     let more : suc n ≡ 1 + n = omega arith in
     subst (λ (m : ℕ). IsSuffixBefore (drop m (c ∷ s)) (take m (c ∷ s))) more
-        (lit.some (rw e (run_all is_id_continue s)) (run-stops is_id_continue s))) (λ e. lit.none e)
+    (lit.some (rw e (run_all is_id_continue s)) (run-stops is_id_continue s))) (λ e. lit.none e)
 
 pub suffix-read : {next w : List ℕ} → IsSuffixBefore next w → suffix_len (w ++ next) ≡ length w
 suffix-read {next} w1 = grind (arith, common_steps, and_parts, run_len-here)
@@ -76,27 +71,27 @@ suffix-read {next} w1 = grind (arith, common_steps, and_parts, run_len-here)
 pub literal-sound : (front : List ℕ) (p : ℕ) (kind : LiteralKind) (takes : Bool) (m : ℕ) (s : List ℕ) → bytes front ≡ p
     → IsLiteralBefore (drop m s) kind takes (front ++ take m s)
     → IsTokenBefore (drop (m + suffixed takes (drop m s)) s) (Literal kind (p + bytes_of m s))
-        (front ++ take (m + suffixed takes (drop m s)) s)
+    (front ++ take (m + suffixed takes (drop m s)) s)
 literal-sound front p kind false m s e is =
     let none : m ≡ m + 0 = omega arith in
     let start : bytes (front ++ take m s) ≡ p + bytes_of m s = bytes-append front (take m s)
-        ∙ ap (λ (k : ℕ). k + bytes_of m s) e in
+    ∙ ap (λ (k : ℕ). k + bytes_of m s) e in
     subst (λ (n : ℕ). IsTokenBefore (drop n s) (Literal kind (p + bytes_of m s)) (front ++ take n s)) none
     (subst (λ (k : ℕ). IsTokenBefore (drop m s) (Literal kind k) (front ++ take m s)) start (the.literal is))
 literal-sound front p kind true m s e is =
     let k : ℕ = suffix_len (drop m s) in
     let start : bytes (front ++ take m s) ≡ p + bytes_of m s = bytes-append front (take m s)
-        ∙ ap (λ (k : ℕ). k + bytes_of m s) e in
+    ∙ ap (λ (k : ℕ). k + bytes_of m s) e in
     let left : drop k (drop m s) ≡ drop (m + k) s = drop-drop k m s in
     let text : (front ++ take m s) ++ take k (drop m s) ≡ front ++ take (m + k) s =
-        append_assoc front (take m s) (take k (drop m s)) ∙ ap (λ (w : List ℕ). front ++ w) (sym (take-add m k s)) in
+    append_assoc front (take m s) (take k (drop m s)) ∙ ap (λ (w : List ℕ). front ++ w) (sym (take-add m k s)) in
     let before : IsLiteralBefore (take k (drop m s) ++ drop k (drop m s)) kind true (front ++ take m s) =
-        subst (λ (u : List ℕ). IsLiteralBefore u kind true (front ++ take m s)) (sym (take-append-drop k (drop m s)))
-        is in
+    subst (λ (u : List ℕ). IsLiteralBefore u kind true (front ++ take m s)) (sym (take-append-drop k (drop m s)))
+    is in
     subst (λ (w : List ℕ). IsTokenBefore (drop (m + k) s) (Literal kind (p + bytes_of m s)) w) text
     (subst (λ (b : ℕ). IsTokenBefore (drop (m + k) s) (Literal kind b) ((front ++ take m s) ++ take k (drop m s))) start
     (subst (λ (u : List ℕ). IsTokenBefore u (Literal kind (bytes (front ++ take m s)))
-        ((front ++ take m s) ++ take k (drop m s))) left (the.literal_with before (suffix-sound (drop m s)))))
+    ((front ++ take m s) ++ take k (drop m s))) left (the.literal_with before (suffix-sound (drop m s)))))
 
 -- what a literal is read as, past a front of p bytes
 pub past-read : (front v rest : List ℕ) (p : ℕ) (kind : LiteralKind) (takes : Bool) (body : Body × ℕ)
@@ -164,8 +159,8 @@ lettered-reads : (c d : ℕ) (kind : Bool → LiteralKind) (scan : List ℕ → 
 lettered-reads c d kind scan next t w start one is e =
     read-first c (word c) (d ∷ w ++ next) _ _ _ (chooses-word c start)
     (is ∙ past-read (c ∷ []) (d ∷ w) next 1 (kind t) t (after 1 (quoted_body kind scan) (d ∷ w ++ next))
-        (ap (λ (r : Bool × ℕ). let b : Body = record { kind = kind r.0; takes_suffix = r.0 } in (b, 1 + r.1)) e
-        ∙ pair _ _ _ _ refl (omega arith)) (bytes-letter c one)) (omega arith)
+    (ap (λ (r : Bool × ℕ). let b : Body = record { kind = kind r.0; takes_suffix = r.0 } in (b, 1 + r.1)) e
+    ∙ pair _ _ _ _ refl (omega arith)) (bytes-letter c one)) (omega arith)
 
 -- ---- raw strings
 
@@ -199,25 +194,25 @@ raw_str-sound s opens no_ident =
     let free : begins_ident_after (codes "#") (take (taken s) s) ≡ false =
     sym (raw-hash_ident (raw-sound s opens)) ∙ (ap begins_hash_ident (take-append-drop (taken s) s) ∙ no_ident) in
     literal-sound (114 ∷ []) 1 (RawStr (accepted (raw_read 0 s).0)) (is_accepted (raw_read 0 s).0) (taken s) s
-        (bytes-letter 114 refl)
+    (bytes-letter 114 refl)
     (subst (λ (b : Bool). IsLiteralBefore (drop (taken s) s) (RawStr (accepted (raw_read 0 s).0)) b
-        (114 ∷ take (taken s) s)) (sym (accepts (raw_read 0 s).0)) (lit.raw_str (raw-sound s opens) free))
+    (114 ∷ take (taken s) s)) (sym (accepts (raw_read 0 s).0)) (lit.raw_str (raw-sound s opens) free))
 
 pub raw_byte_str-sound : (s : List ℕ) → NextIs opens_raw s → Sound 98 (114 ∷ s) (after 1 (raw_literal Br) (114 ∷ s))
 raw_byte_str-sound s opens =
     sound-after 98 114 s (raw_literal Br)
     (literal-sound (98 ∷ 114 ∷ []) 2 (RawByteStr (accepted (raw_read 0 s).0)) (is_accepted (raw_read 0 s).0) (taken s) s
-        (bytes-letters 98 114 refl refl)
+    (bytes-letters 98 114 refl refl)
     (subst (λ (b : Bool). IsLiteralBefore (drop (taken s) s) (RawByteStr (accepted (raw_read 0 s).0)) b
-        (98 ∷ 114 ∷ take (taken s) s)) (sym (accepts (raw_read 0 s).0)) (lit.raw_byte_str (raw-sound s opens))))
+    (98 ∷ 114 ∷ take (taken s) s)) (sym (accepts (raw_read 0 s).0)) (lit.raw_byte_str (raw-sound s opens))))
 
 pub raw_c_str-sound : (s : List ℕ) → NextIs opens_raw s → Sound 99 (114 ∷ s) (after 1 (raw_literal Cr) (114 ∷ s))
 raw_c_str-sound s opens =
     sound-after 99 114 s (raw_literal Cr)
     (literal-sound (99 ∷ 114 ∷ []) 2 (RawCStr (accepted (raw_read 0 s).0)) (is_accepted (raw_read 0 s).0) (taken s) s
-        (bytes-letters 99 114 refl refl)
+    (bytes-letters 99 114 refl refl)
     (subst (λ (b : Bool). IsLiteralBefore (drop (taken s) s) (RawCStr (accepted (raw_read 0 s).0)) b
-        (99 ∷ 114 ∷ take (taken s) s)) (sym (accepts (raw_read 0 s).0)) (lit.raw_c_str (raw-sound s opens))))
+    (99 ∷ 114 ∷ take (taken s) s)) (sym (accepts (raw_read 0 s).0)) (lit.raw_c_str (raw-sound s opens))))
 
 -- what follows the `r`
 guard-opens : (n c : ℕ) (s : List ℕ) → opens_raw c ≡ true → NextIs opens_raw (hashes n ++ c ∷ s)
@@ -236,10 +231,10 @@ pub raw_str-reads : (next : List ℕ) (o : Option ℕ) (w : List ℕ) → IsRaw 
 raw_str-reads next o w q free =
     let no_ident : begins_hash_ident (w ++ next) ≡ false = raw-hash_ident q ∙ free in
     read-first 114 (word 114) (w ++ next) (Literal (RawStr o) (bytes (114 ∷ w))) (length w + suffixed (is_some o) next)
-        _ (chooses-word 114 letters-start.0)
+    _ (chooses-word 114 letters-start.0)
     (rw (no_ident, raw-opens q)
-        (past-read (114 ∷ []) w next 1 (RawStr o) (is_some o) (raw_body RawStr (w ++ next)) (raw-body RawStr next o w q)
-        (bytes-letter 114 refl))) (omega arith)
+    (past-read (114 ∷ []) w next 1 (RawStr o) (is_some o) (raw_body RawStr (w ++ next)) (raw-body RawStr next o w q)
+    (bytes-letter 114 refl))) (omega arith)
 
 raw_past-reads : (c : ℕ) (prefix : RawPrefix) (next : List ℕ) (o : Option ℕ) (w : List ℕ) → is_id_start c ≡ true
     → len_utf8 c ≡ 1 → prefix_len prefix ≡ 2 → word c (114 ∷ w ++ next) ≡ after 1 (raw_literal prefix) (114 ∷ w ++ next)
@@ -249,8 +244,8 @@ raw_past-reads c prefix next o w start one two is q =
     read-first c (word c) (114 ∷ w ++ next) _ _ _ (chooses-word c start)
     (is ∙ ap (λ (r : TokenKind × ℕ). let p : TokenKind × ℕ = (r.0, 1 + r.1) in p)
     (past-read (c ∷ 114 ∷ []) w next (prefix_len prefix) (prefix_kind prefix o) (is_some o)
-        (raw_body (prefix_kind prefix) (w ++ next)) (raw-body (prefix_kind prefix) next o w q)
-        (bytes-letters c 114 one refl ∙ sym two))) (omega arith)
+    (raw_body (prefix_kind prefix) (w ++ next)) (raw-body (prefix_kind prefix) next o w q)
+    (bytes-letters c 114 one refl ∙ sym two))) (omega arith)
 
 -- ---- numbers
 

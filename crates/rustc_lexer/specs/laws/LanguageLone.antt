@@ -1,8 +1,7 @@
 -- Lone dashes: the pass over a text finds the first that the language has.
-use Rattle.std.proofs.Common.{
-    ◌≡◌, ℕ, zero, suc, ◌≤◌, ◌==◌, ◌&&◌, ◌||◌, not, inl, inr, Bool, true, false, true≢false, List, [], ◌∷◌, ◌++◌,
-    reverse, length, take, drop, codes, refl, sym, ap, ◌∙◌, subst, arith, append_assoc, length-drop
-}
+use Rattle.std.proofs.Common.{◌≡◌, ℕ, zero, suc, ◌≤◌, ◌==◌, ◌&&◌, ◌||◌, not, inl, inr, Bool, true, false, true≢false}
+use Rattle.std.proofs.Common.{List, [], ◌∷◌, ◌++◌, reverse, length, take, drop, codes, refl, sym, ap, ◌∙◌, subst, arith}
+use Rattle.std.proofs.Common.{append_assoc, length-drop}
 use Rattle.std.proofs.Math.{Bool.{and-false}, Seq.{take-append_seam, drop-append_seam}}
 use Rattle.std.proofs.lemmas.Bool.{and_parts, eqb-true, or_cases, not-true, false_from_ne_true}
 use Rattle.std.proofs.lemmas.List.{append-nil, reverse-append, reverse-reverse, Folds.{list_all-append}}
@@ -56,9 +55,15 @@ record IsStanding (u : Chars) : Type 0 where
 is-standing : (r : List ℕ) → standing r ≡ true → IsStanding (reverse r)
 is-standing [] e = record { edge = []; blanks = []; whole = refl; is = the.front; all = refl }
 is-standing (c ∷ r) e = elim (or_cases (c == 10) _ e) [
-  | inl line ↦ record { edge = reverse r ++ codes "\n"; blanks = []; whole = append-nil _
-      ∙ (ap (λ (x : ℕ). reverse r ++ (x ∷ [])) (sym (eqb-true c 10 line)) ∙ sym (reverse-append (c ∷ []) r)); is =
-      the.line (reverse r); all = refl }
+  | inl line ↦ record {
+    edge = reverse r ++ codes "\n";
+    blanks = [];
+    whole = append-nil _
+        ∙ (ap (λ (x : ℕ). reverse r ++ (x ∷ [])) (sym (eqb-true c 10 line)) ∙ sym (reverse-append (c ∷ []) r));
+    is =
+        the.line (reverse r);
+    all = refl;
+  }
   | inr other ↦ elim (or_cases (is_horizontal_whitespace c && standing r) _ other) [
     | inl blank ↦
         let parts = and_parts (is_horizontal_whitespace c) (standing r) blank in
@@ -104,10 +109,16 @@ edge-stands (the.dashes u fresh) = ap standing (reverse-append u (fence 3)) ∙ 
 blanks-stand : (w r : List ℕ) → AreAll is_horizontal_whitespace w → standing r ≡ true → standing (reverse w ++ r) ≡ true
 blanks-stand [] r all e = e
 blanks-stand (c ∷ w) r all e =
-    grind (arith, common_steps, and_parts, reverse-append, append_assoc,
-    blanks-stand w (c ∷ r) (and_parts (is_horizontal_whitespace c) (list_all is_horizontal_whitespace w) all).1
-    (by_either (c == 10) (λ f. rw f refl)
-    (λ f. rw (f, (and_parts (is_horizontal_whitespace c) (list_all is_horizontal_whitespace w) all).0, e) refl)))
+    grind (
+      arith,
+      common_steps,
+      and_parts,
+      reverse-append,
+      append_assoc,
+      blanks-stand w (c ∷ r) (and_parts (is_horizontal_whitespace c) (list_all is_horizontal_whitespace w) all).1
+          (by_either (c == 10) (λ f. rw f refl)
+          (λ f. rw (f, (and_parts (is_horizontal_whitespace c) (list_all is_horizontal_whitespace w) all).0, e) refl)),
+    )
 
 pub lone-decided : (u v : Chars) → IsLone u v → lone_at [] (length u) (u ++ v) ≡ true
 lone-decided u v w0 =
@@ -118,7 +129,7 @@ decided-lone s i e =
     let parts = and_parts (standing (reverse (take i s))) (begins (fence 3) (drop i s)) (sym (lone_at-text s i) ∙ e) in
     let at = is-standing (reverse (take i s)) parts.0 in
     subst (λ (u : Chars). IsLone u (drop i s)) (at.whole ∙ reverse-reverse (take i s))
-        (the.lone at.edge at.blanks (drop i s) at.is at.all parts.1)
+    (the.lone at.edge at.blanks (drop i s) at.is at.all parts.1)
 
 -- ---- the pass finds the first
 
@@ -145,8 +156,8 @@ over blank c r s none at = record {
       let q = and_parts (c == 45) (begins (fence 2) r) p.0 in
       either-way (begins (fence 1) (c ∷ s)) (rw q.0 refl) (at.two q.1 (not-true _ p.1))) in
       by_either (c == 10) (λ f. rw f refl)
-          (λ f. rw (f, third, at.decided)
-          (by_either (is_horizontal_whitespace c && blank) (λ g. rw g refl) (λ g. rw g refl)));
+      (λ f. rw (f, third, at.decided)
+      (by_either (is_horizontal_whitespace c && blank) (λ g. rw g refl) (λ g. rw g refl)));
   fresh = λ e three. by_either (c == 45)
       (λ f. absurd (either-way (begins (fence 3) (c ∷ s)) (rw (f, fewer 2 s three) refl) none)) (λ f. rw f refl);
   one = λ e fresh. let is = (and_parts (c == 45) true e).0 in
@@ -169,17 +180,17 @@ lone-least (suc fuel) blank r (c ∷ s) le at =
     by_either (begins (fence 3) (c ∷ s))
     (λ e. three blank e at (lone-least fuel true (45 ∷ 45 ∷ 45 ∷ r) (drop 2 s) (omega (arith, length-drop 2 s))))
     (λ e. rw (e, and-false (standing r))
-        (ap one_more (lone-least fuel (blank_past blank c) (c ∷ r) s (omega arith) (over blank c r s e at))))
+    (ap one_more (lone-least fuel (blank_past blank c) (c ∷ r) s (omega arith) (over blank c r s e at))))
   where
     three : (blank : Bool) → begins (fence 3) (c ∷ s) ≡ true → IsAt blank r (c ∷ s)
         → (IsAt true (45 ∷ 45 ∷ 45 ∷ r) (drop 2 s) → first_lone true 0 (drop 2 s) ≡
-            least (λ i. lone_at (45 ∷ 45 ∷ 45 ∷ r) i (drop 2 s)) (length (drop 2 s)))
+        least (λ i. lone_at (45 ∷ 45 ∷ 45 ∷ r) i (drop 2 s)) (length (drop 2 s)))
         → first_lone blank 0 (c ∷ s) ≡ least (λ i. lone_at r i (c ∷ s)) (length (c ∷ s))
     three true e at ih = rw (e, at.decided) refl
     three false e at ih =
         let fresh : begins (fence 1) r ≡ false = at.fresh refl e in
         subst (λ (t : List ℕ). first_lone false 0 t ≡ least (λ i. lone_at r i t) (length t))
-            (sym (begins-whole (fence 3) (c ∷ s) e))
+        (sym (begins-whole (fence 3) (c ∷ s) e))
         (past_three r (drop 2 s) at.decided fresh (ih record {
           decided = rw fresh refl;
           fresh = λ f t. absurd (true≢false f);
@@ -188,6 +199,9 @@ lone-least (suc fuel) blank r (c ∷ s) le at =
         }))
 
 pub lone-first : (s : List ℕ) → first_lone true 0 s ≡ least (λ i. lone_at [] i s) (length s)
-lone-first s = lone-least (length s) true [] s (omega arith) record
-    { decided = refl; fresh = λ f t. absurd (true≢false f); one = λ f t. absurd (true≢false (sym f));
-    two = λ f t. absurd (true≢false (sym f)) }
+lone-first s = lone-least (length s) true [] s (omega arith) record {
+  decided = refl;
+  fresh = λ f t. absurd (true≢false f);
+  one = λ f t. absurd (true≢false (sym f));
+  two = λ f t. absurd (true≢false (sym f));
+}

@@ -1,18 +1,14 @@
 -- Quoted text is in its language, and what is there is read so.
-use Rattle.std.proofs.Common.{
-    ◌≡◌, ℕ, ◌==◌, ◌||◌, not, Bool, true, false, true≢false, List, [], ◌∷◌, ◌++◌, length, take, drop, codes, refl, sym,
-    ap, ◌∙◌, subst, arith, take-append-drop
-}
+use Rattle.std.proofs.Common.{◌≡◌, ℕ, ◌==◌, ◌||◌, not, Bool, true, false, true≢false, List, [], ◌∷◌, ◌++◌, length, take}
+use Rattle.std.proofs.Common.{drop, codes, refl, sym, ap, ◌∙◌, subst, arith, take-append-drop}
 use Rattle.std.proofs.lemmas.Bool.{and_parts, eqb-true, not-true, or_parts, or_cases, or_from}
 use Rattle.std.proofs.{Math.Bool.{and-true, or-false}, lemmas.Grind.{common_steps}}
 use Rattle.rustc_lexer.specs.Classes.{is_among, NextIn}
 use Rattle.rustc_lexer.specs.laws.Choice.{by_either}
 use Rattle.rustc_lexer.specs.LiteralGrammar as lit
 use Rattle.rustc_lexer.specs.LiteralGrammar.{QuotedTo, ends, plain, escape, SingleTo, IsDoubleQuoted, IsSingleQuoted}
-use Rattle.rustc_lexer.specs.means.Quoted.{
-    is_backslash, one_past, quoted_from, quoted, at_double_quote, double_quoted_string, at_single_stop, is_lone,
-    single_quoted_string
-}
+use Rattle.rustc_lexer.specs.means.Quoted.{is_backslash, one_past, quoted_from, quoted, at_double_quote}
+use Rattle.rustc_lexer.specs.means.Quoted.{double_quoted_string, at_single_stop, is_lone, single_quoted_string}
 use Rattle.rustc_lexer.specs.means.Scan.{begins}
 
 -- ---- one pass
@@ -25,7 +21,7 @@ behind false w = w
 module _ (quote : ℕ) (test : List ℕ → Bool) (special : ℕ → Bool) (goes : (c : ℕ) (s : List ℕ) → special c ≡ false
     → test (c ∷ s) ≡ false)
     (straight : (c : ℕ) → special c ≡ false → is_backslash c ≡ false)
-        (slashed : (s : List ℕ) → test (92 ∷ s) ≡ false) where
+    (slashed : (s : List ℕ) → test (92 ∷ s) ≡ false) where
   -- what goes up to an end is read as far as the end is
   pub quoted-read : {end w : List ℕ} → QuotedTo end special w → (next : List ℕ) (t : Bool)
       → quoted quote test (end ++ next) ≡ (t, length end) → quoted quote test (w ++ next) ≡ (t, length w)
@@ -47,17 +43,17 @@ module _ (quote : ℕ) (test : List ℕ → Bool) (special : ℕ → Bool) (goes
     pub quoted-sound : ((v : List ℕ) → QuotedTo [] special v → Is [] false v)
         → ((v : List ℕ) → QuotedTo (92 ∷ []) special v → Is [] false v)
         → ((c : ℕ) (s : List ℕ) → special c ≡ true → is_backslash c ≡ false → Sound false (c ∷ s))
-            → (escaped : Bool) (s : List ℕ) → Sound escaped s
+        → (escaped : Bool) (s : List ℕ) → Sound escaped s
     quoted-sound none slash stops false [] = ([], ends, none)
     quoted-sound none slash stops true [] = (92 ∷ [], ends, slash)
     quoted-sound none slash stops true (c ∷ s) = let is = quoted-sound none slash stops false s in
         (is.0, escape is.1, is.2)
     quoted-sound none slash stops false (c ∷ s) = by_either (special c)
         (λ e. by_either (is_backslash c)
-            (λ f. subst (λ (x : ℕ). Sound false (x ∷ s)) (sym (eqb-true c 92 f))
-            (rw (slashed s) (quoted-sound none slash stops true s))) (stops c s e))
+        (λ f. subst (λ (x : ℕ). Sound false (x ∷ s)) (sym (eqb-true c 92 f))
+        (rw (slashed s) (quoted-sound none slash stops true s))) (stops c s e))
         (λ e. rw (goes c s e, straight c e) (let is = quoted-sound none slash stops false s in
-            (is.0, plain e is.1, is.2)))
+        (is.0, plain e is.1, is.2)))
 
 -- ---- double quotes
 
@@ -92,7 +88,7 @@ double-sound s = let is =
     at_quote c s sp other =
         let same : c ≡ 34 = eqb-true c 34 (sym (or-false (c == 34)) ∙ (rw other at sp)) in
         subst (λ (x : ℕ). Sound 34 at_double_quote is_double double-goes double-straight
-            (λ s. refl) IsDoubleQuoted false (x ∷ s)) (sym same) (34 ∷ [], ends, λ v. lit.closed)
+        (λ s. refl) IsDoubleQuoted false (x ∷ s)) (sym same) (34 ∷ [], ends, λ v. lit.closed)
 
 -- ---- single quotes
 
@@ -145,13 +141,13 @@ single-read {next} (lit.closed_line q) = single-to q next true (λ e. ap (λ v. 
 single-read {next} (lit.at_slash {w} q slash none) =
     let at = is-next 47 next slash in
     single-to q next false
-        (λ e. or_from (begins (codes "''") (w ++ next)) _
-        (ap (λ v. begins (codes "''") (v ++ next)) e ∙ ap (begins (codes "''")) at) none) (ap past_quote at)
+    (λ e. or_from (begins (codes "''") (w ++ next)) _
+    (ap (λ v. begins (codes "''") (v ++ next)) e ∙ ap (begins (codes "''")) at) none) (ap past_quote at)
 single-read {next} (lit.at_newline q line none) =
     let at = is-next 10 next line in
     let alone : begins (codes "'") (drop 1 next) ≡ false = ap (begins (codes "\n'")) (sym at) ∙ none in
     single-to q next false (λ e. ap (λ v. is_lone_stop (v ++ next)) e ∙ ap is_lone_stop at)
-        (ap past_quote at ∙ rw alone refl)
+    (ap past_quote at ∙ rw alone refl)
 single-read {next} (lit.unclosed none q) =
     single-to q next false (λ e. ap (λ v. is_lone_stop (v ++ next)) e ∙ ap is_lone_stop none) (ap past_quote none)
 single-read {next} (lit.unclosed_escape none q) =
@@ -170,7 +166,7 @@ pub single-sound : (s : List ℕ) → IsSingleQuoted (drop (single_quoted_string
 single-sound s = by_either (is_lone s)
     (λ e. rw e (one_here s e))
     (λ e. rw e (let is = quoted-sound 39 at_single_stop is_single single-goes single-straight (λ s. refl) Free
-        (λ v q alone. lit.unclosed refl q) (λ v q alone. lit.unclosed_escape refl q) at_stop false s in
+    (λ v q alone. lit.unclosed refl q) (λ v q alone. lit.unclosed_escape refl q) at_stop false s in
     is.2 _ is.1 (ap is_lone (take-append-drop (past_quote s).1 s) ∙ e)))
   where
     one_here : (s : List ℕ) → is_lone s ≡ true → IsSingleQuoted (drop 2 s) true (take 2 s)
@@ -180,7 +176,7 @@ single-sound s = by_either (is_lone s)
         let parts = and_parts (not (begins (92 ∷ []) (c ∷ d ∷ s))) _ e in
         let second : 39 ≡ d = sym (eqb-true d 39 (and_parts (d == 39) true parts.1).0) in
         subst (λ (x : ℕ). IsSingleQuoted s true (c ∷ x ∷ [])) second
-            (lit.one (sym (and-true (c == 92)) ∙ not-true _ parts.0))
+        (lit.one (sym (and-true (c == 92)) ∙ not-true _ parts.0))
 
     Stop : List ℕ → Type 0
     Stop s = Sound 39 at_single_stop is_single single-goes single-straight (λ s. refl) Free false s
@@ -189,15 +185,15 @@ single-sound s = by_either (is_lone s)
     at_line [] = ([], ends, λ v q alone. lit.at_newline q refl refl)
     at_line (d ∷ s) = by_either (d == 39)
         (λ e. subst (λ (x : ℕ). Stop (10 ∷ x ∷ s)) (sym (eqb-true d 39 e))
-            (codes "\n'", ends, λ v q alone. lit.closed_line q))
+        (codes "\n'", ends, λ v q alone. lit.closed_line q))
         (λ e. rw e ([], ends, λ v q alone. lit.at_newline q refl (rw e refl)))
 
     at_stop : (c : ℕ) (s : List ℕ) → is_single c ≡ true → is_backslash c ≡ false → Stop (c ∷ s)
     at_stop c s sp other = by_either (c == 39)
         (λ e. subst (λ (x : ℕ). Stop (x ∷ s)) (sym (eqb-true c 39 e))
-            (codes "'", ends, λ v q alone. lit.closed q (lone-none 39 (v ++ s) refl alone)))
+        (codes "'", ends, λ v q alone. lit.closed q (lone-none 39 (v ++ s) refl alone)))
         (λ e. by_either (c == 47)
         (λ f. subst (λ (x : ℕ). Stop (x ∷ s)) (sym (eqb-true c 47 f))
-            ([], ends, λ v q alone. lit.at_slash q refl (lone-none 47 (v ++ 47 ∷ s) refl alone)))
+        ([], ends, λ v q alone. lit.at_slash q refl (lone-none 47 (v ++ 47 ∷ s) refl alone)))
         (λ f. subst (λ (x : ℕ). Stop (x ∷ s))
-            (sym (eqb-true c 10 (sym (or-false (c == 10)) ∙ (rw (e, f, other) at sp)))) (at_line s)))
+        (sym (eqb-true c 10 (sym (or-false (c == 10)) ∙ (rw (e, f, other) at sp)))) (at_line s)))

@@ -1,12 +1,10 @@
 -- Raw strings are in their language, and what is there is read so.
-use Rattle.std.proofs.Common.{
-    ◌≡◌, ℕ, zero, suc, ◌+◌, ◌≤◌, ◌==◌, nat_le, true, false, true≢false, List, [], ◌∷◌, ◌++◌, length, take, drop, codes,
-    refl, sym, ap, ◌∙◌, subst, arith, append_assoc, length-append, Option, Some, None, Err
-}
+use Rattle.std.proofs.Common.{◌≡◌, ℕ, zero, suc, ◌+◌, ◌≤◌, ◌==◌, nat_le, true, false, true≢false, List, [], ◌∷◌, ◌++◌}
+use Rattle.std.proofs.Common.{length, take, drop, codes, refl, sym, ap, ◌∙◌, subst, arith, append_assoc, length-append}
+use Rattle.std.proofs.Common.{Option, Some, None, Err}
 use Rattle.std.proofs.Math.Seq.{drop-append_seam}
-use Rattle.std.proofs.lemmas.Bool.{
-    and_parts, eqb-true, or_parts, or_from, leb-true, leb-false, le-leb, lt-leb, false_from_ne_true
-}
+use Rattle.std.proofs.lemmas.Bool.{and_parts, eqb-true, or_parts, or_from, leb-true, leb-false, le-leb, lt-leb}
+use Rattle.std.proofs.lemmas.Bool.{false_from_ne_true}
 use Rattle.std.proofs.lemmas.{List.{append-nil}, Grind.{common_steps}}
 use Rattle.rustc_lexer.specs.Classes.{is_among, NextIs, NextIsNot}
 use Rattle.rustc_lexer.specs.laws.Choice.{by_either}
@@ -17,10 +15,8 @@ use Rattle.rustc_lexer.specs.LiteralGrammar as lit
 use Rattle.rustc_lexer.specs.LiteralGrammar.{hashes, NoQuoteWith, IsRaw}
 use Rattle.rustc_lexer.specs.means.Least.{one_more}
 use Rattle.rustc_lexer.specs.means.Lexeme.{opens_raw}
-use Rattle.rustc_lexer.specs.means.Raw.{
-    is_hash, is_quote, hash_run, closes, close, most_hashes, best_quote, quote_end, hash_count, raw_starter, raw_read,
-    accepted
-}
+use Rattle.rustc_lexer.specs.means.Raw.{is_hash, is_quote, hash_run, closes, close, most_hashes, best_quote, quote_end}
+use Rattle.rustc_lexer.specs.means.Raw.{hash_count, raw_starter, raw_read, accepted}
 
 -- ---- hashes
 
@@ -72,7 +68,7 @@ pub close-read : (n : ℕ) (w next : List ℕ) → NoQuoteWith n w → close n (
 close-read n [] next lacks = rw (closes-here n next) refl
 close-read n (c ∷ w) next lacks =
     let open_here : closes n (c ∷ w ++ (34 ∷ hashes n ++ next)) ≡ false =
-        false_from_ne_true (closes n (c ∷ w ++ (34 ∷ hashes n ++ next))) (λ e.
+    false_from_ne_true (closes n (c ∷ w ++ (34 ∷ hashes n ++ next))) (λ e.
     let parts = closes-quote n c (w ++ (34 ∷ hashes n ++ next)) e in
     lacks-front n c w lacks (omega (arith, parts.1, hash_run-before w (hashes n ++ next))) parts.0) in
     rw open_here (ap one_more (close-read n w next (lacks-rest n c w lacks)))
@@ -106,7 +102,7 @@ closing n (c ∷ u) = by_either (closes n (c ∷ u))
     (λ e.
     let parts = closes-quote n c u e in
     let text : 34 ∷ hashes n ++ drop n u ≡ c ∷ u = ap (λ (xs : List ℕ). 34 ∷ xs) (sym (split-hashes n u parts.1))
-        ∙ ap (λ (x : ℕ). x ∷ u) (sym parts.0) in
+    ∙ ap (λ (x : ℕ). x ∷ u) (sym parts.0) in
     subst (Closing n) text (found [] (drop n u) (nothing-lacks n)))
     (λ e. more e (closing n u))
   where
@@ -128,7 +124,7 @@ closed-read p n w next lacks = past-hashes p n (34 ∷ w ++ (34 ∷ hashes n ++ 
 
 pub open-read : (p n : ℕ) (w : List ℕ) → NoQuoteWith n w
     → raw_read p (hashes n ++ 34 ∷ w) ≡
-        (Err (NoTerminator n (most_hashes w) (quote_end (p + suc n) w (best_quote w))), n + suc (length w))
+    (Err (NoTerminator n (most_hashes w) (quote_end (p + suc n) w (best_quote w))), n + suc (length w))
 open-read p n w lacks = past-hashes p n (34 ∷ w) refl ∙ rw (unclosed-read n w lacks) refl
 
 pub no_quote-read : (p n c : ℕ) (next : List ℕ) → is_among (codes "\"#") c ≡ false → raw_read p (hashes n ++ c ∷ next) ≡
@@ -171,9 +167,12 @@ pub record Guarded (s : List ℕ) : Type 0 where
   pub stops : NextIsNot is_hash left
 
 pub guarded : (s : List ℕ) → Guarded s
-guarded s = record
-    { count = hash_run s; left = drop (hash_run s) s; whole = sym (split-hashes (hash_run s) s (omega arith));
-    stops = run-stops is_hash s }
+guarded s = record {
+  count = hash_run s;
+  left = drop (hash_run s) s;
+  whole = sym (split-hashes (hash_run s) s (omega arith));
+  stops = run-stops is_hash s;
+}
 
 -- what stands past the `r`
 pub data Shape : List ℕ → Type 0 where

@@ -1,21 +1,17 @@
 -- How far a token of each kind looks can be read off the conditions of the language on what follows.
-use Rattle.std.proofs.Common.{
-    ◌≡◌, ℕ, ◌<◌, ◌==◌, ◌&&◌, if◌then◌else◌, Bool, true, false, true≢false, List, [], ◌∷◌, ◌++◌, take, codes, refl, sym,
-    ap, ◌∙◌, subst, arith, Option, None, bytes_eq
-}
+use Rattle.std.proofs.Common.{◌≡◌, ℕ, ◌<◌, ◌==◌, ◌&&◌, if◌then◌else◌, Bool, true, false, true≢false, List, [], ◌∷◌}
+use Rattle.std.proofs.Common.{◌++◌, take, codes, refl, sym, ap, ◌∙◌, subst, arith, Option, None, bytes_eq}
 use Rattle.std.proofs.lemmas.Bool.{and_parts, or_parts, eqb-true}
 use Rattle.std.specs.List.{list_all, list_any}
 use Rattle.std.proofs.{Math.Bool.{and-false, and-true}, lemmas.Grind.{common_steps}}
-use Rattle.rustc_lexer.specs.Classes.{
-    is_ident, AreAll, NextIs, NextIsNot, is_word_continue, is_name_start, begins_ident_after, ends_prefix
-}
+use Rattle.rustc_lexer.specs.Classes.{is_ident, AreAll, NextIs, NextIsNot, is_word_continue, is_name_start}
+use Rattle.rustc_lexer.specs.Classes.{begins_ident_after, ends_prefix}
 use Rattle.unicode_ident.proofs.Computing.{unicode_ident}
 use Rattle.rustc_lexer.specs.{Base, LiteralKind, Int, Float, Char, Literal, UnknownPrefix}
 use Rattle.rustc_lexer.specs.Language as the
 use Rattle.rustc_lexer.specs.LiteralGrammar as lit
-use Rattle.rustc_lexer.specs.LiteralGrammar.{
-    IsDoubleQuoted, SingleTo, IsSingleQuoted, IsRaw, IsLiteralBefore, IsSuffixBefore
-}
+use Rattle.rustc_lexer.specs.LiteralGrammar.{IsDoubleQuoted, SingleTo, IsSingleQuoted, IsRaw, IsLiteralBefore}
+use Rattle.rustc_lexer.specs.LiteralGrammar.{IsSuffixBefore}
 use Rattle.rustc_lexer.specs.Language.{known_prefixes, begins_prefixed, IsTokenBefore}
 use Rattle.rustc_lexer.specs.GrammarLaws.{reach}
 use Rattle.rustc_lexer.specs.NumberGrammar as number
@@ -165,8 +161,8 @@ pub no-hash : (d c : ℕ) (w s : List ℕ) → AreAll is_word_continue w → byt
 no-hash d c [] s all e = rw (sym (and-true (c == d)) ∙ e) refl
 no-hash d c (x ∷ w) s all e =
     let none : (x == 35) ≡ false =
-        (or_parts (x == 35) _
-        (word-no_prefix_end x (and_parts (is_word_continue x) (list_all is_word_continue w) all).0)).0 in
+    (or_parts (x == 35) _
+    (word-no_prefix_end x (and_parts (is_word_continue x) (list_all is_word_continue w) all).0)).0 in
     rw (none, and-false (c == d)) refl
 
 -- a known prefix is decided by what ends it: letters, and then any character that ends a prefix
@@ -181,7 +177,7 @@ prefix_end-decided (l ∷ ls) (x ∷ w) m c u v all is_end =
 
 pub known-decided : (w : List ℕ) (c : ℕ) (u v : List ℕ) → ends_prefix c ≡ true
     → list_any (λ prefix. begins prefix (w ++ c ∷ v)) known_prefixes ≡
-        list_any (λ prefix. begins prefix (w ++ c ∷ u)) known_prefixes
+    list_any (λ prefix. begins prefix (w ++ c ∷ u)) known_prefixes
 unfolding unicode_ident
 known-decided w c u v is_end = rw (
   prefix_end-decided (codes "r") w 34 c u v refl is_end,
@@ -213,8 +209,8 @@ pub unknown_k : (next other w : List ℕ) → bytes_eq w (codes "k") ≡ true �
 unknown_k next other w is_k is go two free =
     let k : w ≡ 107 ∷ [] = one-letter w 107 is_k in
     the.unknown_prefix is go (ap (λ (xs : List ℕ). begins_prefixed (xs ++ other)) k
-        ∙ (decided_same 2 2 begins_hash_ident other next begins_hash_ident-decided (omega arith) two
-        ∙ (ap (λ (xs : List ℕ). begins_prefixed (xs ++ next)) (sym k) ∙ free)))
+    ∙ (decided_same 2 2 begins_hash_ident other next begins_hash_ident-decided (omega arith) two
+    ∙ (ap (λ (xs : List ℕ). begins_prefixed (xs ++ next)) (sym k) ∙ free)))
 
 pub raw_ident-decided_by : (w : List ℕ) → bytes_eq w (114 ∷ []) ≡ true → (next other : List ℕ)
     → take 2 other ≡ take 2 next → begins_ident_after (codes "r#") (w ++ next) ≡ false

@@ -1,8 +1,7 @@
 -- Why a raw string is refused is what the language says, and nothing else is.
-use Rattle.std.proofs.Common.{
-    ◌≡◌, ◌↔◌, ℕ, zero, suc, ◌+◌, ◌<◌, ◌≤◌, ◌==◌, nat_le, Bool, true, false, if◌then◌else◌, List, [], ◌∷◌, ◌++◌, length,
-    take, drop, refl, sym, ap, ◌∙◌, subst, arith, append_assoc, length-append, Option, Some, None, Result, Ok, Err
-}
+use Rattle.std.proofs.Common.{◌≡◌, ◌↔◌, ℕ, zero, suc, ◌+◌, ◌<◌, ◌≤◌, ◌==◌, nat_le, Bool, true, false, if◌then◌else◌}
+use Rattle.std.proofs.Common.{List, [], ◌∷◌, ◌++◌, length, take, drop, refl, sym, ap, ◌∙◌, subst, arith, append_assoc}
+use Rattle.std.proofs.Common.{length-append, Option, Some, None, Result, Ok, Err}
 use Rattle.std.proofs.Math.{Nat.{le-max_left, le-max_right, max-le}, Seq.{take-append_seam}}
 use Rattle.std.proofs.lemmas.Bool.{eqb-true, leb-true, leb-false, le-leb, lt-leb, false_from_ne_true, eq-eqb}
 use Rattle.std.specs.Str.{chars}
@@ -13,16 +12,14 @@ use Rattle.rustc_lexer.specs.LiteralGrammar.{hashes, NoQuoteWith}
 use Rattle.rustc_lexer.specs.LanguageCalls as the
 use Rattle.rustc_lexer.specs.LanguageCalls.{IsLikelyEnd, IsRawAnswer}
 use Rattle.rustc_lexer.specs.means.Least.{one_more}
-use Rattle.rustc_lexer.specs.means.Raw.{
-    hash_run, most_hashes, quote_hashes, quote_with, best_quote, quote_if, quote_end, raw_read, checked, check_raw
-}
+use Rattle.rustc_lexer.specs.means.Raw.{hash_run, most_hashes, quote_hashes, quote_with, best_quote, quote_if}
+use Rattle.rustc_lexer.specs.means.Raw.{quote_end, raw_read, checked, check_raw}
 use Rattle.rustc_lexer.specs.means.Scan.{bytes_of}
 use Rattle.rustc_lexer.specs.Classes.{bytes}
 use Rattle.rustc_lexer.specs.laws.Choice.{by_either}
-use Rattle.rustc_lexer.specs.laws.LanguageRaw.{
-    hash_run-hashes, hash_run-before, lacks-rest, lacks-front, Closing, found, lost, closing, whole-text, closed-read,
-    open-read, no_quote-read, no_more-read, Shape, closed, unclosed, no_quote, no_more, shape
-}
+use Rattle.rustc_lexer.specs.laws.LanguageRaw.{hash_run-hashes, hash_run-before, lacks-rest, lacks-front, Closing}
+use Rattle.rustc_lexer.specs.laws.LanguageRaw.{found, lost, closing, whole-text, closed-read, open-read, no_quote-read}
+use Rattle.rustc_lexer.specs.laws.LanguageRaw.{no_more-read, Shape, closed, unclosed, no_quote, no_more, shape}
 
 -- ---- the most hashes behind a quote
 
@@ -56,11 +53,11 @@ end-at : (start m : ℕ) (u v : List ℕ) → start + bytes_of (suc (length u)) 
     start + bytes (u ++ 34 ∷ [])
 end-at start m u v =
     let text : u ++ (34 ∷ hashes m ++ v) ≡ (u ++ 34 ∷ []) ++ (hashes m ++ v) =
-        sym (append_assoc u (34 ∷ []) (hashes m ++ v)) in
+    sym (append_assoc u (34 ∷ []) (hashes m ++ v)) in
     let size : suc (length u) ≡ length (u ++ 34 ∷ []) = omega (arith, length-append u (34 ∷ [])) in
     let here : take (suc (length u)) (u ++ (34 ∷ hashes m ++ v)) ≡ u ++ 34 ∷ [] = ap (take (suc (length u))) text
-        ∙ (ap (λ (k : ℕ). take k ((u ++ 34 ∷ []) ++ (hashes m ++ v))) size
-        ∙ take-append_seam (u ++ 34 ∷ []) (hashes m ++ v)) in
+    ∙ (ap (λ (k : ℕ). take k ((u ++ 34 ∷ []) ++ (hashes m ++ v))) size
+    ∙ take-append_seam (u ++ 34 ∷ []) (hashes m ++ v)) in
     ap (λ (k : ℕ). start + k) (ap bytes here)
 
 record BestIs (start m : ℕ) (w : List ℕ) (end : Option ℕ) : Type 0 where
@@ -71,11 +68,11 @@ best-read : (start : ℕ) {w : List ℕ} {m : ℕ} {end : Option ℕ} → IsLike
 best-read start {w} (the.none lacks) = grind (arith, common_steps, most-few 0 w lacks)
 best-read start {w} (the.best {n = m} u v some whole lacks most_so) =
     let many : hash_run (hashes m ++ v) ≤ most_hashes w =
-        omega (arith, ap most_hashes whole, most-many u (hashes m ++ v)) in
+    omega (arith, ap most_hashes whole, most-many u (hashes m ++ v)) in
     let most : most_hashes w ≡ m = omega (arith, most-few m w most_so, many, hash_run-hashes m v) in
     let exact : hash_run (hashes m ++ v) ≡ m = omega (arith, hash_run-hashes m v, many, most) in
     let has : (m == 0) ≡ false =
-        false_from_ne_true (m == 0) (λ z. absurd (let none : m ≡ 0 = eqb-true m 0 z in omega (arith, none, some))) in
+    false_from_ne_true (m == 0) (λ z. absurd (let none : m ≡ 0 = eqb-true m 0 z in omega (arith, none, some))) in
     record {
       most = most;
       at =
@@ -97,8 +94,12 @@ has-best start w = by_most (most_hashes w) refl
   where
     some-best : (m : ℕ) {v : List ℕ} → most_hashes v ≡ suc m → Closing (suc m) v → HasBest start v
     some-best m e (found u z lacks) =
-        record { count = suc m; end = _; is = the.best u z (omega arith) refl lacks
-            (lacks-past (suc (suc m)) _ (omega (arith, e))) }
+        record {
+          count = suc m;
+          end = _;
+          is = the.best u z (omega arith) refl lacks
+              (lacks-past (suc (suc m)) _ (omega (arith, e)));
+        }
     some-best m e (lost {u} lacks) = absurd (omega (arith, most-few m u lacks, e))
 
     by_most : (m : ℕ) → most_hashes w ≡ m → HasBest start w
@@ -141,5 +142,8 @@ has-answer p s = by_shape (shape s)
 pub raw-answer : (text : List ℕ) (p : ℕ) (other : Result Unit RawStrError) → IsRawAnswer p (drop p (chars text)) other
     ↔ (other ≡ check_raw text p)
 unfolding check_raw
-raw-answer text p other = (λ is. answer-read is, λ e. let h = has-answer p (drop p (chars text)) in
-    subst (IsRawAnswer p (drop p (chars text))) (answer-read h.is ∙ sym e) h.is)
+raw-answer text p other = (
+  λ is. answer-read is,
+  λ e. let h = has-answer p (drop p (chars text)) in
+      subst (IsRawAnswer p (drop p (chars text))) (answer-read h.is ∙ sym e) h.is,
+)

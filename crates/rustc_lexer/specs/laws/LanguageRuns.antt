@@ -1,24 +1,19 @@
 -- What the language says of runs, and which family the first character of a text chooses.
-use Rattle.std.proofs.Common.{
-    ◌≡◌, ℕ, suc, ◌≤◌, ◌<◌, ◌==◌, ◌&&◌, ◌||◌, inl, inr, nat_le, not, Bool, true, false, true≢false, List, [], ◌∷◌, ◌++◌,
-    length, take, drop, codes, refl, sym, ap, ◌∙◌, arith, take_all
-}
+use Rattle.std.proofs.Common.{◌≡◌, ℕ, suc, ◌≤◌, ◌<◌, ◌==◌, ◌&&◌, ◌||◌, inl, inr, nat_le, not, Bool, true, false}
+use Rattle.std.proofs.Common.{true≢false, List, [], ◌∷◌, ◌++◌, length, take, drop, codes, refl, sym, ap, ◌∙◌, arith}
+use Rattle.std.proofs.Common.{take_all}
 use Rattle.std.proofs.Math.Seq.{take-append_seam, drop-append_seam}
-use Rattle.std.proofs.lemmas.Bool.{
-    agree_below_at, and_parts, eqb-true, leb-true, ne_eqb, or_cases, or_parts, or_left, or_right, not-true,
-    false_from_ne_true
-}
+use Rattle.std.proofs.lemmas.Bool.{agree_below_at, and_parts, eqb-true, leb-true, ne_eqb, or_cases, or_parts, or_left}
+use Rattle.std.proofs.lemmas.Bool.{or_right, not-true, false_from_ne_true}
 use Rattle.std.specs.{Char.{is_ascii_digit}, List.{list_all}}
 use Rattle.std.proofs.lemmas.Grind.{common_steps}
 use Rattle.unicode_ident.proofs.Computing.{unicode_ident}
 use Rattle.rustc_lexer.specs.declared.lexemes.family.Family.{Family}
-use Rattle.rustc_lexer.specs.declared.lexemes.family.Family.TheVariants.{
-    Slash, Space, Word, Number, Quote, Str, Emoji, Hash, Symbol
-}
+use Rattle.rustc_lexer.specs.declared.lexemes.family.Family.TheVariants.{Slash, Space, Word, Number, Quote, Str, Emoji}
+use Rattle.rustc_lexer.specs.declared.lexemes.family.Family.TheVariants.{Hash, Symbol}
 use Rattle.rustc_lexer.specs.{TokenKind}
-use Rattle.rustc_lexer.specs.Classes.{
-    is_among, is_whitespace, is_id_start, is_word_continue, is_word_start, AreAll, NextIs, NextIsNot, ends_prefix
-}
+use Rattle.rustc_lexer.specs.Classes.{is_among, is_whitespace, is_id_start, is_word_continue, is_word_start, AreAll}
+use Rattle.rustc_lexer.specs.Classes.{NextIs, NextIsNot, ends_prefix}
 use Rattle.rustc_lexer.specs.Tables.{is_emoji, emoji_ranges}
 use Rattle.rustc_lexer.specs.laws.Choice.{by_test}
 use Rattle.rustc_lexer.specs.laws.Reach.{IsDecidedBy, decided_same, run_len-in, run_len-out}
@@ -33,8 +28,13 @@ pub run_len-here : (p : ℕ → Bool) (w next : List ℕ) → AreAll p w → Nex
 run_len-here p [] [] all stop = refl
 run_len-here p [] (c ∷ next) all stop = run_len-out p c next stop
 run_len-here p (c ∷ w) next all stop =
-    grind (arith, common_steps, and_parts, run_len-in,
-    run_len-here p w next (and_parts (p c) (list_all p w) all).1 stop)
+    grind (
+      arith,
+      common_steps,
+      and_parts,
+      run_len-in,
+      run_len-here p w next (and_parts (p c) (list_all p w) all).1 stop,
+    )
 
 -- what follows a run stops it
 pub run-stops : (p : ℕ → Bool) (s : List ℕ) → NextIsNot p (drop (run_len p s) s)
@@ -54,8 +54,11 @@ other_than p k d out in_class = ne_eqb d k (λ e. true≢false (sym in_class ∙
 pub among : (f : ℕ → Bool) (ds : List ℕ) → list_all f ds ≡ true → (c : ℕ) → is_among ds c ≡ true → f c ≡ true
 among f [] all c e = absurd (true≢false (sym e))
 among f (d ∷ ds) all c e = let parts = and_parts (f d) (list_all f ds) all in
-    elim (or_cases (c == d) (is_among ds c) e) [ inl a ↦ ap f (eqb-true c d a)
-    ∙ parts.0 | inr g ↦ among f ds parts.1 c g ]
+    elim (or_cases (c == d) (is_among ds c) e) [
+      | inl a ↦ ap f (eqb-true c d a)
+          ∙ parts.0
+      | inr g ↦ among f ds parts.1 c g
+    ]
 
 pub none-among : (f : ℕ → Bool) (ds : List ℕ) → list_all (λ d. not (f d)) ds ≡ true → (c : ℕ) → is_among ds c ≡ true
     → f c ≡ false
@@ -176,8 +179,15 @@ chooses-emoji c f e =
     let m = or_parts (c == 35) _ (word_start-no_prefix_end c w) in
     let n = or_parts (c == 34) _ m.1 in
     let o = or_parts (c == 39) _ n.1 in
-    chooses c Emoji (rw (other_than is_word_start 47 c slash-no_start w, word_start-no_space c w, f,
-        word_start-no_digit c w, o.0, n.0, e) refl)
+    chooses c Emoji (rw (
+      other_than is_word_start 47 c slash-no_start w,
+      word_start-no_space c w,
+      f,
+      word_start-no_digit c w,
+      o.0,
+      n.0,
+      e,
+    ) refl)
 
 pub chooses-symbol : (c : ℕ) → has_rule c ≡ false → past_first c ≡ read_by Symbol c
 chooses-symbol c e = grind (arith, common_steps, or_parts, chooses)

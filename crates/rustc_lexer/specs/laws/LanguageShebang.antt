@@ -1,8 +1,7 @@
 -- What is taken for a shebang line is what the language says, and nothing else is.
-use Rattle.std.proofs.Common.{
-    ◌≡◌, ◌↔◌, ℕ, suc, ◌+◌, ◌==◌, ◌&&◌, ◌||◌, not, Bool, true, false, true≢false, if◌then◌else◌, List, [], ◌∷◌, ◌++◌,
-    length, get_or, take, drop, codes, refl, sym, ap, ◌∙◌, subst, arith, length-append, Option, Some, None
-}
+use Rattle.std.proofs.Common.{◌≡◌, ◌↔◌, ℕ, suc, ◌+◌, ◌==◌, ◌&&◌, ◌||◌, not, Bool, true, false, true≢false}
+use Rattle.std.proofs.Common.{if◌then◌else◌, List, [], ◌∷◌, ◌++◌, length, get_or, take, drop, codes, refl, sym, ap, ◌∙◌}
+use Rattle.std.proofs.Common.{subst, arith, length-append, Option, Some, None}
 use lib.Utf8.{encode}
 use Rattle.std.proofs.lemmas.{Bool.{and_parts, eqb-true, not-true}, Str.{IsUtf8-drop, IsCharBoundary-from_take}}
 use Rattle.std.specs.{List.{list_all, Contains}, Str.{chars, encode_utf8_all, IsUtf8}}
@@ -18,9 +17,8 @@ use Rattle.rustc_lexer.specs.LanguageCalls as the
 use Rattle.rustc_lexer.specs.LanguageCalls.{IsAttributeRest, IsLineBefore, IsShebang}
 use Rattle.rustc_lexer.specs.means.Lexeme.{first_token, symbols, kind_among}
 use Rattle.rustc_lexer.specs.means.Scan.{begins}
-use Rattle.rustc_lexer.specs.means.Shebang.{
-    is_passed, is_open_bracket, is_attribute, line_len, shebang_past, read_shebang
-}
+use Rattle.rustc_lexer.specs.means.Shebang.{is_passed, is_open_bracket, is_attribute, line_len, shebang_past}
+use Rattle.rustc_lexer.specs.means.Shebang.{read_shebang}
 use Rattle.rustc_lexer.specs.Classes.{AreAll, bytes, is_inline, IsText}
 use Rattle.rustc_lexer.specs.laws.Choice.{by_either}
 use Rattle.rustc_lexer.specs.laws.Fences.{begins-whole}
@@ -45,8 +43,8 @@ first-step text kind c w next is e p =
     let parts = split text (c ∷ w) next is e in
     let left : List ℕ = encode_utf8_all next in
     let left_is : IsText left =
-        subst IsText parts.left
-        (left_text text (bytes (c ∷ w)) is parts.inside (subst IsUtf8 (sym parts.front) parts.front_utf8)) in
+    subst IsText parts.left
+    (left_text text (bytes (c ∷ w)) is parts.inside (subst IsUtf8 (sym parts.front) parts.front_utf8)) in
     let rest : AreTokens (part newest) next (ts left) =
     subst (λ cs. AreTokens (part newest) cs (ts left)) parts.again (tokens-are left (part newest) left_is) in
     let all : AreTokens (part newest) (c ∷ w ++ next) (record { kind = kind; len = bytes (c ∷ w) } ∷ ts left) =
@@ -70,17 +68,22 @@ attribute-read (the.bracket next) text is e =
 attribute-read (the.passed {kind} {c} {w} {next} among p rest) text is e =
     let f = first-step text kind c w next is e p in
     f.3 ∙ (ap (λ (b : Bool). if b then is_attribute (ts f.0) else is_open_bracket kind) (passes kind among)
-        ∙ attribute-read rest f.0 f.1 f.2)
+    ∙ attribute-read rest f.0 f.1 f.2)
 
 -- a bracket is what it is alone
 among-bracket : (ss : List (ℕ × TokenKind)) (c : ℕ) → list_all (λ s. not (is_open_bracket s.1) || (s.0 == 91)) ss ≡ true
     → is_open_bracket (kind_among ss c) ≡ true → c ≡ 91
 among-bracket [] c all e = absurd (true≢false (sym e))
 among-bracket (s ∷ ss) c all e =
-    grind (arith, common_steps, and_parts, eqb-true,
-    among-bracket ss c
-    (and_parts (not (is_open_bracket s.1) || (s.0 == 91)) (list_all (λ s. not (is_open_bracket s.1) || (s.0 == 91)) ss)
-    all).1)
+    grind (
+      arith,
+      common_steps,
+      and_parts,
+      eqb-true,
+      among-bracket ss c
+          (and_parts (not (is_open_bracket s.1) || (s.0 == 91)) (list_all (λ s. not (is_open_bracket s.1) || (s.0 == 91)) ss)
+          all).1,
+    )
 
 bracket-view : {next : List ℕ} {kind : TokenKind} {w : List ℕ} → IsTokenBefore next kind w → is_open_bracket kind ≡ true
     → w ≡ 91 ∷ []
@@ -119,14 +122,14 @@ line_len-here : (w next : List ℕ) → AreAll is_inline w → line_len next ≡
 line_len-here [] next all ends free = ends
 line_len-here (c ∷ []) next all ends free = let inline = and_parts (is_inline c) true all in by_either (c == 13)
     (λ e. rw (not-true (c == 10) inline.0, free [] (ap (λ x. x ∷ []) (eqb-true c 13 e)), and-false (c == 13), ends)
-        refl)
+    refl)
     (λ e. rw (not-true (c == 10) inline.0, e, ends) refl)
 line_len-here (c ∷ d ∷ w) next all ends free =
     let parts = and_parts (is_inline c) (list_all is_inline (d ∷ w)) all in
     let none : begins (codes "\r\n") (c ∷ d ∷ w ++ next) ≡ false =
     rw (not-true (d == 10) (and_parts (is_inline d) (list_all is_inline w) parts.1).0) (and-false (c == 13)) in
     rw (not-true (c == 10) parts.0, none)
-        (ap suc (line_len-here (d ∷ w) next parts.1 ends (λ u e. free (c ∷ u) (ap (λ xs. c ∷ xs) e))))
+    (ap suc (line_len-here (d ∷ w) next parts.1 ends (λ u e. free (c ∷ u) (ap (λ xs. c ∷ xs) e))))
 
 pub line-read : {next w : List ℕ} → IsLineBefore next w → line_len (w ++ next) ≡ length w
 line-read {next} {w} (the.to_newline all n none) =
@@ -169,9 +172,13 @@ has-line (c ∷ s) = by_either (c == 10)
     (λ f.
     let ih = has-line s in
     let stands : begins (codes "\r\n") (c ∷ ih.w ++ ih.next) ≡ false =
-        ap (λ (x : List ℕ). begins (codes "\r\n") (c ∷ x)) ih.whole ∙ f in
-    record { w = c ∷ ih.w; next = ih.next; whole = ap (λ (x : List ℕ). c ∷ x) ih.whole;
-        is = longer c ih.w ih.next e stands ih.is }))
+    ap (λ (x : List ℕ). begins (codes "\r\n") (c ∷ x)) ih.whole ∙ f in
+    record {
+      w = c ∷ ih.w;
+      next = ih.next;
+      whole = ap (λ (x : List ℕ). c ∷ x) ih.whole;
+      is = longer c ih.w ih.next e stands ih.is;
+    }))
 
 -- ---- the answer
 
@@ -216,8 +223,8 @@ answer-read {text} is (the.none free) = by_either (begins (codes "#!") text)
     let rest : List ℕ = drop 2 text in
     let begun : text ≡ 35 ∷ 33 ∷ rest = begins-whole (codes "#!") text e in
     sym (past-hash_bang text rest begun
-        ∙ ap (λ (b : Bool). let r : Option ℕ = if b then None else Some (2 + line_len rest) in
-        r) (attribute-read (free rest begun) rest (tail-text text rest is begun) refl)))
+    ∙ ap (λ (b : Bool). let r : Option ℕ = if b then None else Some (2 + line_len rest) in
+    r) (attribute-read (free rest begun) rest (tail-text text rest is begun) refl)))
     (λ e. sym (no-hash_bang text e))
 
 record HasShebang (text : List ℕ) : Type 0 where
@@ -227,15 +234,19 @@ record HasShebang (text : List ℕ) : Type 0 where
 has-shebang : (text : List ℕ) → IsText text → HasShebang text
 has-shebang text is = by_either (begins (codes "#!") text)
     (λ e. past (drop 2 text) (begins-whole (codes "#!") text e))
-    (λ e. record { answer = None; is = the.none (λ rest f. absurd (true≢false (sym (ap (begins (codes "#!")) f) ∙ e)))
-        })
+    (λ e. record {
+      answer = None;
+      is = the.none (λ rest f. absurd (true≢false (sym (ap (begins (codes "#!")) f) ∙ e)));
+    })
   where
     past : (rest : List ℕ) → text ≡ 35 ∷ 33 ∷ rest → HasShebang text
     past rest e = by_either (is_attribute (ts rest))
         (λ f.
         let attribute : IsAttributeRest (chars rest) = attribute-is rest (tail-text text rest is e) f in
-        record { answer = None;
-            is = the.none (λ other g. subst (λ r. IsAttributeRest (chars r)) (ap (drop 2) (sym e ∙ g)) attribute) })
+        record {
+          answer = None;
+          is = the.none (λ other g. subst (λ r. IsAttributeRest (chars r)) (ap (drop 2) (sym e ∙ g)) attribute);
+        })
         (λ f.
         let l = has-line rest in
         let whole : text ≡ 35 ∷ 33 ∷ (l.w ++ l.next) = e ∙ ap (λ (x : List ℕ). 35 ∷ 33 ∷ x) (sym l.whole) in
@@ -249,5 +260,8 @@ has-shebang text is = by_either (begins (codes "#!") text)
 -- this one and no other
 pub shebang-answer : (text : List ℕ) → IsText text → (other : Option ℕ) → IsShebang text other
     ↔ (other ≡ read_shebang text)
-shebang-answer text is other = (λ s. answer-read is s, λ e. let h = has-shebang text is in
-    subst (IsShebang text) (answer-read is h.is ∙ sym e) h.is)
+shebang-answer text is other = (
+  λ s. answer-read is s,
+  λ e. let h = has-shebang text is in
+      subst (IsShebang text) (answer-read is h.is ∙ sym e) h.is,
+)

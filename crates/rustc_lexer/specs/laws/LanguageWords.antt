@@ -1,32 +1,25 @@
 -- Words are in their languages, and what is there is read so.
-use Rattle.std.proofs.Common.{
-    ◌≡◌, ℕ, suc, ◌+◌, ◌==◌, ◌&&◌, Bool, true, false, true≢false, if◌then◌else◌, List, [], ◌∷◌, ◌++◌, length, take, drop,
-    codes, refl, sym, ap, ◌∙◌, arith, take-append-drop
-}
+use Rattle.std.proofs.Common.{◌≡◌, ℕ, suc, ◌+◌, ◌==◌, ◌&&◌, Bool, true, false, true≢false, if◌then◌else◌, List, [], ◌∷◌}
+use Rattle.std.proofs.Common.{◌++◌, length, take, drop, codes, refl, sym, ap, ◌∙◌, arith, take-append-drop}
 use Rattle.std.proofs.Math.Seq.{take-append_seam, drop-append_seam}
 use Rattle.std.proofs.lemmas.Bool.{and_parts, eqb-true, or_parts, or_from, false_from_ne_true}
 use Rattle.std.specs.List.{list_all}
 use Rattle.std.proofs.lemmas.Grind.{common_steps}
 use Rattle.unicode_ident.proofs.Computing.{unicode_ident}
 use Rattle.rustc_lexer.specs.{TokenKind, Ident, InvalidIdent, RawIdent, ForcedKeywordIdent, UnknownPrefix}
-use Rattle.rustc_lexer.specs.Classes.{
-    is_id_start, is_id_continue, is_ident, is_word_continue, is_word_start, begins_ident_after, AreAll, NextIs,
-    NextIsNot, ends_prefix
-}
+use Rattle.rustc_lexer.specs.Classes.{is_id_start, is_id_continue, is_ident, is_word_continue, is_word_start}
+use Rattle.rustc_lexer.specs.Classes.{begins_ident_after, AreAll, NextIs, NextIsNot, ends_prefix}
 use Rattle.rustc_lexer.specs.Tables.{is_emoji, emoji_ranges}
-use Rattle.rustc_lexer.specs.means.Ident.{
-    ident_kind, ident_or_unknown_prefix, invalid_ident, begins_hash_ident, hash_ident_or
-}
-use Rattle.rustc_lexer.specs.laws.LanguageRuns.{
-    run_len-here, run-stops, Sound, Read, read-first, begins-next, chooses-word, chooses-emoji, word-no_prefix_end,
-    prefix_end-stops, start-word_start, letters-start
-}
+use Rattle.rustc_lexer.specs.means.Ident.{ident_kind, ident_or_unknown_prefix, invalid_ident, begins_hash_ident}
+use Rattle.rustc_lexer.specs.means.Ident.{hash_ident_or}
+use Rattle.rustc_lexer.specs.laws.LanguageRuns.{run_len-here, run-stops, Sound, Read, read-first, begins-next}
+use Rattle.rustc_lexer.specs.laws.LanguageRuns.{chooses-word, chooses-emoji, word-no_prefix_end, prefix_end-stops}
+use Rattle.rustc_lexer.specs.laws.LanguageRuns.{start-word_start, letters-start}
 use Rattle.rustc_lexer.specs.laws.Reach.{run_all}
 use Rattle.rustc_lexer.specs.Language as the
 use Rattle.rustc_lexer.specs.Language.{IsTokenBefore, begins_prefixed}
-use Rattle.rustc_lexer.specs.means.Lexeme.{
-    letter_r, letter_k, letter_b, letter_c, raw_or_ident, word, opens_raw, begins_raw
-}
+use Rattle.rustc_lexer.specs.means.Lexeme.{letter_r, letter_k, letter_b, letter_c, raw_or_ident, word, opens_raw}
+use Rattle.rustc_lexer.specs.means.Lexeme.{begins_raw}
 use Rattle.rustc_lexer.specs.means.Scan.{after, begins, next_is, run, run_len}
 
 -- ---- a choice by letters
@@ -35,7 +28,7 @@ use Rattle.rustc_lexer.specs.means.Scan.{after, begins, next_is, run, run_len}
 pub by_letter : (P : ℕ → (List ℕ → TokenKind × ℕ) → Type 0) (c : ℕ) → P 114 letter_r → P 107 letter_k → P 98 letter_b
     → P 99 letter_c
     → ((c == 114) ≡ false → (c == 107) ≡ false → (c == 98) ≡ false → (c == 99) ≡ false → P c ident_or_unknown_prefix)
-        → P c (word c)
+    → P c (word c)
 by_letter w0 c of_r of_k of_b of_c other = grind (arith, common_steps)
 
 -- ---- what begins no identifier
@@ -91,9 +84,11 @@ whole-word (x ∷ f) m [] (d ∷ next) is_end fs ws stop e = grind (arith, commo
 whole-word (x ∷ f) m (d ∷ w) next is_end fs ws stop e =
     let parts = and_parts (d == x) _ e in
     let more = whole-word f m w next is_end (and_parts (is_word_continue x) (list_all is_word_continue f) fs).1
-        (and_parts (is_word_continue d) (list_all is_word_continue w) ws).1 stop parts.1 in
-    record { same = ap (λ (y : ℕ). y ∷ w) (eqb-true d x parts.0) ∙ ap (λ (ys : List ℕ). x ∷ ys) more.same;
-        at_prefix_end = more.at_prefix_end }
+    (and_parts (is_word_continue d) (list_all is_word_continue w) ws).1 stop parts.1 in
+    record {
+      same = ap (λ (y : ℕ). y ∷ w) (eqb-true d x parts.0) ∙ ap (λ (ys : List ℕ). x ∷ ys) more.same;
+      at_prefix_end = more.at_prefix_end;
+    }
 
 module _ (c : ℕ) (w next : List ℕ) (ws : AreAll is_word_continue w) (stop : NextIsNot is_word_continue next)
     (right : NextIs ends_prefix next → is_ident (c ∷ w) ≡ false) where
@@ -177,7 +172,7 @@ ident-sound c start s free = by_kind (list_all is_id_continue (take n s)) (next_
     by_kind : (plain at_prefix_end : Bool) → list_all is_id_continue (take n s) ≡ plain
         → next_is ends_prefix (drop n s) ≡ at_prefix_end
         → IsTokenBefore (drop n s) (if plain then (if at_prefix_end then UnknownPrefix else Ident) else InvalidIdent)
-            (c ∷ take n s)
+        (c ∷ take n s)
     by_kind true true e f = the.unknown_prefix (rw (start, e) refl) f (ap begins_prefixed whole ∙ free)
     by_kind true false e f = the.ident (rw (start, e) refl) (run-stops is_word_continue s) f
     by_kind false at_prefix_end e f = the.invalid_ident (start-word_start c start) (run_all is_word_continue s)

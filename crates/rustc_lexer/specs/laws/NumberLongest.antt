@@ -1,9 +1,8 @@
 -- The number that is read is the longest that stands at the front of its text.
-use Rattle.std.proofs.Common.{
-    ◌≡◌, ℕ, suc, ◌+◌, ◌≤◌, ◌<◌, ◌==◌, ◌&&◌, ◌||◌, ◌⊎◌, inl, inr, not, Bool, true, false, true≢false, if◌then◌else◌,
-    List, [], ◌∷◌, ◌++◌, length, take, drop, refl, sym, ap, ◌∙◌, subst, arith, codes, append_assoc, length-append,
-    length-drop, take-append-drop, length-take
-}
+use Rattle.std.proofs.Common.{◌≡◌, ℕ, suc, ◌+◌, ◌≤◌, ◌<◌, ◌==◌, ◌&&◌, ◌||◌, ◌⊎◌, inl, inr, not, Bool, true, false}
+use Rattle.std.proofs.Common.{true≢false, if◌then◌else◌, List, [], ◌∷◌, ◌++◌, length, take, drop, refl, sym, ap, ◌∙◌}
+use Rattle.std.proofs.Common.{subst, arith, codes, append_assoc, length-append, length-drop, take-append-drop}
+use Rattle.std.proofs.Common.{length-take}
 use Rattle.std.proofs.lemmas.Bool.{agree_below_at, and_parts, eqb-true, or_cases, or_parts}
 use Rattle.std.proofs.lemmas.List.{drop-append-le, take-append-le}
 use Rattle.std.specs.{Char.{is_ascii_digit, is_ascii_hexdigit}, List.{list_any}, Str.{byte}}
@@ -13,31 +12,31 @@ use Rattle.rustc_lexer.specs.{Base, LiteralKind, Binary, Octal, Decimal, Hexadec
 use Rattle.rustc_lexer.specs.laws.Choice.{by_either}
 use Rattle.rustc_lexer.specs.Classes.{is_among}
 use Rattle.std.proofs.Math.Seq.{take-append_seam, drop-append_seam}
-use Rattle.rustc_lexer.specs.laws.Reach.{
-    begins-length, next_is-length, IsDecidedBy, decided_same, next_is-decided, run_len-next, run_len-none
-}
+use Rattle.rustc_lexer.specs.laws.Reach.{begins-length, next_is-length, IsDecidedBy, decided_same, next_is-decided}
+use Rattle.rustc_lexer.specs.laws.Reach.{run_len-next, run_len-none}
 use Rattle.rustc_lexer.specs.laws.NumberGrammar.{number-form}
-use Rattle.rustc_lexer.specs.means.Number.{
-    or_underscore, digits, IntegerPart, part_of, prefixed, binary, octal, hexadecimal, decimal, part_past_zero,
-    integer_part, float, is_exponent_letter, is_sign, past_sign, float_exponent, optional_exponent, fraction_digits,
-    fraction, is_no_fraction, begins_fraction, past_digits, tail, number_kind
-}
-use Rattle.rustc_lexer.specs.NumberGrammar.{
-    AreDigits, is_digit_of, IsWholePart, plain, with_b, with_o, with_x, IsExponent, signed, unsigned, IsTailBefore,
-    nothing, dot, of_fraction, of_exponent, of_both, HasNumberForm, of_prefix, of_parts, IsNumberBefore
-}
+use Rattle.rustc_lexer.specs.means.Number.{or_underscore, digits, IntegerPart, part_of, prefixed, binary, octal}
+use Rattle.rustc_lexer.specs.means.Number.{hexadecimal, decimal, part_past_zero, integer_part, float}
+use Rattle.rustc_lexer.specs.means.Number.{is_exponent_letter, is_sign, past_sign, float_exponent, optional_exponent}
+use Rattle.rustc_lexer.specs.means.Number.{fraction_digits, fraction, is_no_fraction, begins_fraction, past_digits}
+use Rattle.rustc_lexer.specs.means.Number.{tail, number_kind}
+use Rattle.rustc_lexer.specs.NumberGrammar.{AreDigits, is_digit_of, IsWholePart, plain, with_b, with_o, with_x}
+use Rattle.rustc_lexer.specs.NumberGrammar.{IsExponent, signed, unsigned, IsTailBefore, nothing, dot, of_fraction}
+use Rattle.rustc_lexer.specs.NumberGrammar.{of_exponent, of_both, HasNumberForm, of_prefix, of_parts, IsNumberBefore}
 use Rattle.rustc_lexer.specs.means.Scan.{and_then, after, begins, gives, next_is, read_as, run, run_as, run_len}
-use Rattle.rustc_lexer.specs.laws.LanguageRuns.{
-    begins-next, digit-small, IsSolid, other_than, pair, run_len-here, solid-by
-}
+use Rattle.rustc_lexer.specs.laws.LanguageRuns.{begins-next, digit-small, IsSolid, other_than, pair, run_len-here}
+use Rattle.rustc_lexer.specs.laws.LanguageRuns.{solid-by}
 
 -- ---- characters
 
 -- one of two
 of_two : (P : ℕ → Type 0) (a b c : ℕ) → (c == a || c == b) ≡ true → P a → P b → P c
 of_two P a b c e at_a at_b =
-    elim (or_cases (c == a) (c == b) e) [ inl f ↦ subst P (sym (eqb-true c a f)) at_a | inr f ↦
-    subst P (sym (eqb-true c b f)) at_b ]
+    elim (or_cases (c == a) (c == b) e) [
+      | inl f ↦ subst P (sym (eqb-true c a f)) at_a
+      | inr f ↦
+          subst P (sym (eqb-true c b f)) at_b
+    ]
 
 sign-no_digit : (g : ℕ) → is_sign g ≡ true → or_underscore is_ascii_digit g ≡ false
 sign-no_digit g t = of_two (λ x. or_underscore is_ascii_digit x ≡ false) 43 45 g t refl refl
@@ -99,7 +98,7 @@ module _ (next other : List ℕ) (D : Type 0) (differ : (p : ℕ → Bool) → I
   choice-here : {A : Type 0} (test : List ℕ → Bool) (scan otherwise : List ℕ → A × ℕ)
       → (test next ≡ false → test other ≡ true → D)
       → ((s : List ℕ) → test s ≡ true → 0 < (scan s).1) → Grows otherwise []
-          → Grows (λ s. if test s then scan s else otherwise s) []
+      → Grows (λ s. if test s then scan s else otherwise s) []
   choice-here test scan otherwise differs some two le = grind (arith, common_steps, differs, some next, some other)
 
   choice-past : {A : Type 0} (test : List ℕ → Bool) (scan otherwise : List ℕ → A × ℕ) (w : List ℕ)
@@ -115,18 +114,18 @@ module _ (next other : List ℕ) (D : Type 0) (differ : (p : ℕ → Bool) → I
   class-grows : {A : Type 0} (p : ℕ → Bool) → IsSolid p → (test : List ℕ → Bool) → ((s : List ℕ) → test s ≡ next_is p s)
       → (scan otherwise : List ℕ → A × ℕ) → ((s : List ℕ) → test s ≡ true → 0 < (scan s).1)
       → ((w : List ℕ) → Grows scan w) → ((w : List ℕ) → Grows otherwise w) → (w : List ℕ)
-          → Grows (λ s. if test s then scan s else otherwise s) w
+      → Grows (λ s. if test s then scan s else otherwise s) w
   class-grows p solid test is scan otherwise some one two [] =
       choice-here test scan otherwise (λ f t. differ p solid (sym (is next) ∙ f) (sym (is other) ∙ t)) some (two [])
   class-grows p solid test is scan otherwise some one two (c ∷ w) =
       choice-past test scan otherwise (c ∷ w) (is (c ∷ w ++ other) ∙ sym (is (c ∷ w ++ next))) (one (c ∷ w))
-          (two (c ∷ w))
+      (two (c ∷ w))
 
   -- past a character of a class
   past-grows : {A : Type 0} (p : ℕ → Bool) → IsSolid p → (test : List ℕ → Bool) → ((s : List ℕ) → test s ≡ next_is p s)
       → (scan otherwise : List ℕ → A × ℕ)
       → ((w : List ℕ) → Grows scan w) → ((w : List ℕ) → Grows otherwise w) → (w : List ℕ)
-          → Grows (λ s. if test s then after 1 scan s else otherwise s) w
+      → Grows (λ s. if test s then after 1 scan s else otherwise s) w
   past-grows p solid test is scan otherwise one two =
       class-grows p solid test is (after 1 scan) otherwise (λ s t. omega arith) (after-grows scan one) two
 
@@ -135,8 +134,15 @@ module _ (next other : List ℕ) (D : Type 0) (differ : (p : ℕ → Bool) → I
   then-grows scan go_on w one two le =
       let n : ℕ = (scan (w ++ next)).1 in
       let within : n ≤ length w = omega arith in
-      grind (arith, common_steps, one within, drop-append-le n w next within, drop-append-le n w other within,
-          length-drop n w, two)
+      grind (
+        arith,
+        common_steps,
+        one within,
+        drop-append-le n w next within,
+        drop-append-le n w other within,
+        length-drop n w,
+        two,
+      )
 
   exponent-grows : (base : Base) (w : List ℕ) → Grows (float_exponent base) w
   exponent-grows base = past-grows is_sign (solid-by is_sign refl) (next_is is_sign) (λ s. refl) (past_sign base)
@@ -157,7 +163,7 @@ module _ (next other : List ℕ) (D : Type 0) (differ : (p : ℕ → Bool) → I
   unfolding fraction
   fraction-grows base =
       class-grows is_ascii_digit (solid-by is_ascii_digit refl) (next_is is_ascii_digit) (λ s. refl)
-          (fraction_digits base) (gives (Float base false))
+      (fraction_digits base) (gives (Float base false))
       (digits-some base)
       (λ w. then-grows (run base (or_underscore is_ascii_digit)) optional_exponent w
       (run-grows (λ ds. base) (or_underscore is_ascii_digit) (solid-by (or_underscore is_ascii_digit) refl) w)
@@ -174,13 +180,13 @@ module _ (next other : List ℕ) (D : Type 0) (differ : (p : ℕ → Bool) → I
   integer_part-grows : (first : ℕ) (w : List ℕ) → Grows (integer_part first) w
   integer_part-grows first w = choice-past (λ s. first == byte "0") part_past_zero decimal w refl
       (past-grows (is_among (98 ∷ [])) (solid-by (is_among (98 ∷ [])) refl) (begins (98 ∷ []))
-          (begins-next 98) binary not_binary
+      (begins-next 98) binary not_binary
       (based-grows Binary is_ascii_digit (solid-by (or_underscore is_ascii_digit) refl))
       (past-grows (is_among (111 ∷ [])) (solid-by (is_among (111 ∷ [])) refl) (begins (111 ∷ []))
-          (begins-next 111) octal not_octal
+      (begins-next 111) octal not_octal
       (based-grows Octal is_ascii_digit (solid-by (or_underscore is_ascii_digit) refl))
       (past-grows (is_among (120 ∷ [])) (solid-by (is_among (120 ∷ [])) refl) (begins (120 ∷ []))
-          (begins-next 120) hexadecimal decimal
+      (begins-next 120) hexadecimal decimal
       (based-grows Hexadecimal is_ascii_hexdigit (solid-by (or_underscore is_ascii_hexdigit) refl)) decimal-grows)) w)
       (decimal-grows w)
 
@@ -191,13 +197,13 @@ module _ (next other : List ℕ) (D : Type 0) (differ : (p : ℕ → Bool) → I
         → Grows (past_digits base) w
     past_digits-grows base [] e le =
         by_either (begins_fraction next)
-            (λ t. absurd (let more : (past_digits base next).1 ≡ 1 + (fraction base (drop 1 next)).1 = rw t refl in
-            omega arith))
+        (λ t. absurd (let more : (past_digits base next).1 ≡ 1 + (fraction base (drop 1 next)).1 = rw t refl in
+        omega arith))
         (λ t. by_either (next_is is_exponent_letter next)
         (λ f. absurd (let more : (past_digits base next).1 ≡ 1 + (float_exponent base (drop 1 next)).1 = rw
-            (t, f) refl in omega arith))
+        (t, f) refl in omega arith))
         (λ f. choice-here begins_fraction (after 1 (fraction base)) (no_fraction base)
-            (dotted base (sym e ∙ rw (t, f) refl)) (λ s u. omega arith)
+        (dotted base (sym e ∙ rw (t, f) refl)) (λ s u. omega arith)
         (optional-grows base (Int base false) []) le))
     past_digits-grows base (c ∷ w) e le =
         choice-past begins_fraction (after 1 (fraction base)) (no_fraction base) (c ∷ w) (behind_dot w)
@@ -217,14 +223,14 @@ module _ (next other : List ℕ) (D : Type 0) (differ : (p : ℕ → Bool) → I
     unfolding number_kind
     number-grows first w e =
         let size : (and_then (integer_part first) tail (w ++ next)).1 ≡ length w =
-            ap (λ (r : LiteralKind × ℕ). r.1) e in
+        ap (λ (r : LiteralKind × ℕ). r.1) e in
         let part : IntegerPart = (integer_part first (w ++ next)).0 in
         let n : ℕ = (integer_part first (w ++ next)).1 in
         let left : drop n (w ++ next) ≡ drop n w ++ next = drop-append-le n w next (omega arith) in
         let on = tail-grows part.base part.empty_int (drop n w) (ap (λ (s : List ℕ). (tail part s).0) (sym left)
-            ∙ ap (λ (r : LiteralKind × ℕ). r.0) e) in
+        ∙ ap (λ (r : LiteralKind × ℕ). r.0) e) in
         elim (then-grows (integer_part first) tail w (integer_part-grows first w) on (omega arith))
-            [ inl h ↦ inl h | inr f ↦ inr (f ∙ e) ]
+        [ inl h ↦ inl h | inr f ↦ inr (f ∙ e) ]
 
 -- ---- what has the form of a number is read
 
@@ -266,7 +272,7 @@ whole-read : {base : Base} {empty : Bool} {w : List ℕ} → IsWholePart base em
     → integer_part_all (w ++ s) ≡ (part_of base empty, length w)
 whole-read (plain {d} {ds} digit are) s stop =
     let none : (letter : ℕ) → is_prefix_letter letter ≡ true → begins (letter ∷ []) s ≡ false =
-        λ letter is. no_letter letter s is stop in
+    λ letter is. no_letter letter s is stop in
     grind (
       arith,
       common_steps,
@@ -281,14 +287,26 @@ whole-read (plain {d} {ds} digit are) s stop =
     no_letter letter [] is stop = refl
     no_letter letter (c ∷ s) is stop = grind (arith, common_steps, or_parts, eqb-true)
 whole-read (with_b {ds} are) s stop =
-    grind (arith, common_steps, run_len-here (or_underscore is_ascii_digit) ds s are (no_digit Binary s stop),
-        take-append_seam)
+    grind (
+      arith,
+      common_steps,
+      run_len-here (or_underscore is_ascii_digit) ds s are (no_digit Binary s stop),
+      take-append_seam,
+    )
 whole-read (with_o {ds} are) s stop =
-    grind (arith, common_steps, run_len-here (or_underscore is_ascii_digit) ds s are (no_digit Octal s stop),
-        take-append_seam)
+    grind (
+      arith,
+      common_steps,
+      run_len-here (or_underscore is_ascii_digit) ds s are (no_digit Octal s stop),
+      take-append_seam,
+    )
 whole-read (with_x {ds} are) s stop =
-    grind (arith, common_steps, run_len-here (or_underscore is_ascii_hexdigit) ds s are (no_digit Hexadecimal s stop),
-        take-append_seam)
+    grind (
+      arith,
+      common_steps,
+      run_len-here (or_underscore is_ascii_hexdigit) ds s are (no_digit Hexadecimal s stop),
+      take-append_seam,
+    )
 
 -- up to a suffix, with its first digit
 abbrev number_all : List ℕ → LiteralKind × ℕ
@@ -325,8 +343,14 @@ module _ (stop : List ℕ) (stops : (p : ℕ → Bool) → p 46 ≡ false → ne
   tail-read alike (dot free) = grind (arith, common_steps, stops is_ascii_digit refl)
   tail-read alike (of_fraction {d = d} {ds = ds} digit are) =
       let all : AreDigits is_ascii_digit (d ∷ ds) = rw digit are in
-      grind (arith, common_steps, digit-fraction d digit, digits-read (d ∷ ds) all, drop-append_seam (d ∷ ds) stop,
-          stops is_exponent_letter refl)
+      grind (
+        arith,
+        common_steps,
+        digit-fraction d digit,
+        digits-read (d ∷ ds) all,
+        drop-append_seam (d ∷ ds) stop,
+        stops is_exponent_letter refl,
+      )
   tail-read alike (of_exponent {e = e} no_digit is) =
       grind (arith, common_steps, exponent-next is [], other_than is_exponent_letter 46 e refl, exponent-read is)
   tail-read alike (of_both {d = d} {e = e} ds digit are is) =
@@ -377,13 +401,13 @@ form-grows : {next : List ℕ} {kind : LiteralKind} (first : ℕ) (v : List ℕ)
     → Longer next kind first v
 form-grows {next} {kind} first v form =
     by_either (next_is is_no_fraction next) (λ t. before (46 ∷ 46 ∷ []) (λ p out. out) refl (sym t))
-        (λ f. before [] (λ p out. refl) refl (sym f))
+    (λ f. before [] (λ p out. refl) refl (sym f))
   where
     before : (stop : List ℕ) → ((p : ℕ → Bool) → p 46 ≡ false → next_is p stop ≡ false) → begins_fraction stop ≡ false
         → next_is is_no_fraction stop ≡ next_is is_no_fraction next → Longer next kind first v
     before stop stops no_dot alike =
         let all : ◌≡◌ {A = LiteralKind × ℕ} ((number_kind first (v ++ stop)).0, 1 + (number_kind first (v ++ stop)).1)
-            (kind, suc (length v)) =
+        (kind, suc (length v)) =
         sym (number_all-is first (v ++ stop)) ∙ form-read stop stops no_dot alike form in
         let read : number_kind first (v ++ stop) ≡ (kind, length v) =
         pair _ _ _ _ (ap (λ (r : LiteralKind × ℕ). r.0) all) (omega (arith, ap (λ (r : LiteralKind × ℕ). r.1) all)) in
@@ -403,8 +427,13 @@ number-read first s digit = record {
   form = number-form first s digit;
   longest = λ kind v rest text form. let whole =
       text ∙ ap (λ (xs : List ℕ). first ∷ xs) (take-append-drop (number_kind first s).1 s) in
-      omega (arith, form-le first s v rest whole form, length-take (number_kind first s).1 s, ap length whole,
-          length-append v rest);
+      omega (
+        arith,
+        form-le first s v rest whole form,
+        length-take (number_kind first s).1 s,
+        ap length whole,
+        length-append v rest,
+      );
 }
 
 -- and a number is what is read
@@ -436,15 +465,15 @@ pub number-before : {next : List ℕ} {kind : LiteralKind} (first : ℕ) (v : Li
     → IsNumberBefore next kind (first ∷ v)
     → (other : List ℕ) → ((p : ℕ → Bool) → IsSolid p → next_is p other ≡ next_is p next)
     → ((base : Base) → kind ≡ Int base false → begins_fraction other ≡ begins_fraction next)
-        → IsNumberBefore other kind (first ∷ v)
+    → IsNumberBefore other kind (first ∷ v)
 number-before {next} {kind} first v digit is other same dotted =
     let stays : number_kind first (v ++ other) ≡ (kind, length v) =
     elim (number-grows next other ⊥ (λ p solid f t. true≢false (sym t ∙ (same p solid ∙ f)))
-        (same is_no_fraction fraction-solid) kind
+    (same is_no_fraction fraction-solid) kind
     (λ base int f t. true≢false (sym t ∙ (dotted base int ∙ f))) first v (number-is first v digit is))
-        [ inl h ↦ absurd h.0 | inr e ↦ e ] in
+    [ inl h ↦ absurd h.0 | inr e ↦ e ] in
     let there = subst
-        (λ (r : LiteralKind × ℕ). IsNumberBefore (drop r.1 (v ++ other)) r.0 (first ∷ take r.1 (v ++ other))) stays
+    (λ (r : LiteralKind × ℕ). IsNumberBefore (drop r.1 (v ++ other)) r.0 (first ∷ take r.1 (v ++ other))) stays
     (number-read first (v ++ other) digit) in
     rw (take-append_seam v other, drop-append_seam v other) at there
 
@@ -467,7 +496,7 @@ pub number-alike : {next : List ℕ} {kind : LiteralKind} (first : ℕ) (v : Lis
     → take (number_reach kind) other ≡ take (number_reach kind) next → IsNumberBefore other kind (first ∷ v)
 number-alike {next} {kind} first v digit is other alike =
     number-before first v digit is other
-        (λ p solid. decided_same 1 (number_reach kind) (next_is p) other next (next_is-decided p)
-        (number-looks kind) alike)
+    (λ p solid. decided_same 1 (number_reach kind) (next_is p) other next (next_is-decided p)
+    (number-looks kind) alike)
     (λ base e. decided_same 2 (number_reach kind) begins_fraction other next begins_fraction-decided
     (subst (λ (k : LiteralKind). 2 ≤ number_reach k) (sym e) (omega arith)) alike)

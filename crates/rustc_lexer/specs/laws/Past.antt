@@ -1,12 +1,9 @@
 -- A text past its first characters.
-use Rattle.std.proofs.Common.{
-    ◌≡◌, ℕ, ◌+◌, ◌≤◌, List, [], ◌++◌, length, take, drop, refl, sym, ap, ◌∙◌, arith, length-append, take-append-drop,
-    drop_at, drop-drop
-}
+use Rattle.std.proofs.Common.{◌≡◌, ℕ, ◌+◌, ◌≤◌, List, [], ◌++◌, length, take, drop, refl, sym, ap, ◌∙◌, arith}
+use Rattle.std.proofs.Common.{length-append, take-append-drop, drop_at, drop-drop}
 use Rattle.std.specs.{Char.{encode_utf8}, Str.{chars, encode_utf8_all, IsUtf8}}
-use Rattle.std.proofs.lemmas.Str.{
-    chars-encodes, encodes-chars, scalars-chars, encodes-append, chars_past_char, IsUtf8-past_char
-}
+use Rattle.std.proofs.lemmas.Str.{chars-encodes, encodes-chars, scalars-chars, encodes-append, chars_past_char}
+use Rattle.std.proofs.lemmas.Str.{IsUtf8-past_char}
 use Rattle.rustc_lexer.specs.means.Scan.{past, bytes_of}
 use Rattle.rustc_lexer.specs.laws.Texts.{scalars-drop}
 

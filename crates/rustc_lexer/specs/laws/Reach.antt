@@ -1,9 +1,8 @@
 -- What is decided by the first characters of a text; runs, and the least offset at which a test passes.
 use Rattle.std.proofs.lemmas.Grind.{common_steps}
-use Rattle.std.proofs.Common.{
-    ◌≡◌, ℕ, zero, suc, ◌≤◌, ◌<◌, ◌==◌, ◌&&◌, Bool, true, false, true≢false, if◌then◌else◌, List, [], ◌∷◌, ◌++◌, length,
-    take, refl, sym, ap, ◌∙◌, subst, arith, take-take, Option, Some, None
-}
+use Rattle.std.proofs.Common.{◌≡◌, ℕ, zero, suc, ◌≤◌, ◌<◌, ◌==◌, ◌&&◌, Bool, true, false, true≢false, if◌then◌else◌}
+use Rattle.std.proofs.Common.{List, [], ◌∷◌, ◌++◌, length, take, refl, sym, ap, ◌∙◌, subst, arith, take-take, Option}
+use Rattle.std.proofs.Common.{Some, None}
 use Rattle.std.specs.List.{list_all}
 use Rattle.std.proofs.lemmas.Bool.{and_parts}
 use Rattle.rustc_lexer.specs.laws.Choice.{by_either}
@@ -92,14 +91,20 @@ least-some test (suc count) n e = by_test (least-some (λ i. test (suc i)) count
     by_test ih true t =
         let first : Some 0 ≡ Some n = sym (rw t refl) ∙ e in
         let same : 0 ≡ n = cc in
-        record { below = omega arith; here = subst (λ (i : ℕ). test i ≡ true) same t;
-            before = λ i lt. absurd (omega arith) }
+        record {
+          below = omega arith;
+          here = subst (λ (i : ℕ). test i ≡ true) same t;
+          before = λ i lt. absurd (omega arith);
+        }
     by_test ih false t =
         let more : one_more (least (λ i. test (suc i)) count) ≡ Some n = sym (rw t refl) ∙ e in
         let m = one_more-some (least (λ i. test (suc i)) count) n more in
         let is = ih m.0 m.1 in
-        record { below = omega (arith, is.below, m.2); here = subst (λ (i : ℕ). test i ≡ true) (sym m.2) is.here;
-            before = λ i lt. before i (omega (arith, m.2)) is }
+        record {
+          below = omega (arith, is.below, m.2);
+          here = subst (λ (i : ℕ). test i ≡ true) (sym m.2) is.here;
+          before = λ i lt. before i (omega (arith, m.2)) is;
+        }
       where
         before : {m : ℕ} (i : ℕ) → i < suc m → IsLeast (λ i. test (suc i)) count m → test i ≡ false
         before zero lt is = t
@@ -112,8 +117,8 @@ least-is test (suc count) (suc n) is =
     let none : test 0 ≡ false = is.before 0 (omega arith) in
     let lt : n < count = let l = is.below in omega arith in
     rw none (ap one_more
-        (least-is (λ i. test (suc i)) count n record
-        { below = lt; here = is.here; before = λ i l. is.before (suc i) (omega arith) }))
+    (least-is (λ i. test (suc i)) count n record
+    { below = lt; here = is.here; before = λ i l. is.before (suc i) (omega arith) }))
 
 pub least-none : (test : ℕ → Bool) (count : ℕ) → ((i : ℕ) → i < count → test i ≡ false) → least test count ≡ None
 least-none test zero none = refl
@@ -127,4 +132,4 @@ none-least test (suc count) e zero lt =
 none-least test (suc count) e (suc i) lt =
     by_either (test 0) (λ f. absurd (let found : Some 0 ≡ None = sym (rw f refl) ∙ e in cc))
     (λ f. none-least (λ i. test (suc i)) count (one_more-none (least (λ i. test (suc i)) count) (sym (rw f refl) ∙ e)) i
-        (omega arith))
+    (omega arith))

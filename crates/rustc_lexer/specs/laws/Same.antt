@@ -1,8 +1,6 @@
 -- What `==` of two tokens, or of two heads, tells: that they are the same.
-use Rattle.std.proofs.Common.{
-    rules, ◌≡◌, ◌↔◌, IsTrue, Bool, true, false, true≢false, refl, sym, ap, ◌∙◌, ◌==◌, List, [], ◌∷◌, Option, ◌&&◌, inl,
-    inr, arith
-}
+use Rattle.std.proofs.Common.{rules, ◌≡◌, ◌↔◌, IsTrue, Bool, true, false, true≢false, refl, sym, ap, ◌∙◌, ◌==◌, List}
+use Rattle.std.proofs.Common.{[], ◌∷◌, Option, ◌&&◌, inl, inr, arith}
 use Rattle.std.specs.{Cmp.Derive.{of_values}, Option.{option_eq}}
 use Rattle.std.proofs.lemmas.{Bool.{and_parts, eqb-true}, Grind.{common_steps}}
 use denote.Enum.Bare.{same_true}
@@ -35,8 +33,10 @@ one t = record { tells = λ x y e i. (t.tells x.0 y.0 e i, tt) }
 
 two : {J K : Type 0} {D : J → J → Bool} {E : K → K → Bool} → Tells D → Tells E
     → Tells (λ (x y : J × (K × Unit {0})). D x.0 y.0 && E x.1.0 y.1.0)
-two {J} {K} {D} {E} t u = record { tells = λ x y e. let both = and_parts (D x.0 y.0) (E x.1.0 y.1.0) e in
-    λ i. (t.tells x.0 y.0 both.0 i, (u.tells x.1.0 y.1.0 both.1 i, tt)) }
+two {J} {K} {D} {E} t u = record {
+  tells = λ x y e. let both = and_parts (D x.0 y.0) (E x.1.0 y.1.0) e in
+      λ i. (t.tells x.0 y.0 both.0 i, (u.tells x.1.0 y.1.0 both.1 i, tt));
+}
 
 flag : Tells beq
 flag = record { tells = λ x y e. grind (arith, common_steps) }
@@ -91,7 +91,7 @@ decided_same answer a b decided = (λ t. same_token a b (sym decided ∙ t), λ 
 
 heads_by : (E : Option Token → Option Token → Bool) → ((x y : Option Token) → E x y ≡ true → x ≡ y) → (a b : Head)
     → (a.tokens_start == b.tokens_start &&
-        (a.space_len == b.space_len && (E a.frontmatter b.frontmatter && a.body == b.body))) ≡ true
+    (a.space_len == b.space_len && (E a.frontmatter b.frontmatter && a.body == b.body))) ≡ true
     → a ≡ b
 heads_by E tells a b e = grind (arith, common_steps, and_parts, eqb-true)
 
@@ -99,6 +99,7 @@ abbrev pub is_same_head : Head → Head → Bool
 is_same_head a b = head.ghosts.eq a b
 
 pub decided_head : (answer : Bool) (a b : Head) → answer ≡ is_same_head a b → IsTrue answer ↔ (a ≡ b)
-decided_head answer a b decided =
-    (λ t. heads_by (option_eq is_same) (option-tells is_same (record { tells = same_token })) a b (sym decided ∙ t),
-        λ e. decided ∙ (ap (head.ghosts.eq a) (sym e) ∙ equal.laws-law.refl a))
+decided_head answer a b decided = (
+  λ t. heads_by (option_eq is_same) (option-tells is_same (record { tells = same_token })) a b (sym decided ∙ t),
+  λ e. decided ∙ (ap (head.ghosts.eq a) (sym e) ∙ equal.laws-law.refl a),
+)

@@ -1,8 +1,6 @@
 -- What scanners read of a text and leave of it.
-use Rattle.std.proofs.Common.{
-    ◌≡◌, ℕ, zero, suc, ◌+◌, ◌-◌, ◌≤◌, ◌<◌, Bool, true, false, if◌then◌else◌, List, [], ◌∷◌, length, drop, refl, sym, ap,
-    ◌∙◌, arith
-}
+use Rattle.std.proofs.Common.{◌≡◌, ℕ, zero, suc, ◌+◌, ◌-◌, ◌≤◌, ◌<◌, Bool, true, false, if◌then◌else◌, List, [], ◌∷◌}
+use Rattle.std.proofs.Common.{length, drop, refl, sym, ap, ◌∙◌, arith}
 use Rattle.std.specs.{Char.{encode_utf8}, Str.{chars, IsUtf8}}
 use Rattle.std.proofs.lemmas.{Str.{encode_ascii}, Grind.{common_steps}}
 use Rattle.rustc_lexer.specs.means.Scan.{bytes_of, after, and_then, gives, next_is, past, read_as, run_len, scanned}
@@ -69,7 +67,7 @@ module _ (p : ℕ → Bool) (small : (c : ℕ) → p c ≡ true → c < 128) whe
       let n : ℕ = run_len p (chars text) in
       let one : bytes_of n (chars text) ≡ n = bytes-run n (chars text) (omega arith) in
       let all : n + length rest ≡ length text = ap (λ (k : ℕ). k + length rest) (sym one)
-          ∙ (ap (λ (xs : List ℕ). bytes_of n (chars text) + length xs) e ∙ length-past n text is) in
+      ∙ (ap (λ (xs : List ℕ). bytes_of n (chars text) + length xs) e ∙ length-past n text is) in
       omega arith
 
 -- the next character of a text

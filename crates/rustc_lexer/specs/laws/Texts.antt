@@ -1,7 +1,6 @@
 -- What follows from the agreement of two texts, and from the parts of one.
-use Rattle.std.proofs.Common.{
-    ◌≡◌, ℕ, zero, suc, ◌≤◌, true, List, [], ◌∷◌, length, take, drop, refl, ap, arith, length-drop, length-take, IsUtf8
-}
+use Rattle.std.proofs.Common.{◌≡◌, ℕ, zero, suc, ◌≤◌, true, List, [], ◌∷◌, length, take, drop, refl, ap, arith}
+use Rattle.std.proofs.Common.{length-drop, length-take, IsUtf8}
 use lib.Utf8.{scalars, scalar}
 use Rattle.std.proofs.lemmas.{Str.{IsCharBoundary-from_take, IsUtf8-drop}, Bool.{and_parts}, Grind.{common_steps}}
 use Rattle.rustc_lexer.specs.Classes.{IsText}

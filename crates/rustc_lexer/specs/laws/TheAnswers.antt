@@ -1,8 +1,7 @@
 -- How each answer of the grammar is found, and that it is the only one.
 use Rattle.std.proofs.lemmas.Grind.{common_steps}
-use Rattle.std.proofs.Common.{
-    ◌≡◌, ℕ, ◌<◌, ◌==◌, true, false, List, [], ◌∷◌, length, drop, refl, arith, sym, ap, ◌∙◌, subst, pos_of_ne-zero
-}
+use Rattle.std.proofs.Common.{◌≡◌, ℕ, ◌<◌, ◌==◌, true, false, List, [], ◌∷◌, length, drop, refl, arith, sym, ap, ◌∙◌}
+use Rattle.std.proofs.Common.{subst, pos_of_ne-zero}
 use Rattle.std.proofs.lemmas.Bool.{eqb-true, eqb-false}
 use Rattle.std.specs.Str.{chars}
 use Rattle.std.proofs.lemmas.List.{nil_from_length}

@@ -24,13 +24,17 @@ pub record CutsOff (text : List ℕ) (token : Token) : Type 0 where
 cuts-off : (text : List ℕ) (token : Token) → IsText text → 0 < token.len → IsCharBoundary text token.len
     → CutsOff text token
 cuts-off text token is some bound =
-    record { not_empty = some; inside = bound.0; boundary = bound;
-        left = left_text text _ is bound.0 (IsUtf8-take text _ is.utf8 bound) }
+    record {
+      not_empty = some;
+      inside = bound.0;
+      boundary = bound;
+      left = left_text text _ is bound.0 (IsUtf8-take text _ is.utf8 bound);
+    }
 
 pub token_at-cuts : (mode : Mode) (text : List ℕ) → IsText text → 0 < length text → CutsOff text (token_at mode text)
 token_at-cuts mode text is some = token_at-either (λ (t : Token). CutsOff text t) mode text
     (λ edition. let law = edition_grammar edition in
-        cuts-off text _ is (law.not_empty text is some) (law.boundary text is some))
+    cuts-off text _ is (law.not_empty text is some) (law.boundary text is some))
     (λ opened. let off = frontmatter-cut text is.utf8 opened in cuts-off text _ is off.not_empty off.boundary)
 
 pub shorter : (text : List ℕ) (token : Token) → CutsOff text token → length (drop token.len text) < length text
@@ -51,7 +55,7 @@ cut-enough (source edition) (suc m) (suc n) (c ∷ cs) is a b =
     let cuts : CutsOff (c ∷ cs) token = token_at-cuts (source edition) (c ∷ cs) is (omega arith) in
     let less : length (drop token.len (c ∷ cs)) < suc (length cs) = shorter (c ∷ cs) token cuts in
     ap (λ ts. token ∷ ts) (cut-enough (mode_after (source edition) token.kind) m n (drop token.len (c ∷ cs)) cuts.left
-        (omega arith) (omega arith))
+    (omega arith) (omega arith))
 
 pub tokens-nil : (mode : Mode) → read_tokens mode [] ≡ []
 unfolding tokens_of_source
@@ -60,7 +64,7 @@ tokens-nil mode = grind (arith, common_steps, part-nil)
 -- the tokens of a text: its first one, and those of what is left
 pub tokens-cons : (mode : Mode) (text : List ℕ) → IsText text → 0 < length text
     → read_tokens mode text ≡ token_at mode text ∷ read_tokens (mode_after mode (token_at mode text).kind)
-        (drop (token_at mode text).len text)
+    (drop (token_at mode text).len text)
 unfolding tokens_of_source
 tokens-cons w0 text is some =
     grind (arith, common_steps, part-cons, edition_grammar, token_at-cuts, shorter, cut-enough)
@@ -68,7 +72,7 @@ tokens-cons w0 text is some =
 -- what holds of a text whose first tokens were cut off holds of the text
 module _ (P : List ℕ → Mode → Type 0) (at_end : (mode : Mode) → P [] mode)
     (step : (text : List ℕ) (mode : Mode) → IsText text → 0 < length text
-        → P (drop (token_at mode text).len text) (mode_after mode (token_at mode text).kind) → P text mode) where
+    → P (drop (token_at mode text).len text) (mode_after mode (token_at mode text).kind) → P text mode) where
   by_count : (n : ℕ) (text : List ℕ) (mode : Mode) → IsText text → length text ≤ n → P text mode
   by_count n [] mode is le = at_end mode
   by_count zero (c ∷ cs) mode is le = absurd (omega arith)
@@ -77,7 +81,7 @@ module _ (P : List ℕ → Mode → Type 0) (at_end : (mode : Mode) → P [] mod
       let cuts : CutsOff (c ∷ cs) token = token_at-cuts mode (c ∷ cs) is (omega arith) in
       let less : length (drop token.len (c ∷ cs)) < suc (length cs) = shorter (c ∷ cs) token cuts in
       step (c ∷ cs) mode is (omega arith)
-          (by_count n (drop token.len (c ∷ cs)) (mode_after mode token.kind) cuts.left (omega arith))
+      (by_count n (drop token.len (c ∷ cs)) (mode_after mode token.kind) cuts.left (omega arith))
 
   pub by_tokens : (text : List ℕ) (mode : Mode) → IsText text → P text mode
   by_tokens text mode is = by_count (length text) text mode is (omega arith)
@@ -96,9 +100,9 @@ Parted text mode = Partitions text (read_tokens mode text)
 pub partitions : (text : List ℕ) (mode : Mode) → IsText text → Partitions text (read_tokens mode text)
 partitions = by_tokens Parted
     (λ mode. rw (tokens-nil mode) record
-        { not_empty = All-nil (λ t. 0 < t.len); boundaries = λ k le. grind (arith, common_steps); whole = refl })
+    { not_empty = All-nil (λ t. 0 < t.len); boundaries = λ k le. grind (arith, common_steps); whole = refl })
     (λ text mode is some rest. rw (tokens-cons mode text is some) (let cuts = token_at-cuts mode text is some in
-        record {
+    record {
       not_empty = All-cons (λ t. 0 < t.len) _ _ cuts.not_empty rest.not_empty;
       boundaries = bounds text (token_at mode text) _ is cuts rest;
       whole = omega (arith, length-drop (token_at mode text).len text, cuts.inside, rest.whole);

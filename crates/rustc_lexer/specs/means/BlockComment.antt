@@ -1,7 +1,6 @@
 -- Means, by how it is read: block comments, from what follows their `/*`.
-use Rattle.std.specs.Prelude.{
-    ℕ, zero, suc, ◌&&◌, not, Bool, true, false, if◌then◌else◌, List, [], ◌∷◌, length, codes, Option, Some, None
-}
+use Rattle.std.specs.Prelude.{ℕ, zero, suc, ◌&&◌, not, Bool, true, false, if◌then◌else◌, List, [], ◌∷◌, length, codes}
+use Rattle.std.specs.Prelude.{Option, Some, None}
 use Rattle.rustc_lexer.specs.{DocStyle, TokenKind, Outer, Inner, BlockComment}
 use Rattle.rustc_lexer.specs.means.Least.{more}
 use Rattle.rustc_lexer.specs.means.Scan.{begins}

@@ -1,8 +1,6 @@
 -- Means, by how it is read: the head of a document, and what an edit keeps of the document by it.
-use Rattle.std.specs.Prelude.{
-    ℕ, ◌+◌, ◌-◌, ◌≤◌, ◌≡◌, if◌then◌else◌, List, length, take, drop, max, None, Result, Ok, Err, Bool, true, false,
-    IsCharBoundary
-}
+use Rattle.std.specs.Prelude.{ℕ, ◌+◌, ◌-◌, ◌≤◌, ◌≡◌, if◌then◌else◌, List, length, take, drop, max, None, Result, Ok}
+use Rattle.std.specs.Prelude.{Err, Bool, true, false, IsCharBoundary}
 use Rattle.rustc_lexer.specs.declared.relex.checkpoints.Checkpoints.{Checkpoints}
 use Rattle.rustc_lexer.specs.declared.head.Head.{Head}
 use Rattle.rustc_lexer.specs.declared.relex.relexing.{Change.Change, Relexed.Relexed}

@@ -1,9 +1,7 @@
 -- Means, by how it is read: what an edition has in place of the token at the front of a text.
 use Rattle.std.specs.{Prelude.{ℕ, nat_le, if◌then◌else◌, Bool, false, List, [], ◌∷◌, take}, Str.{chars}}
-use Rattle.rustc_lexer.specs.{
-    Edition, Token, TokenKind, Ident, UnknownPrefix, UnknownPrefixLifetime, RawLifetime, Lifetime, GuardedStrPrefix,
-    Pound
-}
+use Rattle.rustc_lexer.specs.{Edition, Token, TokenKind, Ident, UnknownPrefix, UnknownPrefixLifetime, RawLifetime}
+use Rattle.rustc_lexer.specs.{Lifetime, GuardedStrPrefix, Pound}
 use Rattle.rustc_lexer.specs.LanguageText.{year}
 use Rattle.rustc_lexer.specs.Classes.{is_word_continue, is_bad_name}
 use Rattle.rustc_lexer.specs.means.Lexeme.{first_token}

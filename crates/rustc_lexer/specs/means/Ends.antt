@@ -1,9 +1,7 @@
 -- Means, by how it is read: the ends of runs of bytes, as the bits of a number, and the tokens that
 -- these determine.
-use Rattle.std.specs.Prelude.{
-    ◌+◌, ◌-◌, ◌^◌, drop, ℕ, zero, suc, Bool, true, false, not, ◌&&◌, ◌||◌, ◌==◌, ◌≡◌, ◌<◌, ◌≤◌, nat_lt, List, length,
-    slice_index, if◌then◌else◌, Option, Some, None
-}
+use Rattle.std.specs.Prelude.{◌+◌, ◌-◌, ◌^◌, drop, ℕ, zero, suc, Bool, true, false, not, ◌&&◌, ◌||◌, ◌==◌, ◌≡◌, ◌<◌}
+use Rattle.std.specs.Prelude.{◌≤◌, nat_lt, List, length, slice_index, if◌then◌else◌, Option, Some, None}
 use Rattle.std.specs.Int.{bit_at}
 use Rattle.rustc_lexer.specs.declared.entry.ahead.Ahead.{Ahead}
 use Rattle.rustc_lexer.specs.declared.lexemes.family.Family.{Family}

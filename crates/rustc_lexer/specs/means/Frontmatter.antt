@@ -1,9 +1,7 @@
 -- Means, by how it is read: frontmatter: what may stand in front of the first token, between two
 -- fences of dashes.
-use Rattle.std.specs.Prelude.{
-    ℕ, zero, suc, ◌+◌, ◌==◌, ◌&&◌, ◌||◌, not, Bool, true, false, if◌then◌else◌, List, [], ◌∷◌, length, take, drop,
-    Option, Some, None
-}
+use Rattle.std.specs.Prelude.{ℕ, zero, suc, ◌+◌, ◌==◌, ◌&&◌, ◌||◌, not, Bool, true, false, if◌then◌else◌, List, [], ◌∷◌}
+use Rattle.std.specs.Prelude.{length, take, drop, Option, Some, None}
 use Rattle.std.specs.Str.{byte, chars}
 use Rattle.rustc_lexer.specs.{Token, Frontmatter}
 use Rattle.rustc_lexer.specs.Classes.{is_whitespace, is_horizontal_whitespace, is_info, is_id_start, is_inline, Chars}

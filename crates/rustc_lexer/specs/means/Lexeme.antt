@@ -5,9 +5,8 @@ use Rattle.rustc_lexer.specs.means.Raw.{raw_literal}
 use Rattle.std.specs.Prelude.{ℕ, suc, ◌==◌, if◌then◌else◌, List, [], ◌∷◌, Bool, codes, ◌&&◌, drop}
 use Rattle.std.specs.{Char.{is_ascii_digit}, Str.{byte}}
 use Rattle.rustc_lexer.specs.declared.lexemes.family.Family.{Family}
-use Rattle.rustc_lexer.specs.declared.lexemes.family.Family.TheVariants.{
-    Slash, Space, Word, Number, Quote, Str, Emoji, Hash, Symbol
-}
+use Rattle.rustc_lexer.specs.declared.lexemes.family.Family.TheVariants.{Slash, Space, Word, Number, Quote, Str, Emoji}
+use Rattle.rustc_lexer.specs.declared.lexemes.family.Family.TheVariants.{Hash, Symbol}
 use Rattle.rustc_lexer.specs.{Token, TokenKind, Whitespace, RawIdent, ForcedKeywordIdent, Eof}
 use Rattle.rustc_lexer.specs.Classes.{is_among, is_whitespace, is_id_start}
 use Rattle.rustc_lexer.specs.means.Comment.{slash}

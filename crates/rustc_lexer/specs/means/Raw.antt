@@ -1,14 +1,11 @@
 -- Means, by how it is read: raw strings, and the check of one.
-use Rattle.std.specs.Prelude.{
-    ℕ, zero, suc, ◌+◌, ◌==◌, nat_le, max, Bool, true, false, ◌&&◌, not, if◌then◌else◌, List, [], ◌∷◌, length, drop,
-    Option, Some, None, Result, Ok, Err
-}
+use Rattle.std.specs.Prelude.{ℕ, zero, suc, ◌+◌, ◌==◌, nat_le, max, Bool, true, false, ◌&&◌, not, if◌then◌else◌, List}
+use Rattle.std.specs.Prelude.{[], ◌∷◌, length, drop, Option, Some, None, Result, Ok, Err}
 use Rattle.std.specs.Str.{byte, chars}
 use Rattle.rustc_lexer.specs.declared.lexemes.raw.RawPrefix.{RawPrefix}
 use Rattle.rustc_lexer.specs.declared.lexemes.raw.RawPrefix.TheVariants.{R, Br, Cr}
-use Rattle.rustc_lexer.specs.{
-    LiteralKind, RawStrError, TokenKind, RawStr, RawByteStr, RawCStr, InvalidStarter, NoTerminator, TooManyDelimiters
-}
+use Rattle.rustc_lexer.specs.{LiteralKind, RawStrError, TokenKind, RawStr, RawByteStr, RawCStr, InvalidStarter}
+use Rattle.rustc_lexer.specs.{NoTerminator, TooManyDelimiters}
 use Rattle.rustc_lexer.specs.means.Least.{least}
 use Rattle.rustc_lexer.specs.means.Literal.{Body, literal_past}
 use Rattle.rustc_lexer.specs.means.Scan.{after, bytes_of, gives, next_is, run_len}

@@ -1,8 +1,7 @@
 -- Means, by how it is read: scanners. A scanner reads a prefix of a list of characters, and returns
 -- what it read and how many characters it took.
-use Rattle.std.specs.Prelude.{
-    ℕ, suc, ◌+◌, Bool, true, false, if◌then◌else◌, List, [], ◌∷◌, length, take, drop, Option, Some, None
-}
+use Rattle.std.specs.Prelude.{ℕ, suc, ◌+◌, Bool, true, false, if◌then◌else◌, List, [], ◌∷◌, length, take, drop, Option}
+use Rattle.std.specs.Prelude.{Some, None}
 use Rattle.std.specs.Str.{chars, encode_utf8_all}
 use Rattle.rustc_lexer.specs.{Token, TokenKind}
 pub use Rattle.rustc_lexer.specs.Classes.{begins, next_is}

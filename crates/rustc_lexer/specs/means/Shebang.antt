@@ -1,7 +1,6 @@
 -- Means, by how it is read: the shebang line that a document may begin with.
-use Rattle.std.specs.Prelude.{
-    ℕ, suc, ◌+◌, ◌||◌, Bool, true, false, if◌then◌else◌, List, [], ◌∷◌, drop, codes, Option, Some, None
-}
+use Rattle.std.specs.Prelude.{ℕ, suc, ◌+◌, ◌||◌, Bool, true, false, if◌then◌else◌, List, [], ◌∷◌, drop, codes, Option}
+use Rattle.std.specs.Prelude.{Some, None}
 use Rattle.rustc_lexer.specs.{Token, TokenKind, LineComment, BlockComment, Whitespace, OpenBracket}
 use Rattle.rustc_lexer.specs.LanguageText.{part, newest}
 use Rattle.rustc_lexer.specs.means.Scan.{begins}

@@ -42,5 +42,9 @@ pub fn tokenize_document<'a>(text: &'a str, edition: Edition) -> Tokens<'a>
     ensures texts { HaveTexts (drop (tokens_start text.now) text.now)
         (document_tokens edition text.now) }
 {
-    tokenize_as(&text[tokens_start(text)..], FrontmatterAllowed::Yes, edition)
+    tokenize_as(
+        &text[tokens_start(text)..],
+        FrontmatterAllowed::Yes,
+        edition,
+    )
 }

@@ -1,29 +1,24 @@
 -- The items that are read between double quotes are those that the grammar has there.
-use Rattle.std.proofs.Common.{
-    ◌≡◌, ℕ, zero, suc, ◌+◌, ◌≤◌, ◌==◌, Bool, true, false, true≢false, if◌then◌else◌, List, [], ◌∷◌, ◌++◌, length,
-    length-append, append_assoc, map, refl, sym, ap, subst, ◌∙◌, arith
-}
+use Rattle.std.proofs.Common.{◌≡◌, ℕ, zero, suc, ◌+◌, ◌≤◌, ◌==◌, Bool, true, false, true≢false, if◌then◌else◌, List, []}
+use Rattle.std.proofs.Common.{◌∷◌, ◌++◌, length, length-append, append_assoc, map, refl, sym, ap, subst, ◌∙◌, arith}
 use Rattle.std.specs.{List.{list_all}, Str.{encode_utf8_all}}
 use Rattle.std.proofs.lemmas.{Bool.{cond_both, eqb-true, or_parts}, List.{append_cancel_right, map-append}}
 use Rattle.std.proofs.lemmas.{Str.{encodes-append}, Bool.Decides.{nat_tests}, Grind.{common_steps}}
 use Rattle.rustc_literal_escaper.specs.declared.element.Element.{Element}
 use Rattle.rustc_literal_escaper.specs.declared.element.Element.TheVariants.{Fault, Plain}
-use Rattle.rustc_literal_escaper.specs.declared.error.EscapeError.TheVariants.{
-    BareCarriageReturn, BareCarriageReturnInRawString, EscapeOnlyChar, MultipleSkippedLinesWarning,
-    UnskippedWhitespaceWarning
-}
+use Rattle.rustc_literal_escaper.specs.declared.error.EscapeError.TheVariants.{BareCarriageReturn}
+use Rattle.rustc_literal_escaper.specs.declared.error.EscapeError.TheVariants.{BareCarriageReturnInRawString}
+use Rattle.rustc_literal_escaper.specs.declared.error.EscapeError.TheVariants.{EscapeOnlyChar}
+use Rattle.rustc_literal_escaper.specs.declared.error.EscapeError.TheVariants.{MultipleSkippedLinesWarning}
+use Rattle.rustc_literal_escaper.specs.declared.error.EscapeError.TheVariants.{UnskippedWhitespaceWarning}
 use Rattle.rustc_literal_escaper.specs.Grammar as g
-use Rattle.rustc_literal_escaper.specs.Grammar.{
-    AreItems, IsElementBefore, IsRawElement, Item, bytes, is_among, is_newline, is_passed_over, item, lines_warning,
-    next_is, space_warning
-}
-use Rattle.rustc_literal_escaper.specs.laws.Escape.{
-    Reads, at-char, by_either, element-is, element-reads, escape-is, run-all, run-cut, run-is, run-stops
-}
-use Rattle.rustc_literal_escaper.specs.means.Elements.{
-    Front, front, front_by, raw_element, raw_front, item_at, item_by, items_by, items_from, items_in, line_end,
-    more_lines, more_space, one, past_backslash, place, unescaped
-}
+use Rattle.rustc_literal_escaper.specs.Grammar.{AreItems, IsElementBefore, IsRawElement, Item, bytes, is_among}
+use Rattle.rustc_literal_escaper.specs.Grammar.{is_newline, is_passed_over, item, lines_warning, next_is, space_warning}
+use Rattle.rustc_literal_escaper.specs.laws.Escape.{Reads, at-char, by_either, element-is, element-reads, escape-is}
+use Rattle.rustc_literal_escaper.specs.laws.Escape.{run-all, run-cut, run-is, run-stops}
+use Rattle.rustc_literal_escaper.specs.means.Elements.{Front, front, front_by, raw_element, raw_front, item_at, item_by}
+use Rattle.rustc_literal_escaper.specs.means.Elements.{items_by, items_from, items_in, line_end, more_lines, more_space}
+use Rattle.rustc_literal_escaper.specs.means.Elements.{one, past_backslash, place, unescaped}
 use Rattle.rustc_literal_escaper.specs.means.Escape.{escape, front_run, past_run}
 
 pub either : {A : Type 0} (P : A → Type 0) (b : Bool) (x y : A) → P x → P y → P (if b then x else y)
@@ -94,10 +89,10 @@ item-at total from w next e ends = let sizes = bytes-append w next in grind (ari
 unescaped-is : (c : ℕ) (s : List ℕ) → (c == 92) ≡ false → IsElementBefore (34 ∷ []) s (unescaped c) (c ∷ [])
 unescaped-is c s slash =
     cond_both (c == 34) (Fault EscapeOnlyChar) _ (λ (e : Element). IsElementBefore (34 ∷ []) s e (c ∷ []))
-        (λ a. g.unescaped (rw a refl)) (λ a.
+    (λ a. g.unescaped (rw a refl)) (λ a.
     cond_both (c == 13) (Fault BareCarriageReturn) (Plain c) (λ (e : Element). IsElementBefore (34 ∷ []) s e (c ∷ []))
     (at-char (λ x. IsElementBefore (34 ∷ []) s (Fault BareCarriageReturn) (x ∷ [])) c 13 g.bare)
-        (λ b. g.plain (rw (slash, b, a) refl)))
+    (λ b. g.plain (rw (slash, b, a) refl)))
 
 unescaped-plain : (c : ℕ) → is_among (92 ∷ 13 ∷ 34 ∷ []) c ≡ false → unescaped c ≡ Plain c
 unescaped-plain c out = grind (arith, common_steps, or_parts)
@@ -131,14 +126,14 @@ unfolding front
 element-front {next} {e} {w} r other = by_either (r.first == 92)
     (λ slash.
     let read : escape (r.others ++ next) ≡ (e, next) =
-        subst (λ (b : Bool). (if b then escape (r.others ++ next) else (unescaped r.first, r.others ++ next)) ≡
-        (e, next)) slash r.read in
+    subst (λ (b : Bool). (if b then escape (r.others ++ next) else (unescaped r.first, r.others ++ next)) ≡
+    (e, next)) slash r.read in
     let same : r.first ≡ 92 = eqb-true r.first 92 slash in
     rw slash (past_backslash-one r.others next e read
-        (λ (n : r.others ≡ 10 ∷ []). other (r.whole ∙ (ap (λ x. x ∷ r.others) same ∙ ap (λ xs. 92 ∷ xs) n)))))
+    (λ (n : r.others ≡ 10 ∷ []). other (r.whole ∙ (ap (λ x. x ∷ r.others) same ∙ ap (λ xs. 92 ∷ xs) n)))))
     (λ none. rw none
-        (ap one (subst (λ (b : Bool). (if b then escape (r.others ++ next) else (unescaped r.first, r.others ++ next)) ≡
-        (e, next)) none r.read)))
+    (ap one (subst (λ (b : Bool). (if b then escape (r.others ++ next) else (unescaped r.first, r.others ++ next)) ≡
+    (e, next)) none r.read)))
 
 raw-reads : {e : Element} {c : ℕ} → IsRawElement e c → (next : List ℕ) → raw_front c next ≡ one (e, next)
 unfolding raw_front
@@ -154,8 +149,13 @@ space-found : (total from : ℕ) (space next : List ℕ) → from + bytes (92 �
     → map (item_at total (place total (92 ∷ 10 ∷ space ++ next))) (more_space next) ≡ space_warning from space next
 space-found total from space [] ends = refl
 space-found total from space (c ∷ next) ends =
-    grind (arith, common_steps, append_assoc space (c ∷ []) next, item-at total from (92 ∷ 10 ∷ (space ++ c ∷ [])) next
-        (Fault UnskippedWhitespaceWarning) (rw (append_assoc space (c ∷ []) next) ends))
+    grind (
+      arith,
+      common_steps,
+      append_assoc space (c ∷ []) next,
+      item-at total from (92 ∷ 10 ∷ (space ++ c ∷ [])) next
+          (Fault UnskippedWhitespaceWarning) (rw (append_assoc space (c ∷ []) next) ends),
+    )
 
 line-read : (space next : List ℕ) → list_all is_passed_over space ≡ true → next_is is_passed_over next ≡ false
     → front 92 (10 ∷ space ++ next) ≡ record { found = more_lines space next ++ more_space next; left = next }
@@ -171,18 +171,34 @@ pub items-read : {raw : Bool} {from : ℕ} {s : List ℕ} {items : List Item} �
 items-read {raw} g.nothing total ends = nothing (front_by raw) (place total)
 items-read (g.element {from} {next} {element = e} {w} {items} is other are) total ends =
     let r = double-reads is in
-    grind (arith, common_steps, r.whole, items-one false (place total) r.first (r.others ++ next) next e
-        (element-front r other), item-at total from w next e ends,
-        items-read are total (past-ends total from w next ends))
+    grind (
+      arith,
+      common_steps,
+      r.whole,
+      items-one false (place total) r.first (r.others ++ next) next e
+          (element-front r other),
+      item-at total from w next e ends,
+      items-read are total (past-ends total from w next ends),
+    )
 items-read (g.line_end {from} {next} {items} space all stops are) total ends =
     items-cons false (place total) 92 (10 ∷ space ++ next)
-    ∙ rw (line-read space next all stops, map-append (item_at total (place total (92 ∷ 10 ∷ space ++ next)))
-        (more_lines space next) (more_space next), lines-found total from space next ends,
-        space-found total from space next ends, items-read are total (past-ends total from (92 ∷ 10 ∷ space) next ends))
-        refl
+    ∙ rw (
+      line-read space next all stops,
+      map-append (item_at total (place total (92 ∷ 10 ∷ space ++ next)))
+          (more_lines space next) (more_space next),
+      lines-found total from space next ends,
+      space-found total from space next ends,
+      items-read are total (past-ends total from (92 ∷ 10 ∷ space) next ends),
+    )
+    refl
 items-read (g.raw_element {from} {c} {next} {element = e} {items} is are) total ends =
-    grind (arith, common_steps, items-one true (place total) c next next e (raw-reads is next),
-        item-at total from (c ∷ []) next e ends, items-read are total (past-ends total from (c ∷ []) next ends))
+    grind (
+      arith,
+      common_steps,
+      items-one true (place total) c next next e (raw-reads is next),
+      item-at total from (c ∷ []) next e ends,
+      items-read are total (past-ends total from (c ∷ []) next ends),
+    )
 
 -- ---- each text has items
 
@@ -199,9 +215,11 @@ line-has from t rest =
     let space : List ℕ = front_run is_passed_over t in
     let next : List ℕ = past_run is_passed_over t in
     let items = rest (from + bytes (92 ∷ 10 ∷ space)) in
-    subst (HasItems false from) (ap (λ xs. 92 ∷ 10 ∷ xs) (sym (run-cut is_passed_over t)))
-    (lines_warning from space ++ space_warning from space next ++ items.0, g.line_end space (run-all is_passed_over t)
-        (run-stops is_passed_over t) items.1)
+    subst (HasItems false from) (ap (λ xs. 92 ∷ 10 ∷ xs) (sym (run-cut is_passed_over t))) (
+      lines_warning from space ++ space_warning from space next ++ items.0,
+      g.line_end space (run-all is_passed_over t)
+          (run-stops is_passed_over t) items.1,
+    )
 
 element-has : (from c : ℕ) (s : List ℕ) → (c ≡ 92 → (t : List ℕ) → s ≡ 10 ∷ t → ⊥)
     → ((at : ℕ) (left : List ℕ) → length left ≤ length s → HasItems false at left) → HasItems false from (c ∷ s)
@@ -209,10 +227,12 @@ element-has from c s other rest =
     let has = element-is (34 ∷ []) unescaped unescaped-plain unescaped-special refl unescaped-is c s in
     let left : List ℕ = (if c == 92 then escape s else (unescaped c, s)).1 in
     let items = rest (from + bytes (c ∷ has.others)) left
-        (omega (arith, ap length has.whole, length-append has.others left)) in
-    subst (HasItems false from) (ap (λ xs. c ∷ xs) (sym has.whole))
-    (_, g.element has.is (λ (e : c ∷ has.others ≡ 92 ∷ 10 ∷ []). let line : has.others ≡ 10 ∷ [] = cc in
-        other (cc) left (has.whole ∙ ap (λ xs. xs ++ left) line)) items.1)
+    (omega (arith, ap length has.whole, length-append has.others left)) in
+    subst (HasItems false from) (ap (λ xs. c ∷ xs) (sym has.whole)) (
+      _,
+      g.element has.is (λ (e : c ∷ has.others ≡ 92 ∷ 10 ∷ []). let line : has.others ≡ 10 ∷ [] = cc in
+          other (cc) left (has.whole ∙ ap (λ xs. xs ++ left) line)) items.1,
+    )
 
 double-has : (from c : ℕ) (s : List ℕ) → ((at : ℕ) (left : List ℕ) → length left ≤ length s → HasItems false at left)
     → HasItems false from (c ∷ s)
@@ -220,11 +240,11 @@ double-has from c [] rest = element-has from c [] (λ e t f. absurd (cc)) rest
 double-has from c (d ∷ t) rest = by_either (c == 92)
     (λ slash. by_either (d == 10)
     (λ line. at-char (λ x. HasItems false from (x ∷ d ∷ t)) c 92
-        (at-char (λ y. HasItems false from (92 ∷ y ∷ t)) d 10
-        (line-has from t (λ at. rest at (past_run is_passed_over t) (let short = past_run-shorter is_passed_over t in
-        omega arith))) line) slash)
+    (at-char (λ y. HasItems false from (92 ∷ y ∷ t)) d 10
+    (line-has from t (λ at. rest at (past_run is_passed_over t) (let short = past_run-shorter is_passed_over t in
+    omega arith))) line) slash)
     (λ none. element-has from c (d ∷ t) (λ e u f. let line : d ≡ 10 = cc in
-        absurd (true≢false (sym (ap (λ (x : ℕ). x == 10) line) ∙ none))) rest))
+    absurd (true≢false (sym (ap (λ (x : ℕ). x == 10) line) ∙ none))) rest))
     (λ none. element-has from c (d ∷ t) (λ e u f. absurd (true≢false (sym (ap (λ (x : ℕ). x == 92) e) ∙ none))) rest)
 
 pub items-some : (raw : Bool) (n : ℕ) (s : List ℕ) (from : ℕ) → length s ≤ n → HasItems raw from s

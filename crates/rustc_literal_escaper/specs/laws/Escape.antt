@@ -1,27 +1,26 @@
 -- The escape that is read after a backslash is the one that the grammar has there, and so is each element.
-use Rattle.std.proofs.Common.{
-    ◌≡◌, ℕ, ◌==◌, ◌||◌, Bool, true, false, true≢false, List, [], ◌∷◌, ◌++◌, length, filter, nat_le, if◌then◌else◌, refl,
-    sym, ap, subst, ◌∙◌, arith, append_assoc
-}
+use Rattle.std.proofs.Common.{◌≡◌, ℕ, ◌==◌, ◌||◌, Bool, true, false, true≢false, List, [], ◌∷◌, ◌++◌, length, filter}
+use Rattle.std.proofs.Common.{nat_le, if◌then◌else◌, refl, sym, ap, subst, ◌∙◌, arith, append_assoc}
 use Rattle.std.specs.List.{list_all}
-use Rattle.std.proofs.lemmas.Bool.{
-    and_parts, cond-false, cond-true, cond_both, eqb-true, le-leb, leb-false, leb-true, lt-leb, or_parts
-}
+use Rattle.std.proofs.lemmas.Bool.{and_parts, cond-false, cond-true, cond_both, eqb-true, le-leb, leb-false, leb-true}
+use Rattle.std.proofs.lemmas.Bool.{lt-leb, or_parts}
 use Rattle.std.proofs.{Math.Bool.{or-true}, lemmas.{Bool.Decides.{nat_tests}, Grind.{common_steps}}}
 use Rattle.rustc_literal_escaper.specs.declared.element.Element.{Element}
 use Rattle.rustc_literal_escaper.specs.declared.element.Element.TheVariants.{Plain, Unicode, Fault}
-use Rattle.rustc_literal_escaper.specs.declared.error.EscapeError.TheVariants.{
-    LoneSlash, TooShortHexEscape, InvalidCharInHexEscape, NoBraceInUnicodeEscape, InvalidCharInUnicodeEscape,
-    EmptyUnicodeEscape, UnclosedUnicodeEscape, LeadingUnderscoreUnicodeEscape, OverlongUnicodeEscape,
-    BareCarriageReturn, EscapeOnlyChar
-}
+use Rattle.rustc_literal_escaper.specs.declared.error.EscapeError.TheVariants.{LoneSlash, TooShortHexEscape}
+use Rattle.rustc_literal_escaper.specs.declared.error.EscapeError.TheVariants.{InvalidCharInHexEscape}
+use Rattle.rustc_literal_escaper.specs.declared.error.EscapeError.TheVariants.{NoBraceInUnicodeEscape}
+use Rattle.rustc_literal_escaper.specs.declared.error.EscapeError.TheVariants.{InvalidCharInUnicodeEscape}
+use Rattle.rustc_literal_escaper.specs.declared.error.EscapeError.TheVariants.{EmptyUnicodeEscape}
+use Rattle.rustc_literal_escaper.specs.declared.error.EscapeError.TheVariants.{UnclosedUnicodeEscape}
+use Rattle.rustc_literal_escaper.specs.declared.error.EscapeError.TheVariants.{LeadingUnderscoreUnicodeEscape}
+use Rattle.rustc_literal_escaper.specs.declared.error.EscapeError.TheVariants.{OverlongUnicodeEscape}
+use Rattle.rustc_literal_escaper.specs.declared.error.EscapeError.TheVariants.{BareCarriageReturn, EscapeOnlyChar}
 use Rattle.rustc_literal_escaper.specs.Grammar as g
-use Rattle.rustc_literal_escaper.specs.Grammar.{
-    AreDigits, IsElementBefore, IsEscapeBefore, hex_value, is_among, is_digit_or_underscore, is_hex, next_is
-}
-use Rattle.rustc_literal_escaper.specs.means.Escape.{
-    braced, closed, closed_at_run, escape, front_run, hex, number, past_run, short, unicode
-}
+use Rattle.rustc_literal_escaper.specs.Grammar.{AreDigits, IsElementBefore, IsEscapeBefore, hex_value, is_among}
+use Rattle.rustc_literal_escaper.specs.Grammar.{is_digit_or_underscore, is_hex, next_is}
+use Rattle.rustc_literal_escaper.specs.means.Escape.{braced, closed, closed_at_run, escape, front_run, hex, number}
+use Rattle.rustc_literal_escaper.specs.means.Escape.{past_run, short, unicode}
 
 -- ---- runs of characters
 
@@ -126,7 +125,7 @@ short-is c s x u =
     by_char P c 39 (39 ∷ [], refl, g.single_quote) (λ e5.
     by_char P c 92 (92 ∷ [], refl, g.backslash) (λ e6.
     rw (e0, e1, e2, e3, e4, e5, e6)
-        (c ∷ [], refl, g.invalid {c = c} (rw (e0, e1, e2, e3, e4, e5, e6, x, u) refl)))))))))
+    (c ∷ [], refl, g.invalid {c = c} (rw (e0, e1, e2, e3, e4, e5, e6, x, u) refl)))))))))
   where
     P : ℕ → Type 0
     P n = IsFront (n ∷ s) (short n, s)
@@ -164,7 +163,7 @@ digits-are c s digit =
         (λ close.
         let whole = past-one 125 left (text ∙ ap (λ y. ds ++ y ∷ left) (eqb-true x 125 close)) in
         cond_both (nat_le (length (filter is_hex (c ∷ ds))) 6) (Unicode (hex_value (filter is_hex (c ∷ ds))))
-            (Fault OverlongUnicodeEscape) (λ (r : Element). IsFront (117 ∷ 123 ∷ c ∷ s) (r, left))
+        (Fault OverlongUnicodeEscape) (λ (r : Element). IsFront (117 ∷ 123 ∷ c ∷ s) (r, left))
         (λ few. (117 ∷ 123 ∷ c ∷ (ds ++ 125 ∷ []), whole, g.of_number are (leb-true _ 6 few)))
         (λ many. (117 ∷ 123 ∷ c ∷ (ds ++ 125 ∷ []), whole, g.too_many are (leb-false _ 6 many))))
         (λ inner. (117 ∷ 123 ∷ c ∷ (ds ++ x ∷ []), past-one x left text, g.bad_digit x are stops inner))
@@ -174,12 +173,12 @@ braced-is [] = (117 ∷ 123 ∷ [], refl, g.unclosed refl g.none)
 braced-is (c ∷ s) =
     cond_both (c == 95) (Fault LeadingUnderscoreUnicodeEscape, s) _ (IsFront (117 ∷ 123 ∷ c ∷ s))
     (at-char (λ x. IsFront (117 ∷ 123 ∷ x ∷ s) (Fault LeadingUnderscoreUnicodeEscape, s)) c 95
-        (117 ∷ 123 ∷ 95 ∷ [], refl, g.underscore)) (λ a.
+    (117 ∷ 123 ∷ 95 ∷ [], refl, g.underscore)) (λ a.
     cond_both (c == 125) (Fault EmptyUnicodeEscape, s) _ (IsFront (117 ∷ 123 ∷ c ∷ s))
     (at-char (λ x. IsFront (117 ∷ 123 ∷ x ∷ s) (Fault EmptyUnicodeEscape, s)) c 125
-        (117 ∷ 123 ∷ 125 ∷ [], refl, g.empty)) (λ b.
+    (117 ∷ 123 ∷ 125 ∷ [], refl, g.empty)) (λ b.
     cond_both (is_hex c) (closed_at_run (c ∷ s)) (Fault InvalidCharInUnicodeEscape, s) (IsFront (117 ∷ 123 ∷ c ∷ s))
-        (digits-are c s) (λ d.
+    (digits-are c s) (λ d.
     (117 ∷ 123 ∷ c ∷ [], refl, g.bad_digit c g.none (ap (λ x. x || is_hex c) a ∙ d) b))))
 
 unicode-is : (s : List ℕ) → IsFront (117 ∷ s) (unicode s)
@@ -192,7 +191,7 @@ escape-is [] = ([], refl, g.lone refl)
 escape-is (c ∷ s) =
     cond_both (c == 120) (hex s) _ (IsFront (c ∷ s)) (at-char (λ x. IsFront (x ∷ s) (hex s)) c 120 (hex-is s)) (λ x.
     cond_both (c == 117) (unicode s) _ (IsFront (c ∷ s))
-        (at-char (λ y. IsFront (y ∷ s) (unicode s)) c 117 (unicode-is s)) (λ u.
+    (at-char (λ y. IsFront (y ∷ s) (unicode s)) c 117 (unicode-is s)) (λ u.
     short-is c s x u))
 
 -- ---- elements
@@ -214,8 +213,13 @@ module _ (special : List ℕ) (unescaped : ℕ → Element)
 
   pub element-reads : {next : List ℕ} {e : Element} {w : List ℕ} → IsElementBefore special next e w → Reads next e w
   element-reads {next} (g.plain {c} out) =
-      record { first = c; others = []; whole = refl; read = rw (or_parts (c == 92) _ out).0
-      (ap (λ x. (x, next)) (plain c out)) }
+      record {
+        first = c;
+        others = [];
+        whole = refl;
+        read = rw (or_parts (c == 92) _ out).0
+            (ap (λ x. (x, next)) (plain c out));
+      }
   element-reads {next} (g.escape {w = w} at) = record { first = 92; others = w; whole = refl; read = escape-reads at }
   element-reads {next} (g.unescaped {c} among) = let m = of_special c among in
       record { first = c; others = []; whole = refl; read = rw m.0 (ap (λ x. (x, next)) m.1) }
@@ -230,5 +234,5 @@ module _ (special : List ℕ) (unescaped : ℕ → Element)
   pub element-is : (c : ℕ) (s : List ℕ) → Has c s (read_element c s)
   element-is c s = cond_both (c == 92) (escape s) (unescaped c, s) (Has c s)
       (at-char (λ x. Has x s (escape s)) c 92 (let at = escape-is s in
-          record { others = at.0; whole = at.1; is = g.escape at.2 }))
+      record { others = at.0; whole = at.1; is = g.escape at.2 }))
       (λ e. record { others = []; whole = refl; is = sound c s e })

@@ -1,15 +1,13 @@
 -- What is read between single quotes is what the grammar has there.
-use Rattle.std.proofs.Common.{
-    ◌≡◌, ℕ, ◌==◌, true, false, List, [], ◌∷◌, ◌++◌, Result, Ok, Err, refl, sym, ap, subst, ◌∙◌, arith, append_assoc
-}
+use Rattle.std.proofs.Common.{◌≡◌, ℕ, ◌==◌, true, false, List, [], ◌∷◌, ◌++◌, Result, Ok, Err, refl, sym, ap, subst}
+use Rattle.std.proofs.Common.{◌∙◌, arith, append_assoc}
 use Rattle.std.proofs.lemmas.{Bool.{cond_both, or_parts}, List.{append-nil}, Bool.Decides.{nat_tests}}
 use Rattle.std.proofs.lemmas.Grind.{common_steps}
 use Rattle.rustc_literal_escaper.specs.declared.element.Element.{Element}
 use Rattle.rustc_literal_escaper.specs.declared.element.Element.TheVariants.{Plain, Fault}
 use Rattle.rustc_literal_escaper.specs.declared.error.EscapeError.{EscapeError}
-use Rattle.rustc_literal_escaper.specs.declared.error.EscapeError.TheVariants.{
-    BareCarriageReturn, EscapeOnlyChar, MoreThanOneChar
-}
+use Rattle.rustc_literal_escaper.specs.declared.error.EscapeError.TheVariants.{BareCarriageReturn, EscapeOnlyChar}
+use Rattle.rustc_literal_escaper.specs.declared.error.EscapeError.TheVariants.{MoreThanOneChar}
 use Rattle.rustc_literal_escaper.specs.Grammar as g
 use Rattle.rustc_literal_escaper.specs.Grammar.{Error, IsElementBefore, IsSingle, bytes, is_among}
 use Rattle.rustc_literal_escaper.specs.laws.Elements.{bytes-append}
@@ -64,8 +62,14 @@ module _ {U : Type 0} (meaning : Element → Result U EscapeError) where
   single-read (g.wrong {next} {element = e} {w} {error} is means) = read-first (Err error) is means
       ∙ error-at w next error
   single-read (g.more {c} {next} {element = e} {w} {u} is means) =
-      grind (arith, common_steps, append_assoc w (c ∷ []) next, read-first (Ok u) is means,
-          (append_assoc w (c ∷ []) next), error-at (w ++ c ∷ []) next MoreThanOneChar)
+      grind (
+        arith,
+        common_steps,
+        append_assoc w (c ∷ []) next,
+        read-first (Ok u) is means,
+        (append_assoc w (c ∷ []) next),
+        error-at (w ++ c ∷ []) next MoreThanOneChar,
+      )
 
   -- each text stands for something
   pub single-some : (s : List ℕ) → (r : Result U Error) × IsSingle meaning s r

@@ -29,7 +29,7 @@ the_items raw text = record {
   answer = items_from (front_by raw) (length text) (chars text);
   only = λ is.
       let ends : 0 + bytes (chars text) ≡ length text = zero-add (bytes (chars text))
-          ∙ ap length (encodes-chars text is) in
+      ∙ ap length (encodes-chars text is) in
       let some = items-some raw (length (chars text)) (chars text) 0 (omega arith) in
       only-read (AreItems raw 0 (chars text)) _ (λ other are. items-read are (length text) ends) some.0 some.1;
 }

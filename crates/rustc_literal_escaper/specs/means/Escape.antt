@@ -3,11 +3,15 @@ use Rattle.std.specs.Prelude.{ℕ, ◌+◌, ◌*◌, ◌==◌, nat_le, Bool, if�
 use Rattle.std.specs.{Char.{digit_value}, Str.{byte}}
 use Rattle.rustc_literal_escaper.specs.declared.element.Element.{Element}
 use Rattle.rustc_literal_escaper.specs.declared.element.Element.TheVariants.{Byte, Unicode, Fault}
-use Rattle.rustc_literal_escaper.specs.declared.error.EscapeError.TheVariants.{
-    LoneSlash, InvalidEscape, TooShortHexEscape, InvalidCharInHexEscape, NoBraceInUnicodeEscape,
-    InvalidCharInUnicodeEscape, EmptyUnicodeEscape, UnclosedUnicodeEscape, LeadingUnderscoreUnicodeEscape,
-    OverlongUnicodeEscape
-}
+use Rattle.rustc_literal_escaper.specs.declared.error.EscapeError.TheVariants.{LoneSlash, InvalidEscape}
+use Rattle.rustc_literal_escaper.specs.declared.error.EscapeError.TheVariants.{TooShortHexEscape}
+use Rattle.rustc_literal_escaper.specs.declared.error.EscapeError.TheVariants.{InvalidCharInHexEscape}
+use Rattle.rustc_literal_escaper.specs.declared.error.EscapeError.TheVariants.{NoBraceInUnicodeEscape}
+use Rattle.rustc_literal_escaper.specs.declared.error.EscapeError.TheVariants.{InvalidCharInUnicodeEscape}
+use Rattle.rustc_literal_escaper.specs.declared.error.EscapeError.TheVariants.{EmptyUnicodeEscape}
+use Rattle.rustc_literal_escaper.specs.declared.error.EscapeError.TheVariants.{UnclosedUnicodeEscape}
+use Rattle.rustc_literal_escaper.specs.declared.error.EscapeError.TheVariants.{LeadingUnderscoreUnicodeEscape}
+use Rattle.rustc_literal_escaper.specs.declared.error.EscapeError.TheVariants.{OverlongUnicodeEscape}
 use Rattle.rustc_literal_escaper.specs.Grammar.{hex_value, is_digit_or_underscore, is_hex}
 
 -- the longest front of characters in a class, and what follows it

@@ -4,9 +4,8 @@ use Rattle.std.specs.{Option.{option_to_list}, Str.{byte, chars}}
 use Rattle.rustc_literal_escaper.specs.declared.element.Element.{Element}
 use Rattle.rustc_literal_escaper.specs.declared.element.Element.TheVariants.{Plain, Fault}
 use Rattle.rustc_literal_escaper.specs.declared.error.EscapeError.{EscapeError}
-use Rattle.rustc_literal_escaper.specs.declared.error.EscapeError.TheVariants.{
-    ZeroChars, MoreThanOneChar, EscapeOnlyChar, BareCarriageReturn
-}
+use Rattle.rustc_literal_escaper.specs.declared.error.EscapeError.TheVariants.{ZeroChars, MoreThanOneChar}
+use Rattle.rustc_literal_escaper.specs.declared.error.EscapeError.TheVariants.{EscapeOnlyChar, BareCarriageReturn}
 use Rattle.rustc_literal_escaper.specs.declared.mode.Mode.{Mode}
 use Rattle.rustc_literal_escaper.specs.Grammar.{Error}
 use Rattle.rustc_literal_escaper.specs.Meaning.{error_of, errors_in, is_raw, is_single}

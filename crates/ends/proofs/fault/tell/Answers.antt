@@ -6,5 +6,5 @@ pub returns-clause-err : goal.returns-clause-err
 returns-clause-err g c =
     on_err_weaker _ (front_more _ _ _ c.as_bytes.result.now _ _
     (rw (c.as_bytes.ensures.value, c.digits.ensures)
-        (ap (λ (xs : List ℕ). c.args.name.now ++ xs) c.message-number.ensures)) c.in_ok-write_bytes.ensures.ok)
-        c.write_texts.ensures.err
+    (ap (λ (xs : List ℕ). c.args.name.now ++ xs) c.message-number.ensures)) c.in_ok-write_bytes.ensures.ok)
+    c.write_texts.ensures.err

@@ -1,7 +1,5 @@
-use Rattle.std.proofs.Common.{
-    ◌≡◌, ◌+◌, ◌<◌, ◌≤◌, ◌∙◌, Bor, List, [], ◌∷◌, ◌++◌, ℕ, arith, get_or, length, map, subst, sym, take, take_all,
-    string_bytes
-}
+use Rattle.std.proofs.Common.{◌≡◌, ◌+◌, ◌<◌, ◌≤◌, ◌∙◌, Bor, List, [], ◌∷◌, ◌++◌, ℕ, arith, get_or, length, map, subst}
+use Rattle.std.proofs.Common.{sym, take, take_all, string_bytes}
 use Rattle.std.proofs.lemmas.{Grind.{common_steps}, List.{take_more}}
 use Rattle.rustc_lexer.specs.{declared.edition.Edition.{Edition}, Joined.{IsJoined}}
 use Rattle.examples.specs.Joining as the
@@ -11,7 +9,7 @@ use Rattle.examples.proofs.joining.join.Goals as goal
 
 one_more : (pieces : List (Bor (List ℕ))) (i : ℕ) (d : Bor (List ℕ)) → i < length pieces
     → map (λ (p : Bor (List ℕ)). p.now) (take (i + 1) pieces) ≡ map (λ (p : Bor (List ℕ)). p.now) (take i pieces)
-        ++ (get_or pieces i d).now ∷ []
+    ++ (get_or pieces i d).now ∷ []
 one_more pieces i d less = grind (arith, common_steps, take_more)
 
 more : (edition now_in : Edition) (pieces : List (Bor (List ℕ))) (i : ℕ) (d : Bor (List ℕ)) (text new : List ℕ)
@@ -21,7 +19,7 @@ more : (edition now_in : Edition) (pieces : List (Bor (List ℕ))) (i : ℕ) (d 
     → AreJoined edition (map (λ (p : Bor (List ℕ)). p.now) (take (i + 1) pieces)) new
 more edition now_in pieces i d text new less same are is =
     subst (λ (ps : List (List ℕ)). AreJoined edition ps new) (sym (one_more pieces i d less))
-        (the.more are (subst (λ (e : Edition). IsJoined e text (get_or pieces i d).now new) same is))
+    (the.more are (subst (λ (e : Edition). IsJoined e text (get_or pieces i d).now new) same is))
 
 pub loop-piece-init : goal.loop-piece-init
 loop-piece-init c = record {
@@ -41,11 +39,11 @@ loop-piece-preserved c = record {
 whole : (edition : Edition) (pieces : List (Bor (List ℕ))) (i : ℕ) (text made : List ℕ) → length pieces ≤ i
     → made ≡ text
     → AreJoined edition (map (λ (p : Bor (List ℕ)). p.now) (take i pieces)) text
-        → AreJoined edition (map (λ (p : Bor (List ℕ)). p.now) pieces) made
+    → AreJoined edition (map (λ (p : Bor (List ℕ)). p.now) pieces) made
 whole edition pieces i text made all same are =
     subst (AreJoined edition (map (λ (p : Bor (List ℕ)). p.now) pieces)) (sym same)
     (subst (λ (ps : List (Bor (List ℕ))). AreJoined edition (map (λ (p : Bor (List ℕ)). p.now) ps) text)
-        (take_all i pieces all) are)
+    (take_all i pieces all) are)
 
 pub returns-clause-joined : goal.returns-clause-joined
 returns-clause-joined c = whole c.args.edition c.args.pieces.now c.loop-piece.piece-index c.loop-piece.joined.text

@@ -8,9 +8,9 @@ returns g c =
     on_ok c.write_str-2.result c.write_str-2.ensures.ok (λ last.
     writes_both took c.args.output.now c.write_str.new.self c.write_str-2.new.self _ _
     (one_call took _ _ _
-        (subst (λ (xs : List ℕ). took c.args.output.now xs c.write_str.new.self) c.head.ensures
-        (c.in_ok-write_str.ensures.ok refl)))
+    (subst (λ (xs : List ℕ). took c.args.output.now xs c.write_str.new.self) c.head.ensures
+    (c.in_ok-write_str.ensures.ok refl)))
     (writes_both took c.write_str.new.self c.write_marked.new.output c.write_str-2.new.self _ _
-        c.in_ok-write_marked.ensures.written
+    c.in_ok-write_marked.ensures.written
     (one_call took _ _ _
-        (subst (λ (xs : List ℕ). took c.write_marked.new.output xs c.write_str-2.new.self) c.foot.ensures last))))
+    (subst (λ (xs : List ℕ). took c.write_marked.new.output xs c.write_str-2.new.self) c.foot.ensures last))))

@@ -13,9 +13,11 @@ pub returns-in-Err-clause-err : goal.returns-in-Err-clause-err
 returns-in-Err-clause-err c =
     let stop = c.in-Err.ensures.made in
     rw (c.stop_fault.ensures, ← c.in_ok-lexed.ensures.text)
-        (refused c.in_ok-lexed.lexed.text c.args.edits.now c.in-Err.stop
-        (stop.stop_accepted, subst (λ (text : List ℕ). IsStop c.in-Err.stop text c.args.edits.now) stop.stop_text
-        stop.stop))
+    (refused c.in_ok-lexed.lexed.text c.args.edits.now c.in-Err.stop (
+      stop.stop_accepted,
+      subst (λ (text : List ℕ). IsStop c.in-Err.stop text c.args.edits.now) stop.stop_text
+          stop.stop,
+    ))
 
 pub returns-in-Ok-clause-ok : goal.returns-in-Ok-clause-ok
 returns-in-Ok-clause-ok c =
@@ -23,5 +25,5 @@ returns-in-Ok-clause-ok c =
       c.in-Ok.ensures.made.accepted,
       c.in-Ok.ensures.made.from_scratch
           ∙ (ap (λ (grammar : Grammar). tokens_by grammar.first c.edit_all.new.self.text) c.in_ok-lexed.ensures.grammar
-              ∙ ap (tokens_of (part c.args.edition)) c.in-Ok.ensures.made.text),
+          ∙ ap (tokens_of (part c.args.edition)) c.in-Ok.ensures.made.text),
     )

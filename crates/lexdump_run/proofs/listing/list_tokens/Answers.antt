@@ -8,28 +8,33 @@ use Rattle.std.proofs.lemmas.Grind.{common_steps}
 pub left-preserved : goal.left-preserved
 left-preserved g c =
     let leaves = past_fill c.left.tokens c.fill-count.new.self (length c.left.buffer) c.fill-count.result
-        (subst IsText c.as_str-in-left.ensures.rest record
-        { utf8 = c.as_str-in-left.utf8; fits = c.as_str-in-left.ensures.fits }) c.as_str-in-left.ensures.pending
-        c.fill-count.ensures.count c.fill-count.ensures.state in
+    (subst IsText c.as_str-in-left.ensures.rest record
+    { utf8 = c.as_str-in-left.utf8; fits = c.as_str-in-left.ensures.fits }) c.as_str-in-left.ensures.pending
+    c.fill-count.ensures.count c.fill-count.ensures.state in
     record {
       within =
-          omega (arith, ap length leaves.rest, length-drop (bound (tokens_left c.left.tokens) c.fill-count.result)
-          c.left.tokens.rest, c.left.invariant.within);
+          omega (
+            arith,
+            ap length leaves.rest,
+            length-drop (bound (tokens_left c.left.tokens) c.fill-count.result)
+                c.left.tokens.rest,
+            c.left.invariant.within,
+          );
       lines = pushing_first _ _ _ _ _ _ _ _ c.left.invariant.lines
           (buffer-split c.args.text.now c.as_str-in-left.result.now c.left.tokens.rest c.left.tokens.mode c.left.buffer
-              c.fill-count.new.buffer c.fill-count.result c.as_str-in-left.ensures.rest c.as_str-in-left.utf8
-              c.left.invariant.within c.requires
-              (record { as_many = c.fill-count.ensures.count; tokens = c.fill-count.ensures.tokens }) _ _ leaves.tokens
-              leaves.rest)
+          c.fill-count.new.buffer c.fill-count.result c.as_str-in-left.ensures.rest c.as_str-in-left.utf8
+          c.left.invariant.within c.requires
+          (record { as_many = c.fill-count.ensures.count; tokens = c.fill-count.ensures.tokens }) _ _ leaves.tokens
+          leaves.rest)
           c.in_ok-push_lines.ensures;
     }
 
 pub left-smaller : goal.left-smaller
 left-smaller g c =
     let leaves = past_fill c.left.tokens c.fill-count.new.self (length c.left.buffer) c.fill-count.result
-        (subst IsText c.as_str-in-left.ensures.rest record
-        { utf8 = c.as_str-in-left.utf8; fits = c.as_str-in-left.ensures.fits }) c.as_str-in-left.ensures.pending
-        c.fill-count.ensures.count c.fill-count.ensures.state in
+    (subst IsText c.as_str-in-left.ensures.rest record
+    { utf8 = c.as_str-in-left.utf8; fits = c.as_str-in-left.ensures.fits }) c.as_str-in-left.ensures.pending
+    c.fill-count.ensures.count c.fill-count.ensures.state in
     let some : 0 < length c.left.tokens.rest = grind (arith, common_steps, rules, c.as_str.ensures.rest) in
     leaves.progress (omega arith) some
 
@@ -37,7 +42,7 @@ pub returns-in_err-push_lines : goal.returns-in_err-push_lines
 returns-in_err-push_lines g c =
     pushing_stopped _ _ _ _ _ _ _ _ c.left.invariant.lines
     (buffer-split c.args.text.now c.as_str-in-left.result.now c.left.tokens.rest c.left.tokens.mode c.left.buffer
-        c.fill-count.new.buffer c.fill-count.result c.as_str-in-left.ensures.rest c.as_str-in-left.utf8
-        c.left.invariant.within c.requires
-        (record { as_many = c.fill-count.ensures.count; tokens = c.fill-count.ensures.tokens }) _ _ refl refl)
+    c.fill-count.new.buffer c.fill-count.result c.as_str-in-left.ensures.rest c.as_str-in-left.utf8
+    c.left.invariant.within c.requires
+    (record { as_many = c.fill-count.ensures.count; tokens = c.fill-count.ensures.tokens }) _ _ refl refl)
     _ _ c.in_err-push_lines.ensures c.from_residual.ensures.1

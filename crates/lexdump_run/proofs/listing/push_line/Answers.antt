@@ -12,24 +12,24 @@ unfolding line_text
 returns-in_err-push g c =
     pushes_both _ _ _ _ _ _ _ _ refl c.in_ok-push_place.ensures
     (pushes_first _ _ _ _ (fields_text c.args.token.kind ++ 10 ∷ []) _ _ _
-        (ap (λ (xs : List ℕ). xs ++ (fields_text c.args.token.kind ++ 10 ∷ [])) (sym c.name.ensures))
-        c.in_err-push.ensures c.from_residual-in_err-push.ensures.1)
+    (ap (λ (xs : List ℕ). xs ++ (fields_text c.args.token.kind ++ 10 ∷ [])) (sym c.name.ensures))
+    c.in_err-push.ensures c.from_residual-in_err-push.ensures.1)
 
 pub returns-in_err-push_fields : goal.returns-in_err-push_fields
 unfolding line_text
 returns-in_err-push_fields g c =
     pushes_both _ _ _ _ _ _ _ _ refl c.in_ok-push_place.ensures
     (pushes_both _ _ _ _ _ (fields_text c.args.token.kind ++ 10 ∷ []) _ _
-        (ap (λ (xs : List ℕ). xs ++ (fields_text c.args.token.kind ++ 10 ∷ [])) (sym c.name.ensures))
-        c.in_ok-push.ensures
+    (ap (λ (xs : List ℕ). xs ++ (fields_text c.args.token.kind ++ 10 ∷ [])) (sym c.name.ensures))
+    c.in_ok-push.ensures
     (pushes_first _ _ _ _ (10 ∷ []) _ _ _ refl c.in_err-push_fields.ensures
-        c.from_residual-in_err-push_fields.ensures.1))
+    c.from_residual-in_err-push_fields.ensures.1))
 
 pub returns : goal.returns
 unfolding line_text
 returns g c =
     pushes_both _ _ _ _ _ _ _ _ refl c.in_ok-push_place.ensures
     (pushes_both _ _ _ _ _ (fields_text c.args.token.kind ++ 10 ∷ []) _ _
-        (ap (λ (xs : List ℕ). xs ++ (fields_text c.args.token.kind ++ 10 ∷ [])) (sym c.name.ensures))
-        c.in_ok-push.ensures
+    (ap (λ (xs : List ℕ). xs ++ (fields_text c.args.token.kind ++ 10 ∷ [])) (sym c.name.ensures))
+    c.in_ok-push.ensures
     (pushes_both _ _ _ _ _ (10 ∷ []) _ _ refl c.in_ok-push_fields.ensures c.push-2.ensures))

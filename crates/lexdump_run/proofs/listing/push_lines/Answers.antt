@@ -6,8 +6,10 @@ use Rattle.lexdump_run.proofs.listing.push_lines.Goals as goal
 
 pub overflow_add-place : goal.overflow_add-place
 overflow_add-place g c =
-    record { fits = ahead_fits c.args.tokens.now c.args.start c.loop-token.token-index c.loop-token.place _
-    c.loop-token.invariant.place c.loop-token-test.true c.requires _ (omega arith) }
+    record {
+      fits = ahead_fits c.args.tokens.now c.args.start c.loop-token.token-index c.loop-token.place _
+          c.loop-token.invariant.place c.loop-token-test.true c.requires _ (omega arith);
+    }
 
 pub loop-token-preserved : goal.loop-token-preserved
 loop-token-preserved g c = record {

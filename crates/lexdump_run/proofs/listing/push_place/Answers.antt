@@ -11,7 +11,7 @@ returns g c =
     let few : length (decimal c.from.result) ≤ 10 = short c.from.result (rw c.from.ensures c.ranges.len.fits) in
     let at : c.write_digits-len_at.result + length (decimal c.from.result) ≡ 21 = c.write_digits-len_at.ensures.start in
     let is = place-written c.from-2.result c.from.result _ _ _ _ _ refl one
-        (omega arith) at c.write_digits-len_at.ensures.written c.write_digits-len_at.ensures.before two
-        c.write_digits-start_at.ensures.written in
+    (omega arith) at c.write_digits-len_at.ensures.written c.write_digits-len_at.ensures.before two
+    c.write_digits-start_at.ensures.written in
     subst (λ (xs : List ℕ). Pushes g.W.Write.contents c.args.lines.now c.push_bytes.new.self xs c.push_bytes.result)
-        (is ∙ same-place _ _ _ _ c.from-2.ensures c.from.ensures) c.push_bytes.ensures
+    (is ∙ same-place _ _ _ _ c.from-2.ensures c.from.ensures) c.push_bytes.ensures

@@ -8,7 +8,7 @@ use Rattle.marks.proofs.frontmatter.skip.Given as goal
 abbrev pub invariant-chars : goal.invariant-chars
 invariant-chars g l = shadow (Utf8 l.left)
     × ((class : ℕ → Bool) → ((c : ℕ) (b : Bool) → goal.F-post g l.test c b → b ≡ class c)
-        → past_run class (chars l.left) ≡ past_run class (chars l.text))
+    → past_run class (chars l.left) ≡ past_run class (chars l.text))
 
 abbrev pub decreases-chars : goal.decreases-chars
 decreases-chars g l = length l.left

@@ -17,7 +17,7 @@ loop-left-preserved g c =
     let past = c.next.new.self in
     let step = c.in-Some.ensures.steps in
     let piece = piece_is c.args.text.now at.rest c.range.result.now c.loop-left.start c.in-Some.token.len
-        c.range.ensures.value c.loop-left.invariant.place.1 in
+    c.range.ensures.value c.loop-left.invariant.place.1 in
     record {
       place = stands_past c.args.text.now c.loop-left.start at past c.in-Some.token c.loop-left.invariant.place step;
       left = λ w more. c.loop-left.invariant.left w
@@ -25,5 +25,5 @@ loop-left-preserved g c =
           c.write_token.new.output w at.rest past.rest c.range.result.now
           (take c.loop-left.left (tokens_left at)) (take (c.loop-left.left - 1) (tokens_left past)) c.in-Some.token
           (one_less c.loop-left.left (tokens_left at) (tokens_left past) c.in-Some.token
-              (omega (arith, c.loop-left-test.true)) step.first) step.rest piece c.in_ok-write_token.ensures more);
+          (omega (arith, c.loop-left-test.true)) step.first) step.rest piece c.in_ok-write_token.ensures more);
     }

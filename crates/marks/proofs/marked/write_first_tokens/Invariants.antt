@@ -10,7 +10,7 @@ invariant-loop-left g l = record {
   left : (w : _) → WritesInCalls g.W.Write.write_str_gives l.output
       (marked_tokens l.format l.fn.edition l.tokens.rest (take l.left (tokens_left l.tokens))) w
       → WritesInCalls g.W.Write.write_str_gives l.initial.output
-          (marked_tokens l.format l.fn.edition l.text (take l.count (tokens_of (part l.fn.edition) l.text))) w;
+      (marked_tokens l.format l.fn.edition l.text (take l.count (tokens_of (part l.fn.edition) l.text))) w;
 }
 
 abbrev pub decreases-loop-left : goal.decreases-loop-left

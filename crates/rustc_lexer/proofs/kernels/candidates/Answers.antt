@@ -5,24 +5,29 @@ use Rattle.rustc_lexer.proofs.kernels.candidates.Goals as goal
 pub returns-then-firsts-eq0-clause-at : goal.returns-then-firsts-eq0-clause-at
 returns-then-firsts-eq0-clause-at c =
     no_first c.args.probe.first c.args.probe.second c.args.probe.third c.args.probe.last c.args.probe.span
-        c.args.bytes.now c.places-firsts.result c.places-firsts.ensures.at (omega arith)
+    c.args.bytes.now c.places-firsts.result c.places-firsts.ensures.at (omega arith)
 
 pub returns-then-both-eq0-clause-at : goal.returns-then-both-eq0-clause-at
 returns-then-both-eq0-clause-at c =
     no_last c.args.probe.first c.args.probe.second c.args.probe.third c.args.probe.last c.args.probe.span
-        c.args.bytes.now c.places-firsts.result c.places-firsts.ensures.at
+    c.args.bytes.now c.places-firsts.result c.places-firsts.ensures.at
     c.places-lasts.result _ (take_rest c.args.bytes.now c.args.probe.span) c.places-lasts.ensures.at (omega arith)
 
 pub returns-clause-at : goal.returns-clause-at
 returns-clause-at c =
     all_four c.args.probe.first c.args.probe.second c.args.probe.third c.args.probe.last c.args.probe.span
-        c.args.bytes.now c.places-firsts.result c.places-firsts.ensures.at
+    c.args.bytes.now c.places-firsts.result c.places-firsts.ensures.at
     c.places-lasts.result _ (take_rest c.args.bytes.now c.args.probe.span) c.places-lasts.ensures.at
     c.places-seconds.result c.places-thirds.result _ _ (take_rest c.args.bytes.now 1)
-        (take_rest c.args.bytes.now 2) c.places-seconds.ensures.at c.places-thirds.ensures.at
+    (take_rest c.args.bytes.now 2) c.places-seconds.ensures.at c.places-thirds.ensures.at
 
 pub returns-clause-few : goal.returns-clause-few
 returns-clause-few c =
     let both = bit_and c.places-firsts.result c.places-lasts.result in
-    omega (arith, c.places-firsts.ensures.few, and_le_l c.places-firsts.result c.places-lasts.result,
-        and_le_l both c.places-seconds.result, and_le_l (bit_and both c.places-seconds.result) c.places-thirds.result)
+    omega (
+      arith,
+      c.places-firsts.ensures.few,
+      and_le_l c.places-firsts.result c.places-lasts.result,
+      and_le_l both c.places-seconds.result,
+      and_le_l (bit_and both c.places-seconds.result) c.places-thirds.result,
+    )

@@ -12,4 +12,4 @@ returns-clause-few c =
 pub returns-clause-at : goal.returns-clause-at
 returns-clause-at c = λ k l. mask_in (is_byte c.args.byte) c.args.bytes.now 0 16 _ c.requires
     (bitmask_splat w8 ◌==◌ _ 16 c.args.byte (length-chunk 0 16 c.args.bytes.now (omega (arith, c.requires)))
-        (omega arith)) k k (omega arith) l
+    (omega arith)) k k (omega arith) l

@@ -8,7 +8,7 @@ pub returns-clause-value : goal.returns-clause-value
 returns-clause-value g c =
     let fits = g.C.ByteClass.width_fits in
     sym (run_stops g.C.ByteClass.passes c.args.bytes.now 0 g.C.ByteClass.WIDTH (omega arith) fits.1
-        (omega (arith, c.stops-stops.ensures)) ∙ ap (count_trailing_zeros 64) (sym c.stops-stops.ensures))
+    (omega (arith, c.stops-stops.ensures)) ∙ ap (count_trailing_zeros 64) (sym c.stops-stops.ensures))
 
 pub returns-clause-inside : goal.returns-clause-inside
 returns-clause-inside g c = let run = returns-clause-value g c in

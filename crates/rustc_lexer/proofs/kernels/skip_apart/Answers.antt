@@ -9,17 +9,17 @@ pub looks-preserved : goal.looks-preserved
 looks-preserved c =
     let of = c.probe_of-probe.ensures in
     let stands = candidate _ _ _ _ _ c.args.first c.args.more.now c.looks.left.now of.first of.second of.third of.last
-        of.span c.requires _ c.candidates-found.ensures.at in
+    of.span c.requires _ c.candidates-found.ensures.at in
     look_on (c.args.first ∷ c.args.more.now) c.args.bytes.now c.looks.left.now c.looks.invariant
-        c.candidates-found.result stands (omega arith) _ (omega arith) (take_rest c.looks.left.now 16)
+    c.candidates-found.result stands (omega arith) _ (omega arith) (take_rest c.looks.left.now 16)
 
 pub returns-then-found-ne0-clause-apart : goal.returns-then-found-ne0-clause-apart
 returns-then-found-ne0-clause-apart c =
     let of = c.probe_of-probe.ensures in
     let stands = candidate _ _ _ _ _ c.args.first c.args.more.now c.looks.left.now of.first of.second of.third of.last
-        of.span c.requires _ c.candidates-found.ensures.at in
+    of.span c.requires _ c.candidates-found.ensures.at in
     look_end (c.args.first ∷ c.args.more.now) c.args.bytes.now c.looks.left.now c.looks.invariant
-        c.candidates-found.result stands (omega arith) c.candidates-found.ensures.few
+    c.candidates-found.result stands (omega arith) c.candidates-found.ensures.few
 
 pub returns-then-found-ne0-clause-inside : goal.returns-then-found-ne0-clause-inside
 returns-then-found-ne0-clause-inside c =

@@ -1,17 +1,14 @@
 -- Edits that are made at once: one more of them.
-use Rattle.std.proofs.Common.{
-    ◌≡◌, ◌↔◌, ℕ, zero, suc, ◌+◌, ◌-◌, ◌^◌, ◌<◌, ◌≤◌, min, List, [], ◌∷◌, ◌++◌, length, take, drop, reverse, get_or,
-    refl, sym, ap, ◌∙◌, subst, arith, IsUtf8, IsCharBoundary, append_assoc, length-append, length-drop, length-take-le,
-    take-take
-}
+use Rattle.std.proofs.Common.{◌≡◌, ◌↔◌, ℕ, zero, suc, ◌+◌, ◌-◌, ◌^◌, ◌<◌, ◌≤◌, min, List, [], ◌∷◌, ◌++◌, length, take}
+use Rattle.std.proofs.Common.{drop, reverse, get_or, refl, sym, ap, ◌∙◌, subst, arith, IsUtf8, IsCharBoundary}
+use Rattle.std.proofs.Common.{append_assoc, length-append, length-drop, length-take-le, take-take}
 use Rattle.std.proofs.lemmas.List.{append-nil, reverse-append, take-append-drop, take-append-le}
 use Rattle.std.proofs.Math.Seq.{drop-append_seam, take-add}
 use Rattle.std.proofs.lemmas.Str.{IsCharBoundary-start, IsUtf8-append, IsUtf8-between, IsUtf8-past_char, IsUtf8-take}
 use Rattle.std.proofs.{Math.Utf8.{encode, encodes}, lemmas.Grind.{common_steps}}
 use Rattle.rustc_lexer.specs.declared.relex.edit.Edit.{Edit}
-use Rattle.rustc_lexer.specs.Edits.{
-    AreAtOnce, AreInOrder, IsInside, apply, apply_list, start_of_first, stop_of_last, with_all
-}
+use Rattle.rustc_lexer.specs.Edits.{AreAtOnce, AreInOrder, IsInside, apply, apply_list, start_of_first, stop_of_last}
+use Rattle.rustc_lexer.specs.Edits.{with_all}
 use Rattle.rustc_lexer.specs.declared.{relex.checkpoints.Checkpoints.{Checkpoints}, head.Head.{Head}}
 use Rattle.rustc_lexer.specs.{declared.relex.relexing.Change.{Change}, Token, Classes.{IsText}, Partition.{Layout}}
 use Rattle.rustc_lexer.specs.means.Document.{AreKeptOf, IsPut, edit_change}
@@ -19,12 +16,13 @@ use Rattle.rustc_lexer.proofs.lemmas.edits.{Lists.{apply-last, none}, DocumentEd
 
 pub order-last : (text : List ℕ) (from : ℕ) (es : List Edit) (e : Edit)
     → AreInOrder text from (es ++ e ∷ [])
-        ↔ (AreInOrder text from es × (stop_of_last from es ≤ e.start) × IsInside text e.start e.stop)
+    ↔ (AreInOrder text from es × (stop_of_last from es ≤ e.start) × IsInside text e.start e.stop)
 order-last text from [] e = (λ are. (tt, are.0, are.1), λ is. (is.1, is.2, tt))
 order-last text from (f ∷ es) e =
-    let rest = order-last text f.stop es e in
-    (λ are. ((are.0, are.1, (rest.0 are.2).0), (rest.0 are.2).1, (rest.0 are.2).2),
-        λ is. (is.0.0, is.0.1, rest.1 (is.0.2, is.1, is.2)))
+    let rest = order-last text f.stop es e in (
+      λ are. ((are.0, are.1, (rest.0 are.2).0), (rest.0 are.2).1, (rest.0 are.2).2),
+      λ is. (is.0.0, is.0.1, rest.1 (is.0.2, is.1, is.2)),
+    )
 
 pub stop-last : (from : ℕ) (es : List Edit) (e : Edit) → stop_of_last from (es ++ e ∷ []) ≡ e.stop
 stop-last from [] e = refl
@@ -38,8 +36,8 @@ first_start es w1 = grind (arith, common_steps)
 
 all-last : (text : List ℕ) (from : ℕ) (es : List Edit) (e : Edit)
     → with_all text from (es ++ e ∷ []) ≡
-        with_all text from es
-        ++ (take (e.start - stop_of_last from es) (drop (stop_of_last from es) text) ++ e.insert.now)
+    with_all text from es
+    ++ (take (e.start - stop_of_last from es) (drop (stop_of_last from es) text) ++ e.insert.now)
 all-last text from [] e = grind (arith, common_steps, append-nil)
 all-last text from (f ∷ es) e = grind (arith, common_steps, all-last text f.stop es e, append_assoc)
 
@@ -48,21 +46,29 @@ pub made-last : (text : List ℕ) (es : List Edit) (e : Edit) (last len next : �
     → IsUtf8 (with_all text 0 es) → last ≡ stop_of_last 0 es
     → IsCharBoundary text last
     → len ≡ min (2 ^ 64 - 1) (length (with_all text 0 es)) → last ≤ e.start → IsInside text e.start e.stop
-        → IsUtf8 e.insert.now
+    → IsUtf8 e.insert.now
     → next ≡ min (2 ^ 64 - 1) (len + (e.start - last) + length e.insert.now)
     → IsUtf8 (with_all text 0 (es ++ e ∷ [])) × (next ≡ min (2 ^ 64 - 1) (length (with_all text 0 (es ++ e ∷ []))))
 made-last text es e last len next is are last_is boundary len_is after inside insert next_is =
     let between : List ℕ = take (e.start - last) (drop last text) in
     let more : with_all text 0 (es ++ e ∷ []) ≡ with_all text 0 es ++ (between ++ e.insert.now) =
-        rw last_is (all-last text 0 es e) in
+    rw last_is (all-last text 0 es e) in
     let size : length between ≡ e.start - last =
-        length-take-le (e.start - last) (drop last text)
-        (omega (arith, length-drop last text, inside.start_le_stop, inside.stop_inside)) in (
+    length-take-le (e.start - last) (drop last text)
+    (omega (arith, length-drop last text, inside.start_le_stop, inside.stop_inside)) in (
       subst IsUtf8 (sym more)
           (IsUtf8-append _ _ are
           (IsUtf8-append _ _ (IsUtf8-between text last e.start is after boundary inside.start_boundary) insert)),
-      omega (arith, next_is, len_is, size, ap (λ (xs : List ℕ). length xs) more, length-append (with_all text 0 es)
-          (between ++ e.insert.now), length-append between e.insert.now),
+      omega (
+        arith,
+        next_is,
+        len_is,
+        size,
+        ap (λ (xs : List ℕ). length xs) more,
+        length-append (with_all text 0 es)
+            (between ++ e.insert.now),
+        length-append between e.insert.now,
+      ),
     )
 
 pub order-take : (text : List ℕ) (from : ℕ) (es : List Edit) (n : ℕ) → AreInOrder text from es
@@ -92,41 +98,48 @@ from_first text es w2 = grind (arith, common_steps)
 
 pub applied_is : (text : List ℕ) (es : List Edit) → (es ≡ [] → ⊥)
     → with_all text 0 es ++ drop (stop_of_last 0 es) text ≡ apply text (start_of_first es) (stop_of_last 0 es)
-        (with_all text (start_of_first es) es)
+    (with_all text (start_of_first es) es)
 unfolding apply
 applied_is text es some = grind (arith, common_steps, from_first text es some, append_assoc)
 
 -- what is behind an edit, and what it inserts, put behind the text in front of it
 put_before : (text rest : List ℕ) (from : ℕ) (e : Edit) → from ≤ e.start → IsInside text e.start e.stop
     → apply (take e.stop text ++ rest) e.start e.stop e.insert.now ≡
-        take from text ++ (take (e.start - from) (drop from text) ++ (e.insert.now ++ rest))
+    take from text ++ (take (e.start - from) (drop from text) ++ (e.insert.now ++ rest))
 unfolding apply
 put_before text rest from e after inside =
     let size : length (take e.stop text) ≡ e.stop = length-take-le e.stop text inside.stop_inside in
     let front : take e.start (take e.stop text ++ rest) ≡ take e.start text =
-        take-append-le e.start (take e.stop text) rest (omega (arith, size, inside.start_le_stop))
-        ∙ take-take e.start e.stop text inside.start_le_stop in
+    take-append-le e.start (take e.stop text) rest (omega (arith, size, inside.start_le_stop))
+    ∙ take-take e.start e.stop text inside.start_le_stop in
     let back : drop e.stop (take e.stop text ++ rest) ≡ rest =
-        subst (λ n. drop n (take e.stop text ++ rest) ≡ rest) size (drop-append_seam (take e.stop text) rest) in
+    subst (λ n. drop n (take e.stop text ++ rest) ≡ rest) size (drop-append_seam (take e.stop text) rest) in
     let all : take e.start text ≡ take from text ++ take (e.start - from) (drop from text) =
-        ap (λ n. take n text) (omega (arith, after)) ∙ take-add from (e.start - from) text in
+    ap (λ n. take n text) (omega (arith, after)) ∙ take-add from (e.start - from) text in
     rw (front, back, all)
-        (append_assoc (take from text) (take (e.start - from) (drop from text)) (e.insert.now ++ rest))
+    (append_assoc (take from text) (take (e.start - from) (drop from text)) (e.insert.now ++ rest))
 
 -- one after another, from the last to the first, they make the same text
 backwards : (text : List ℕ) (from : ℕ) (es : List Edit) → AreInOrder text from es → from ≤ length text
     → apply_list text (reverse es) ≡ take from text ++ (with_all text from es ++ drop (stop_of_last from es) text)
 backwards text from [] are few = sym (take-append-drop from text)
 backwards text from (e ∷ es) are few =
-    grind (arith, common_steps, reverse-append, apply-last, put_before, append_assoc,
-        backwards text e.stop es are.2 are.1.stop_inside)
+    grind (
+      arith,
+      common_steps,
+      reverse-append,
+      apply-last,
+      put_before,
+      append_assoc,
+      backwards text e.stop es are.2 are.1.stop_inside,
+    )
 
 pub none_by_one : (text : List ℕ) (es : List Edit) → length es ≡ 0 → text ≡ apply_list text (reverse es)
 none_by_one text es w2 = grind (arith, common_steps)
 
 pub one_by_one : (text : List ℕ) (es : List Edit) → (es ≡ [] → ⊥) → AreInOrder text 0 es
     → apply text (start_of_first es) (stop_of_last 0 es) (with_all text (start_of_first es) es) ≡
-        apply_list text (reverse es)
+    apply_list text (reverse es)
 one_by_one text es some are = sym (applied_is text es some) ∙ sym (backwards text 0 es are (omega arith))
 
 -- what follows a text in a text is one
@@ -141,7 +154,7 @@ pub insert_utf8 : (text : List ℕ) (es : List Edit) → (es ≡ [] → ⊥) →
 insert_utf8 text es some is are all =
     let front = IsUtf8-take text (start_of_first es) is (order_inside text es some are).start_boundary in
     rest_encoded front.0 (with_all text (start_of_first es) es)
-        (rw front.1.1 (subst IsUtf8 (from_first text es some) all))
+    (rw front.1.1 (subst IsUtf8 (from_first text es some) all))
 
 -- where what they insert ends
 pub insert_end : (text : List ℕ) (es : List Edit) → (es ≡ [] → ⊥) → AreInOrder text 0 es → length (with_all text 0 es) ≡

@@ -1,8 +1,6 @@
 -- Bounds of a list of tokens.
-use Rattle.std.proofs.Common.{
-    ◌≡◌, ℕ, zero, suc, ◌+◌, ◌<◌, ◌≤◌, ◌^◌, Bool, cond, List, [], ◌∷◌, ◌++◌, length, drop, ap, ◌∙◌, arith, length-drop,
-    IsCharBoundary
-}
+use Rattle.std.proofs.Common.{◌≡◌, ℕ, zero, suc, ◌+◌, ◌<◌, ◌≤◌, ◌^◌, Bool, cond, List, [], ◌∷◌, ◌++◌, length, drop, ap}
+use Rattle.std.proofs.Common.{◌∙◌, arith, length-drop, IsCharBoundary}
 use Rattle.std.proofs.lemmas.List.Sums.{sum_by_from}
 use Rattle.std.specs.List.{count_by}
 use Rattle.std.proofs.lemmas.{List.{drop_all}, Str.{IsCharBoundary-from_drop, IsUtf8-drop}, Grind.{common_steps}}
@@ -35,7 +33,7 @@ rises {first} law text is k few =
     let left : List ℕ = drop (bound (tokens_by first text) k) text in
     let some : 0 < length left = non-empty left cut.rest in
     let next : IsNext (tokens_by first text) k (first left) =
-        next-from_drop _ k _ _ (cut.rest ∙ tokens-cons law left cut.past some) in
+    next-from_drop _ k _ _ (cut.rest ∙ tokens-cons law left cut.past some) in
     omega (arith, next.end, law.not_empty left cut.past some)
   where
     non-empty : (left : List ℕ) → drop k (tokens_by first text) ≡ tokens_by first left → 0 < length left

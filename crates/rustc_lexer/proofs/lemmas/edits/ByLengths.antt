@@ -1,12 +1,9 @@
 -- Tokens that are known by their lengths alone: which bounds are found, and where a search of the old ones ends.
-use Rattle.std.proofs.Common.{
-    ◌≡◌, ℕ, ◌+◌, ◌-◌, ◌<◌, ◌≤◌, Bool, false, ◌||◌, eqb, eq-eqb, List, ◌++◌, length, map, take, drop, sym, ap, ◌∙◌,
-    subst, arith, length-drop, length-append, IsUtf8, drop-drop, length-take-le, append_assoc, eq-or-lt_of_le,
-    IsCharBoundary, max, true, get_or
-}
-use Rattle.std.proofs.lemmas.Str.{
-    IsUtf8-append, IsUtf8-drop, IsCharBoundary-at_seam, IsCharBoundary-from_drop, IsUtf8-take, IsCharBoundary-from_take
-}
+use Rattle.std.proofs.Common.{◌≡◌, ℕ, ◌+◌, ◌-◌, ◌<◌, ◌≤◌, Bool, false, ◌||◌, eqb, eq-eqb, List, ◌++◌, length, map, take}
+use Rattle.std.proofs.Common.{drop, sym, ap, ◌∙◌, subst, arith, length-drop, length-append, IsUtf8, drop-drop}
+use Rattle.std.proofs.Common.{length-take-le, append_assoc, eq-or-lt_of_le, IsCharBoundary, max, true, get_or}
+use Rattle.std.proofs.lemmas.Str.{IsUtf8-append, IsUtf8-drop, IsCharBoundary-at_seam, IsCharBoundary-from_drop}
+use Rattle.std.proofs.lemmas.Str.{IsUtf8-take, IsCharBoundary-from_take}
 use Rattle.std.proofs.lemmas.Grind.{common_steps}
 use Rattle.rustc_lexer.specs.declared.relex.{front.{Damage.Damage, TokenStart.TokenStart}, relexing.Change.{Change}}
 use Rattle.rustc_lexer.specs.{Token, Eof, Tokens.{bound, tokens_by}, Edits.{apply}, Offsets.{IsBound}}
@@ -43,18 +40,20 @@ stand_alike old text offset start two is its same inside cut late here =
 pub next_stands : {X : Type 0} (f : X → ℕ) (xs : List X) {old text : List ℕ} {ts : List Token} {start : ℕ}
     → IsFront old ts (map f xs) text start → IsUtf8 text
     → start ≤ length text → (at : TokenStart) → IsBound ts at → at.index < length xs → (x : X) (len : ℕ) → len ≡ f x
-        → x ≡ get_or xs at.index x
+    → x ≡ get_or xs at.index x
     → (two : Bool) → (start ≤ at.offset + len → two ≡ false)
-        → (IsCharBoundary text (at.offset + len) → two ≡ has_two text (at.offset + len) start)
+    → (IsCharBoundary text (at.offset + len) → two ≡ has_two text (at.offset + len) start)
     → IsBound ts (record { index = at.index + 1; offset = at.offset + len })
-        × (two ≡ has_two old (at.offset + len) start)
+    × (two ≡ has_two old (at.offset + len) start)
 next_stands f xs {old} {text} {ts} {start} is its inside at here_is few x len len_is x_is two late here =
     let fewer : at.index < length ts = omega (arith, few, as_many f xs ts is.lengths_are) in
     let long = as_long f xs ts is.lengths_are at.index x len len_is x_is few in
     let next : at.offset + len ≡ bound ts (at.index + 1) =
-        omega (arith, here_is.1, long, bound-next ts at.index no_token fewer) in
-    ((omega arith, next), stand_alike old text _ start two is.utf8 its is.same inside
-        (rw next (is.cuts (at.index + 1) (omega arith))) late here)
+    omega (arith, here_is.1, long, bound-next ts at.index no_token fewer) in (
+      (omega arith, next),
+      stand_alike old text _ start two is.utf8 its is.same inside
+          (rw next (is.cuts (at.index + 1) (omega arith))) late here,
+    )
 
 -- where two characters stand before an offset, it is past them
 pub stood_before : (offset start : ℕ) (two : Bool) → (start ≤ offset → two ≡ false) → two ≡ true → offset ≤ start
@@ -80,23 +79,30 @@ module _ {first : List ℕ → Token} (law : IsGrammar first) {before lengths in
       → IsBound old from
       → ((k : ℕ) → k < from.index → bound old k + change.new_stop < max change.new_stop offset + change.old_stop)
       → (lengths ≡ map (λ (t : Token). t.len) old → IsBound old from
-          → ((k : ℕ) → k < from.index → bound old k + damage.past < max damage.past offset + damage.old_stop)
-          → (offset ≡ damage.end → IsLast old (offset - damage.past + damage.old_stop))
-          → IsFollowed old damage.old_stop damage.past offset back met)
+      → ((k : ℕ) → k < from.index → bound old k + damage.past < max damage.past offset + damage.old_stop)
+      → (offset ≡ damage.end → IsLast old (offset - damage.past + damage.old_stop))
+      → IsFollowed old damage.old_stop damage.past offset back met)
       → IsFollowed old change.old_stop change.new_stop offset back met
   follows {damage} {from} {back} {met} offset e at passed follow =
       subst (λ (d : Damage).
-          (IsBound old from → ((k : ℕ) → k < from.index → bound old k + d.past < max d.past offset + d.old_stop)
-          → (offset ≡ d.end → IsLast old (offset - d.past + d.old_stop))
-          → IsFollowed old d.old_stop d.past offset back met)) e (follow is.lengths_are) at passed (end_last offset)
+      (IsBound old from → ((k : ℕ) → k < from.index → bound old k + d.past < max d.past offset + d.old_stop)
+      → (offset ≡ d.end → IsLast old (offset - d.past + d.old_stop))
+      → IsFollowed old d.old_stop d.past offset back met)) e (follow is.lengths_are) at passed (end_last offset)
 
 -- the offset past a token
 pub step_offset : {first : List ℕ → Token} (law : IsGrammar first) (text : List ℕ) (at : ℕ) (token : Token)
     → IsText text → IsCharBoundary text at → at < length text → token ≡ first (drop at text)
     → (0 < token.len) × IsCharBoundary text (at + token.len)
 step_offset {first} law text at token is cut more token_is =
-    grind (arith, length-drop at text, token_is, (ap (λ (t : Token). t.len) token_is), drop-drop token.len at text,
-        IsUtf8-drop, IsCharBoundary-from_drop)
+    grind (
+      arith,
+      length-drop at text,
+      token_is,
+      (ap (λ (t : Token). t.len) token_is),
+      drop-drop token.len at text,
+      IsUtf8-drop,
+      IsCharBoundary-from_drop,
+    )
 
 -- where relexing is not over, more text is left
 pub not_over : (met : Bool) (at end : ℕ) → at ≤ end → (met || eqb at end) ≡ false → (met ≡ false) × (at < end)
@@ -110,13 +116,13 @@ made_change {text} {insert} {new} {change} e =
     let front : List ℕ = take change.start text in
     let back : List ℕ = drop change.old_stop text in
     let short : length front ≡ change.start =
-        length-take-le change.start text (omega (arith, inside.start_le_stop, inside.stop_inside)) in
+    length-take-le change.start text (omega (arith, inside.start_le_stop, inside.stop_inside)) in
     let back_utf8 : IsUtf8 back = IsUtf8-drop text change.old_stop e.is_text.utf8 inside.stop_boundary in
     let next : length (front ++ insert) ≡ change.new_stop =
-        omega (arith, length-append front insert, short, e.new_stop) in
+    omega (arith, length-append front insert, short, e.new_stop) in
     let stop_boundary : IsCharBoundary new change.new_stop =
     subst (IsCharBoundary new) next
-        (IsCharBoundary-at_seam new (front ++ insert) back (e.made ∙ sym (append_assoc front insert back)) back_utf8) in
+    (IsCharBoundary-at_seam new (front ++ insert) back (e.made ∙ sym (append_assoc front insert back)) back_utf8) in
     record {
       inserted = record {
         start_le_stop = (edited e).start_le_new;

@@ -1,7 +1,6 @@
 -- Bounds that are remembered are bounds of the tokens that an edit leaves.
-use Rattle.std.proofs.Common.{
-    ◌≡◌, ℕ, ◌+◌, ◌-◌, ◌≤◌, List, length, take, drop, sym, ap, ◌∙◌, arith, length-drop, take-take
-}
+use Rattle.std.proofs.Common.{◌≡◌, ℕ, ◌+◌, ◌-◌, ◌≤◌, List, length, take, drop, sym, ap, ◌∙◌, arith, length-drop}
+use Rattle.std.proofs.Common.{take-take}
 use Rattle.std.specs.List.{All}
 use Rattle.std.proofs.lemmas.Grind.{common_steps}
 use Rattle.rustc_lexer.specs.declared.relex.{front.TokenStart.{TokenStart}, checkpoints.Checkpoints.{Checkpoints}}
@@ -14,10 +13,18 @@ module _ (old new : List Token) (kept met now : TokenStart) (is : IsReplaced old
   -- a bound of the kept front stays
   pub front_stays : (at : TokenStart) → at.index ≤ kept.index → IsBound old at → IsBound new at
   front_stays at few here =
-      grind (arith, common_steps, take-take at.index kept.index old few, is.front,
-          take-take at.index kept.index new few, is.kept_le, is.now_bound.0, bound-same at.index old new
-          (sym (take-take at.index kept.index old few)
-          ∙ (ap (take at.index) (sym is.front) ∙ take-take at.index kept.index new few)))
+      grind (
+        arith,
+        common_steps,
+        take-take at.index kept.index old few,
+        is.front,
+        take-take at.index kept.index new few,
+        is.kept_le,
+        is.now_bound.0,
+        bound-same at.index old new
+            (sym (take-take at.index kept.index old few)
+            ∙ (ap (take at.index) (sym is.front) ∙ take-take at.index kept.index new few)),
+      )
 
   pub kept_stays : IsBound new kept
   kept_stays = front_stays kept (omega arith) is.kept_bound
@@ -31,12 +38,19 @@ module _ (old new : List Token) (kept met now : TokenStart) (is : IsReplaced old
       let turned : now.index + m ≡ m + now.index = omega arith in
       let long : length (drop now.index new) ≡ length (drop met.index old) = ap length is.back in
       let before : at.offset ≡ bound old met.index + bound (drop met.index old) m =
-          here.1 ∙ (ap (bound old) (sym there) ∙ bound-shift old met.index m) in
+      here.1 ∙ (ap (bound old) (sym there) ∙ bound-shift old met.index m) in
       let after : bound new (m + now.index) ≡ bound new now.index + bound (drop met.index old) m =
       ap (bound new) (sym turned)
-          ∙ (bound-shift new now.index m ∙ ap (λ ts. bound new now.index + bound ts m) is.back) in (
-        omega (arith, long, here.0, is.met_bound.0, is.now_bound.0, length-drop now.index new,
-            length-drop met.index old),
+      ∙ (bound-shift new now.index m ∙ ap (λ ts. bound new now.index + bound ts m) is.back) in (
+        omega (
+          arith,
+          long,
+          here.0,
+          is.met_bound.0,
+          is.now_bound.0,
+          length-drop now.index new,
+          length-drop met.index old,
+        ),
         omega (arith, before, after, is.met_bound.1, is.now_bound.1),
       )
 

@@ -1,9 +1,7 @@
 -- An edit of what is kept with a text: what is put in place of its old tokens.
-use Rattle.std.proofs.Common.{
-    ◌≡◌, ◌↔◌, ℕ, ◌+◌, ◌-◌, ◌<◌, ◌≤◌, ◌^◌, Bool, true, false, if◌then◌else◌, IsTrue, List, ◌++◌, length, map, take, drop,
-    refl, sym, ap, ap₂, ◌∙◌, subst, arith, length-append, length-drop, rules, Result, Ok, Err, ◌&&◌, nat_le, true≢false,
-    IsUtf8
-}
+use Rattle.std.proofs.Common.{◌≡◌, ◌↔◌, ℕ, ◌+◌, ◌-◌, ◌<◌, ◌≤◌, ◌^◌, Bool, true, false, if◌then◌else◌, IsTrue, List}
+use Rattle.std.proofs.Common.{◌++◌, length, map, take, drop, refl, sym, ap, ap₂, ◌∙◌, subst, arith, length-append}
+use Rattle.std.proofs.Common.{length-drop, rules, Result, Ok, Err, ◌&&◌, nat_le, true≢false, IsUtf8}
 use Rattle.std.specs.List.{All, Contains}
 use Rattle.std.proofs.lemmas.List.{take_rest, Elements.{All-contains}}
 use Rattle.std.proofs.Math.Seq.{drop-append_seam, drop-append-add, take-append_seam, take-append-add}
@@ -11,9 +9,8 @@ use Rattle.std.proofs.lemmas.Grind.{common_steps}
 use Rattle.rustc_lexer.specs.declared.relex.{checkpoints.Checkpoints.{Checkpoints}, front.TokenStart.{TokenStart}}
 use Rattle.rustc_lexer.specs.declared.head.Head.{Head}
 use Rattle.rustc_lexer.specs.{declared.relex.relexing.{Change.Change, Relexed.Relexed, Relexing.Relexing}, Token}
-use Rattle.rustc_lexer.specs.means.Document.{
-    body_change, body_insert, counted, IsHeadIn, IsPut, tokens_of_head, AreKeptOf, TakesFew, edit_change, text_left
-}
+use Rattle.rustc_lexer.specs.means.Document.{body_change, body_insert, counted, IsHeadIn, IsPut, tokens_of_head}
+use Rattle.rustc_lexer.specs.means.Document.{AreKeptOf, TakesFew, edit_change, text_left}
 use Rattle.rustc_lexer.specs.{Partition.{Layout, tokens_in}, Kept.{AreKept, Held, HasStepCount, IsEdited, layout_in}}
 use Rattle.rustc_lexer.specs.{Offsets.{IsBound}, Relexing.{IsMadeOf, known, IsEditOf}, Locality.{IsGrammar}}
 use Rattle.rustc_lexer.specs.{Tokens.{tokens_by}, means.Checkpoints.{AreBounds, IsMovable, IsReplaced, end_of}}
@@ -27,7 +24,7 @@ use Rattle.rustc_lexer.specs.{Classes.{IsText}, Edits.{apply, IsEdit}, laws.Same
 module _ {layout : (List ℕ → Token) → List ℕ → Layout} {first : List ℕ → Token} (law : IsGrammar first)
     {before insert made : List ℕ} {tokens : List Token}
     {old : Head} {checkpoints : Checkpoints} {edit : Change}
-        (p : IsPut layout first before insert edit made tokens old checkpoints) where
+    (p : IsPut layout first before insert edit made tokens old checkpoints) where
   abbrev n : ℕ
   n = length (tokens_of_head old)
 
@@ -63,7 +60,7 @@ module _ {layout : (List ℕ → Token) → List ℕ → Layout} {first : List �
     module _ {lexed : List Token} {at : Relexing} (l : IsLexed first (drop old.body before) change body lexed at)
         {new : List Token}
         (put : new ≡ (if kept then take n tokens else tokens_of_head now)
-            ++ (take at.front.index (drop n tokens) ++ (lexed ++ drop at.back.index (drop n tokens))))
+        ++ (take at.front.index (drop n tokens) ++ (lexed ++ drop at.back.index (drop n tokens))))
       where
         abbrev fresh : List Token
         fresh = tokens_by first body
@@ -103,7 +100,7 @@ module _ {layout : (List ℕ → Token) → List ℕ → Layout} {first : List �
               back = rest;
             } in
             let movable = movable_for law made_here.edit_of.is_text (edited made_here.edit_of).text_is checkpoints refl
-                refl replaced in
+            refl replaced in
             (movable (subst (λ ts. AreBounds ts checkpoints) old_behind p.kept.4), replaced)
 
         abbrev counts : Relexed
@@ -113,8 +110,13 @@ module _ {layout : (List ℕ → Token) → List ℕ → Layout} {first : List �
             × (at.back.index ≤ length behind)
             × (length new ≡ length (tokens_of_head now) + length fresh) × (length tokens ≡ n + length behind)
         sizes = (
-          omega (arith, ap (λ (ts : List Token). length ts) rest, length-drop (known at) fresh,
-              length-drop at.back.index behind, l.under_way.inside),
+          omega (
+            arith,
+            ap (λ (ts : List Token). length ts) rest,
+            length-drop (known at) fresh,
+            length-drop at.back.index behind,
+            l.under_way.inside,
+          ),
           l.under_way.back_bound.0,
           ap (λ (ts : List Token). length ts) new_is ∙ length-append (tokens_of_head now) fresh,
           ap (λ (ts : List Token). length ts) all ∙ length-append (tokens_of_head old) behind,
@@ -124,7 +126,7 @@ module _ {layout : (List ℕ → Token) → List ℕ → Layout} {first : List �
             → drop k new ≡ drop back tokens
         back_with k back e f = ap₂ drop e new_is
             ∙ (drop-append-add (tokens_of_head now) fresh (known at)
-                ∙ (rest ∙ sym (ap₂ drop f all ∙ drop-append-add (tokens_of_head old) behind at.back.index)))
+            ∙ (rest ∙ sym (ap₂ drop f all ∙ drop-append-add (tokens_of_head old) behind at.back.index)))
 
         -- the counts are those of all tokens
         pub counted_are : AreKept tokens new (counted kept n (length (tokens_of_head now)) counts)
@@ -143,7 +145,7 @@ module _ {layout : (List ℕ → Token) → List ℕ → Layout} {first : List �
             by_kept false same =
                 let none : at.front.index ≡ 0 = l.under_way.front
                 ∙ (ap (λ (k : Bool). kept_front (drop old.body before) behind
-                    (body_change k old.body now.body edit).start) same
+                (body_change k old.body now.body edit).start) same
                 ∙ kept_none (drop old.body before) behind) in
                 record {
                   all = omega (arith, sizes.0, sizes.2);
@@ -153,22 +155,26 @@ module _ {layout : (List ℕ → Token) → List ℕ → Layout} {first : List �
 
         pub counted_few : at.front.index < 2 ^ 33
         counted_few =
-            omega (arith, l.under_way.front_bound.0,
-                tokens_le_bytes law (drop old.body before) made_here.edit_of.is_text, made_here.edit_of.is_text.fits)
+            omega (
+              arith,
+              l.under_way.front_bound.0,
+              tokens_le_bytes law (drop old.body before) made_here.edit_of.is_text,
+              made_here.edit_of.is_text.fits,
+            )
 
 -- the edit of the body, as it is read
 pub made_read : {layout : (List ℕ → Token) → List ℕ → Layout} {first : List ℕ → Token}
     (law : IsGrammar first) {before insert made read body : List ℕ} {tokens slice : List Token} {old now : Head}
-        {checkpoints : Checkpoints}
+    {checkpoints : Checkpoints}
     {edit change : Change} {kept : Bool} {n : ℕ} (p : IsPut layout first before insert edit made tokens old checkpoints)
     → read ≡ made → IsHeadIn layout read now → IsTrue kept ↔ ((old ≡ now) × (old.body ≤ edit.start))
-        → n ≡ length (tokens_of_head old)
+    → n ≡ length (tokens_of_head old)
     → body ≡ drop now.body read → change ≡ body_change kept old.body now.body edit → slice ≡ tokens
     → IsMadeOf first (drop old.body before) (map (λ (t : Token). t.len) (take (length slice - n) (drop n slice))) change
     (body_insert kept change insert body) body
 made_read law {slice = slice} {n = n} p read_is now_is decided n_is body_is change_is slice_is =
     rw (take_rest slice n, slice_is, n_is, old_behind law p, change_is, body_is, read_is)
-        (made_here law p (rw read_is at now_is) decided)
+    (made_here law p (rw read_is at now_is) decided)
 
 -- ---- an edit of what is kept
 
@@ -188,7 +194,7 @@ few_none law whole text insert start stop before is its edit =
     let old = head_in whole text is in
     let now = head_in whole (apply text start stop insert) (edited e).text_is in
     few_by law e old.1 now.1 (stays_by old.0 now.0 start (is_same_head old.0 now.0) (decided_head _ old.0 now.0 refl))
-        before before (λ x counts. omega arith)
+    before before (λ x counts. omega arith)
 
 -- the text is made by an edit of what is kept
 pub put_by : {layout : (List ℕ → Token) → List ℕ → Layout} {first : List ℕ → Token}
@@ -218,7 +224,7 @@ pub refused : {S E : Type 0} {layout : List ℕ → Layout} {text left insert : 
     {tokens now : List Token} {stepper later : S} (r : Result Relexed E)
     → IsErr r → tokens ≡ tokens_in (layout text) → left ≡ text → now ≡ tokens
     → IsEdited layout (record { text = text; tokens = tokens; stepper = stepper }) start stop insert r
-        (record { text = left; tokens = now; stepper = later })
+    (record { text = left; tokens = now; stepper = later })
 refused (Ok x) err scratch left_is now_is = absurd (true≢false (sym err))
 refused {layout = layout} (Err e) err scratch left_is now_is = record {
   text = search rules;

@@ -1,16 +1,13 @@
 -- What an edit keeps: the front by locality, the back by a bound that both texts have.
-use Rattle.std.proofs.Common.{
-    ◌≡◌, ℕ, zero, suc, ◌+◌, ◌-◌, ◌*◌, ◌<◌, ◌≤◌, true, false, List, [], ◌∷◌, ◌++◌, length, take, drop, refl, sym, ap,
-    ◌∙◌, arith, length-drop, length-append, drop-drop, take-take, take-append-drop, take-add, take_at, drop_at,
-    length-take-le, IsUtf8, IsCharBoundary, chars, leb-true, le-leb, leb, is_some, slice_get, encode_utf8, slice_range,
-    append_assoc, Result, IfErr, OnOk, OnErr
-}
+use Rattle.std.proofs.Common.{◌≡◌, ℕ, zero, suc, ◌+◌, ◌-◌, ◌*◌, ◌<◌, ◌≤◌, true, false, List, [], ◌∷◌, ◌++◌, length}
+use Rattle.std.proofs.Common.{take, drop, refl, sym, ap, ◌∙◌, arith, length-drop, length-append, drop-drop, take-take}
+use Rattle.std.proofs.Common.{take-append-drop, take-add, take_at, drop_at, length-take-le, IsUtf8, IsCharBoundary}
+use Rattle.std.proofs.Common.{chars, leb-true, le-leb, leb, is_some, slice_get, encode_utf8, slice_range, append_assoc}
+use Rattle.std.proofs.Common.{Result, IfErr, OnOk, OnErr}
 use Rattle.std.specs.List.{replace_range}
 use Rattle.std.proofs.lemmas.{List.{drop-take, take-append-le}, Grind.{common_steps}}
-use Rattle.std.proofs.lemmas.Str.{
-    chars_past_char, chars-nil, IsUtf8-append, IsUtf8-take, IsUtf8-drop, IsUtf8-between, IsCharBoundary-from_drop,
-    chars-append, length-encode, len_utf8_bounds, encodes-chars
-}
+use Rattle.std.proofs.lemmas.Str.{chars_past_char, chars-nil, IsUtf8-append, IsUtf8-take, IsUtf8-drop, IsUtf8-between}
+use Rattle.std.proofs.lemmas.Str.{IsCharBoundary-from_drop, chars-append, length-encode, len_utf8_bounds, encodes-chars}
 use Rattle.std.proofs.Math.Utf8.{encodes}
 use Rattle.rustc_lexer.specs.{Token, Locality.{AgreePast, IsGrammar, has_two}, Classes.{IsText}}
 use Rattle.rustc_lexer.specs.{Tokens.{bound, tokens_by}, Edits.{apply}, Relexing.{IsEditOf}}
@@ -39,18 +36,28 @@ edited {text} {insert} {new} {edit} e =
     let front : List ℕ = take start text in
     let back : List ℕ = drop edit.old_stop text in
     let first : length front ≡ start =
-        length-take-le start text (omega (arith, inside.start_le_stop, inside.stop_inside)) in
+    length-take-le start text (omega (arith, inside.start_le_stop, inside.stop_inside)) in
     let long : length new ≡ start + (length insert + (length text - edit.old_stop)) =
-    omega (arith, ap length e.made, length-append front (insert ++ back), length-append insert back,
-        length-drop edit.old_stop text, first) in
+    omega (
+      arith,
+      ap length e.made,
+      length-append front (insert ++ back),
+      length-append insert back,
+      length-drop edit.old_stop text,
+      first,
+    ) in
     record {
       start_le_old = inside.start_le_stop;
       old_inside = inside.stop_inside;
       start_le_new = omega (arith, e.new_stop);
       len = omega (arith, long, e.new_stop, inside.stop_inside);
       front = ap (take start) e.made ∙ take_at front (insert ++ back) start first;
-      back = rw (e.made, e.new_stop, sym (drop-drop (length insert) start (front ++ (insert ++ back))),
-          drop_at front (insert ++ back) start first)
+      back = rw (
+        e.made,
+        e.new_stop,
+        sym (drop-drop (length insert) start (front ++ (insert ++ back))),
+        drop_at front (insert ++ back) start first,
+      )
           (drop_at insert back (length insert) refl);
       text_is = record {
         utf8 = rw e.made (IsUtf8-append _ _ (IsUtf8-take text start e.is_text.utf8 inside.start_boundary)
@@ -62,8 +69,15 @@ edited {text} {insert} {new} {edit} e =
 -- two characters or more decide what a text shows
 pub look-enough : (xs ys zs : List ℕ) → IsUtf8 xs → 2 ≤ length (chars xs) → look (xs ++ ys) ≡ look (xs ++ zs)
 look-enough xs ys zs is two =
-    grind (arith, common_steps, chars-append xs ys is, chars-append xs zs is, take-append-le 2 (chars xs)
-    (chars ys) two, take-append-le 2 (chars xs) (chars zs) two)
+    grind (
+      arith,
+      common_steps,
+      chars-append xs ys is,
+      chars-append xs zs is,
+      take-append-le 2 (chars xs)
+          (chars ys) two,
+      take-append-le 2 (chars xs) (chars zs) two,
+    )
 
 positive : (n : ℕ) (xs : List ℕ) → 2 ≤ length (chars (take n xs)) → 0 < n
 positive n xs w2 = grind (arith, common_steps, chars-nil)
@@ -92,14 +106,14 @@ has_two-agree text new offset start is same two =
     let before : offset < start = (let some = positive (start - offset) (drop offset text) enough in omega arith) in
     let there : start ≡ offset + (start - offset) = omega arith in
     let below : take offset text ≡ take offset new = sym (take-take offset start text (omega arith))
-        ∙ (ap (take offset) (sym same) ∙ take-take offset start new (omega arith)) in
+    ∙ (ap (take offset) (sym same) ∙ take-take offset start new (omega arith)) in
     let its_middle : take (start - offset) (drop offset new) ≡ middle =
     sym (drop-take offset (start - offset) new)
-        ∙ (ap (λ n. drop offset (take n new)) (sym there)
-        ∙ (ap (drop offset) same
-        ∙ (ap (λ n. drop offset (take n text)) there ∙ drop-take offset (start - offset) text))) in
+    ∙ (ap (λ n. drop offset (take n new)) (sym there)
+    ∙ (ap (drop offset) same
+    ∙ (ap (λ n. drop offset (take n text)) there ∙ drop-take offset (start - offset) text))) in
     let here : look (middle ++ drop (start - offset) (drop offset text)) ≡
-        look (middle ++ drop (start - offset) (drop offset new)) = look-enough _ _ _ is enough in
+    look (middle ++ drop (start - offset) (drop offset new)) = look-enough _ _ _ is enough in
     record {
       below = below;
       past = sym (ap look (take-append-drop (start - offset) (drop offset text)))
@@ -131,7 +145,7 @@ module _ {first : List ℕ → Token} (law : IsGrammar first) {text insert new :
       IsUtf8-between text offset edit.start e.is_text.utf8 (omega arith)
       (IsCharBoundary-from_drop text offset cut.inside cut.past.utf8) e.is_edit.inside.start_boundary in
       tokens_local law (suc k) text new e.is_text (edited e).text_is few
-          (has_two-agree text new offset edit.start middle (edited e).front has)
+      (has_two-agree text new offset edit.start middle (edited e).front has)
 
   -- past the edit both texts have the same rest
   pub same_rest : (p : ℕ) → edit.new_stop ≤ p → drop p new ≡ drop (p - edit.new_stop + edit.old_stop) text
@@ -150,7 +164,7 @@ module _ {first : List ℕ → Token} (law : IsGrammar first) {text insert new :
       let same : drop (bound (tokens_by first new) j) new ≡ drop (bound (tokens_by first text) i) text =
       same_rest (bound (tokens_by first new) j) past ∙ ap (λ n. drop n text) (omega (arith, met, past)) in
       (at_bound law j new (edited e).text_is).rest
-          ∙ (ap (tokens_by first) same ∙ sym (at_bound law i text e.is_text).rest)
+      ∙ (ap (tokens_by first) same ∙ sym (at_bound law i text e.is_text).rest)
 
 pub drop_of-take : (p n : ℕ) (xs : List ℕ) → drop p (take n xs) ≡ take (n - p) (drop p xs)
 drop_of-take zero n xs = grind (arith, common_steps)
@@ -182,8 +196,8 @@ has_two-mono text offset later to is le b c two =
     ap (λ zs. xs ++ take (to - later) zs) (drop-drop (later - offset) offset text ∙ ap (λ n. drop n text) next)) in
     let enough = has_two-count text later to two in
     has_two-intro text offset to
-        (rw (split, chars-append xs ys (IsUtf8-between text offset later is le b c))
-        (omega (arith, length-append (chars xs) (chars ys), enough)))
+    (rw (split, chars-append xs ys (IsUtf8-between text offset later is le b c))
+    (omega (arith, length-append (chars xs) (chars ys), enough)))
 
 -- whether a second character stands past the first
 pub two_chars : (text : List ℕ) (from to : ℕ) (bs rest : List ℕ) (c : ℕ) → bs ≡ take (to - from) (drop from text)
@@ -191,8 +205,8 @@ pub two_chars : (text : List ℕ) (from to : ℕ) (bs rest : List ℕ) (c : ℕ)
 unfolding has_two
 two_chars text from to bs rest c e is split =
     count (chars rest)
-        ∙ sym (ap (λ xs. leb 2 (length (chars xs))) (sym e)
-        ∙ ap (λ xs. leb 2 (length xs)) (chars_past_char bs rest c is split))
+    ∙ sym (ap (λ xs. leb 2 (length (chars xs))) (sym e)
+    ∙ ap (λ xs. leb 2 (length xs)) (chars_past_char bs rest c is split))
   where
     count : (cs : List ℕ) → is_some (slice_get cs 0) ≡ leb 2 (suc (length cs))
     count [] = refl
@@ -211,16 +225,16 @@ has_two-long text offset to is from until long =
     let inside : to ≤ length text = until.0 in
     let its : IsUtf8 xs = IsUtf8-between text offset to is (omega arith) from until in
     let bytes : length xs ≡ to - offset =
-        length-take-le (to - offset) (drop offset text) (omega (arith, length-drop offset text)) in
+    length-take-le (to - offset) (drop offset text) (omega (arith, length-drop offset text)) in
     let enough : 2 ≤ length (chars xs) =
-        omega (arith, bytes, ap length (encodes-chars xs its), length-encodes (chars xs)) in
+    omega (arith, bytes, ap length (encodes-chars xs its), length-encodes (chars xs)) in
     has_two-intro text offset to enough
 
 -- what is put in place, where there is room for it
 pub put_is : {E : Type 0} (result : Result Unit E) (text insert new : List ℕ) (start stop len room : ℕ)
     → len + length insert ≤ room
     → OnOk result (new ≡ replace_range text start stop insert) → OnErr result (room < len + length insert)
-        → new ≡ apply text start stop insert
+    → new ≡ apply text start stop insert
 unfolding apply
 put_is result text insert new start stop len room w8 w9 w10 = grind (arith, common_steps, append_assoc)
 
@@ -230,9 +244,9 @@ pub three_parts : (text : List ℕ) (start stop : ℕ) → start ≤ stop
 three_parts text start stop less =
     let turned : stop ≡ start + (stop - start) = omega arith in
     ap (λ back. take start text ++ (slice_range text start stop ++ back))
-        (ap (λ n. drop n text) turned ∙ sym (drop-drop (stop - start) start text))
+    (ap (λ n. drop n text) turned ∙ sym (drop-drop (stop - start) start text))
     ∙ (ap (λ rest. take start text ++ rest) (take-append-drop (stop - start) (drop start text))
-        ∙ take-append-drop start text)
+    ∙ take-append-drop start text)
 
 -- what was taken out is put back
 pub put_back : {text insert new : List ℕ} {edit : Change} → IsEditOf text edit insert new

@@ -1,8 +1,6 @@
 -- The head of a text, by where the tokens of the text are.
-use Rattle.std.proofs.Common.{
-    ◌≡◌, ◌↔◌, ℕ, zero, suc, ◌+◌, ◌≤◌, Bool, true, false, List, [], length, refl, sym, ap, ap₂, ◌∙◌, subst, arith, drop,
-    length-take-le, Option, None, IsCharBoundary
-}
+use Rattle.std.proofs.Common.{◌≡◌, ◌↔◌, ℕ, zero, suc, ◌+◌, ◌≤◌, Bool, true, false, List, [], length, refl, sym, ap, ap₂}
+use Rattle.std.proofs.Common.{◌∙◌, subst, arith, drop, length-take-le, Option, None, IsCharBoundary}
 use Rattle.std.proofs.lemmas.{Grind.{common_steps}, Str.{IsCharBoundary-start}}
 use Rattle.rustc_lexer.specs.{Edition, Token, declared.head.Head.{Head}, Answers.{first_in}, Classes.{IsText}}
 use Rattle.rustc_lexer.specs.Document.{body_start, head_tokens, tokens_start, whole_by}
@@ -78,14 +76,20 @@ module _ {layout : (List ℕ → Token) → List ℕ → Layout} {text made : Li
     (old_is : IsHeadIn layout text old) (now_is : IsHeadIn layout made now) (first : List ℕ → Token) (start : ℕ) where
   pub head_stays : {of to : Layout} → of ≡ by_head old first text → to ≡ by_head now first made → KeepsHead of to start
       ↔ ((old ≡ now) × (old.body ≤ start))
-  head_stays of_is to_is = rw (of_is, to_is)
-      (kept, λ s. (omega (arith, s.1, body_at old_is first), ap (λ (h : Head). h.tokens_start) s.0,
-          ap tokens_of_head s.0))
+  head_stays of_is to_is = rw (of_is, to_is) (
+    kept,
+    λ s. (
+      omega (arith, s.1, body_at old_is first),
+      ap (λ (h : Head). h.tokens_start) s.0,
+      ap tokens_of_head s.0,
+    ),
+  )
     where
       kept : KeepsHead (by_head old first text) (by_head now first made) start → (old ≡ now) × (old.body ≤ start)
       kept k =
           let parts = same-parts old.space_len now.space_len old.frontmatter now.frontmatter old_is.bare now_is.bare
-              k.2 in
-          let end = old_is.ends ∙ (ap₂ (λ n (ts : List Token). n + bound ts (length ts)) k.1 k.2 ∙ sym now_is.ends) in
-          ((λ i. record { tokens_start = k.1 i; space_len = parts.0 i; frontmatter = parts.1 i; body = end i }),
-              omega (arith, k.0, body_at old_is first))
+          k.2 in
+          let end = old_is.ends ∙ (ap₂ (λ n (ts : List Token). n + bound ts (length ts)) k.1 k.2 ∙ sym now_is.ends) in (
+            (λ i. record { tokens_start = k.1 i; space_len = parts.0 i; frontmatter = parts.1 i; body = end i }),
+            omega (arith, k.0, body_at old_is first),
+          )

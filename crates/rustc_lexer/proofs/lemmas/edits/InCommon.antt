@@ -1,10 +1,8 @@
 -- What two texts have in common at their ends, and the edit of what is between.
 use Rattle.std.proofs.lemmas.Grind.{common_steps}
-use Rattle.std.proofs.Common.{
-    ◌≡◌, ◌↔◌, Bool, false, IsTrue, ℕ, ◌+◌, ◌-◌, ◌^◌, ◌<◌, ◌≤◌, ◌++◌, List, length, take, drop, slice_range, refl, sym,
-    ap, ap₂, ◌∙◌, subst, arith, drop-drop, take-take, take_at, drop_at, length-append, length-drop, length-take,
-    length-take-le, IsUtf8, IsCharBoundary
-}
+use Rattle.std.proofs.Common.{◌≡◌, ◌↔◌, Bool, false, IsTrue, ℕ, ◌+◌, ◌-◌, ◌^◌, ◌<◌, ◌≤◌, ◌++◌, List, length, take, drop}
+use Rattle.std.proofs.Common.{slice_range, refl, sym, ap, ap₂, ◌∙◌, subst, arith, drop-drop, take-take, take_at}
+use Rattle.std.proofs.Common.{drop_at, length-append, length-drop, length-take, length-take-le, IsUtf8, IsCharBoundary}
 use Rattle.std.proofs.lemmas.{List.{drop-take, Folds.{drop_split}}, Slice.Eq.{bytes_eq-Decides}}
 use Rattle.std.proofs.{lemmas.Str.{IsCharBoundary-from_take, IsCharBoundary-start, IsUtf8-take}, Math.Seq.{take-add}}
 use Rattle.rustc_lexer.specs.{Edits.{IsNarrowest, Makes, apply}, means.Relexing.{IsSameBack, IsSameFront}}
@@ -43,8 +41,12 @@ front_slice old new at to n is less in_front =
 pub front_boundary : (old new : List ℕ) (n : ℕ) → IsUtf8 old → IsUtf8 new → IsSameFront old new n
     → IsCharBoundary old n → IsCharBoundary new n
 front_boundary old new n old_is new_is is at =
-    grind (arith, common_steps, IsCharBoundary-from_take new n new_is is.in_new
-    (subst IsUtf8 is.same (IsUtf8-take old n old_is at)))
+    grind (
+      arith,
+      common_steps,
+      IsCharBoundary-from_take new n new_is is.in_new
+          (subst IsUtf8 is.same (IsUtf8-take old n old_is at)),
+    )
 
 pub some_front : {text : List ℕ} {n : ℕ} {r : Bool} → IsUtf8 text → (IsTrue r ↔ IsCharBoundary text n)
     → r ≡ false → 0 < n

@@ -1,8 +1,7 @@
 -- Where the bounds are of the tokens that are kept with a text, also in the words of its definitions.
-use Rattle.std.proofs.Common.{
-    ◌≡◌, ℕ, ◌+◌, ◌-◌, ◌^◌, ◌<◌, ◌≤◌, List, ◌++◌, length, take, drop, sym, ap, ◌∙◌, subst, arith, length-append,
-    length-drop, inl, inr, IsCharBoundary, ◌↔◌, Bool, Option, IsSome, None
-}
+use Rattle.std.proofs.Common.{◌≡◌, ℕ, ◌+◌, ◌-◌, ◌^◌, ◌<◌, ◌≤◌, List, ◌++◌, length, take, drop, sym, ap, ◌∙◌, subst}
+use Rattle.std.proofs.Common.{arith, length-append, length-drop, inl, inr, IsCharBoundary, ◌↔◌, Bool, Option, IsSome}
+use Rattle.std.proofs.Common.{None}
 use Rattle.std.proofs.{Math.Seq.{drop-append_seam}, lemmas.{Bool.{cases_lt}, List.{take-append-le}}}
 use Rattle.std.proofs.lemmas.{Str.{IsCharBoundary-from_rest}, Grind.{common_steps}}
 use Rattle.rustc_lexer.specs.declared.relex.{checkpoints.Checkpoints.{Checkpoints}, front.TokenStart.{TokenStart}}
@@ -48,9 +47,9 @@ module _ {first : List ℕ → Token} (law : IsGrammar first) {layout : (List �
   end_is =
       let n : ℕ = length (tokens_by first body) in
       let behind : drop (length fronts) tokens ≡ tokens_by first body = ap (drop (length fronts)) all_are
-          ∙ drop-append_seam fronts (tokens_by first body) in
+      ∙ drop-append_seam fronts (tokens_by first body) in
       let last : bound (drop (length fronts) tokens) n ≡ length body = ap (λ ts. bound ts n) behind
-          ∙ bound-last law body body_text in
+      ∙ bound-last law body body_text in
       let all : length tokens ≡ length fronts + n = ap length all_are ∙ length-append fronts (tokens_by first body) in
       omega (arith, ap (bound tokens) all, body_at n, last, length-drop head.body text, are.3.0)
 
@@ -60,20 +59,20 @@ module _ {first : List ℕ → Token} (law : IsGrammar first) {layout : (List �
   cut_front : (k : ℕ) → k ≤ length fronts → IsCharBoundary text (head.tokens_start + bound tokens k)
   cut_front k few =
       let same = bound-same k fronts tokens
-          (sym (ap (take k) all_are ∙ take-append-le k fronts (tokens_by first body) few)) in
+      (sym (ap (take k) all_are ∙ take-append-le k fronts (tokens_by first body) few)) in
       subst (λ n. IsCharBoundary text (head.tokens_start + n)) same (are.2.cuts k few)
 
   cut_back : (j : ℕ) → length fronts + j ≤ length tokens
       → IsCharBoundary text (head.tokens_start + bound tokens (length fronts + j))
   cut_back j few =
       let behind : drop (length fronts) tokens ≡ tokens_by first body = ap (drop (length fronts)) all_are
-          ∙ drop-append_seam fronts (tokens_by first body) in
+      ∙ drop-append_seam fronts (tokens_by first body) in
       let there = cuts law body body_text j
-          (omega (arith, few, ap length all_are, length-append fronts (tokens_by first body))) in
+      (omega (arith, few, ap length all_are, length-append fronts (tokens_by first body))) in
       let offset : head.body + bound (tokens_by first body) j ≡ head.tokens_start + bound tokens (length fronts + j) =
-          omega (arith, body_at j, ap (λ ts. bound ts j) behind) in
+      omega (arith, body_at j, ap (λ ts. bound ts j) behind) in
       subst (IsCharBoundary text) offset
-          (IsCharBoundary-from_rest text head.body (bound (tokens_by first body) j) are.3.0 there)
+      (IsCharBoundary-from_rest text head.body (bound (tokens_by first body) j) are.3.0 there)
 
   -- the tokens cut the text between characters
   pub kept_cuts : AreCut text head.tokens_start (length text) tokens
@@ -85,7 +84,7 @@ module _ {first : List ℕ → Token} (law : IsGrammar first) {layout : (List �
         | inr more ↦
             let same : length fronts + (k - length fronts) ≡ k = omega arith in
             subst (λ n. IsCharBoundary text (head.tokens_start + bound tokens n)) same
-                (cut_back (k - length fronts) (omega arith))
+            (cut_back (k - length fronts) (omega arith))
       ]
 
 -- what the invariant says of the view
@@ -98,13 +97,22 @@ module _ {S : Type 0} {first : List ℕ → Token} (law : IsGrammar first) (whol
 
   pub fits_seen : (k : ℕ) → k ≤ length held.tokens → start_in whole held.text + bound held.tokens k < 2 ^ 32
   fits_seen k few =
-      omega (arith, start_seen, ap (λ (ts : List Token). bound ts k) tokens_is,
-      offset_fits law text tokens head checkpoints are k
-      (omega (arith, few, ap (λ (ts : List Token). length ts) tokens_is)))
+      omega (
+        arith,
+        start_seen,
+        ap (λ (ts : List Token). bound ts k) tokens_is,
+        offset_fits law text tokens head checkpoints are k
+            (omega (arith, few, ap (λ (ts : List Token). length ts) tokens_is)),
+      )
 
   pub end_seen : start_in whole held.text + bound held.tokens (length held.tokens) ≡ length held.text
-  end_seen = omega (arith, start_seen, ap (λ (ts : List Token). bound ts (length ts)) tokens_is,
-      end_is law text tokens head checkpoints are, ap (λ (xs : List ℕ). length xs) text_is)
+  end_seen = omega (
+    arith,
+    start_seen,
+    ap (λ (ts : List Token). bound ts (length ts)) tokens_is,
+    end_is law text tokens head checkpoints are,
+    ap (λ (xs : List ℕ). length xs) text_is,
+  )
 
   pub cut_seen : AreCut held.text (start_in whole held.text) (length held.text) held.tokens
   cut_seen = rw (sym text_is, sym tokens_is)

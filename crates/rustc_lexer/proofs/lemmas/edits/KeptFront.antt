@@ -1,8 +1,6 @@
 -- The kept front: the tokens whose ends two characters follow.
-use Rattle.std.proofs.Common.{
-    ◌≡◌, ◌↔◌, refl, ap, inl, inr, ℕ, zero, suc, ◌+◌, ◌<◌, ◌≤◌, Bool, true, false, true≢false, List, [], ◌∷◌, length,
-    get_or, drop, sym, ◌∙◌, arith, IsUtf8, drop-cons, inl
-}
+use Rattle.std.proofs.Common.{◌≡◌, ◌↔◌, refl, ap, inl, inr, ℕ, zero, suc, ◌+◌, ◌<◌, ◌≤◌, Bool, true, false, true≢false}
+use Rattle.std.proofs.Common.{List, [], ◌∷◌, length, get_or, drop, sym, ◌∙◌, arith, IsUtf8, drop-cons, inl}
 use Rattle.std.specs.List.{count_by}
 use Rattle.std.proofs.lemmas.{List.Sums.{count_by-le-length}, Bool.{cases_lt, false_from_ne_true}, Grind.{common_steps}}
 use Rattle.rustc_lexer.specs.{means.Relexing.{AreBoundaries, kept_front}, Token, Tokens.{bound}, Edits.{ends_from}}
@@ -16,8 +14,13 @@ none_counted : (test : ℕ → Bool) (xs : List ℕ) → ((k : ℕ) → k < leng
     → count_by test xs ≡ 0
 none_counted test [] none = refl
 none_counted test (x ∷ xs) none =
-    grind (arith, common_steps, count-cons test x xs, none_counted test xs (λ k few. none (suc k) (omega arith)),
-        none 0 (omega arith))
+    grind (
+      arith,
+      common_steps,
+      count-cons test x xs,
+      none_counted test xs (λ k few. none (suc k) (omega arith)),
+      none 0 (omega arith),
+    )
 
 -- where none passes behind one that does not, those that pass are the first
 counted_first : (test : ℕ → Bool) (xs : List ℕ)
@@ -36,7 +39,7 @@ counted_first test (x ∷ xs) first k few =
     by_test true e later (suc k) less = grind (arith, common_steps, count-cons test x xs, later k (omega arith))
     by_test false e later k less =
         let none = none_counted test (x ∷ xs)
-            (λ j few. false_from_ne_true _ (λ has. true≢false (sym (first 0 j (omega arith) few has) ∙ e))) in
+        (λ j few. false_from_ne_true _ (λ has. true≢false (sym (first 0 j (omega arith) few has) ∙ e))) in
         grind (arith, common_steps, none, first 0 k (omega arith) less)
 
 length-ends_from : (from : ℕ) (ts : List Token) → length (ends_from from ts) ≡ length ts
@@ -58,8 +61,11 @@ kept_none text ts =
 
 module _ (text : List ℕ) (tokens : List Token) (to : ℕ) (is : IsUtf8 text) (cuts : AreBoundaries text tokens) where
   pub kept_few : kept_front text tokens to ≤ length tokens
-  kept_few = omega (arith, count_by-le-length (λ end. has_two text end to) (ends_from 0 tokens),
-      length-ends_from 0 tokens)
+  kept_few = omega (
+    arith,
+    count_by-le-length (λ end. has_two text end to) (ends_from 0 tokens),
+    length-ends_from 0 tokens,
+  )
 
   -- a bound that two characters follow is in it, and so are those before it
   pub kept_tells : (k : ℕ) → k ≤ length tokens → (0 < k → has_two text (bound tokens k) to ≡ true)
@@ -71,8 +77,8 @@ module _ (text : List ℕ) (tokens : List Token) (to : ℕ) (is : IsUtf8 text) (
       let many = length-ends_from 0 tokens in
       let tells = counted_first (λ end. has_two text end to) (ends_from 0 tokens) (λ i j le less two.
       rw (at i (omega arith))
-          (has_two-mono text _ (bound tokens (suc j)) to is (bound_mono tokens (suc i) (suc j) (omega arith))
-          (cuts (suc i) (omega arith))
+      (has_two-mono text _ (bound tokens (suc j)) to is (bound_mono tokens (suc i) (suc j) (omega arith))
+      (cuts (suc i) (omega arith))
       (cuts (suc j) (omega arith)) (rw (at j (omega arith)) at two))) k (omega arith) in
       (λ two. tells.0 (rw (at k few) (two (omega arith))), λ first some. rw (at k few) at (tells.1 first))
 

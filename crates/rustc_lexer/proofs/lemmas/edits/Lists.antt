@@ -1,22 +1,17 @@
 -- A list of edits, one edit at a time, and how far it was made.
-use Rattle.std.proofs.Common.{
-    ◌≡◌, ℕ, ◌+◌, ◌-◌, ◌<◌, ◌≤◌, min, List, [], ◌∷◌, ◌++◌, length, take, drop, get_or, refl, sym, ap, ◌∙◌, subst, arith,
-    length-drop, length-take-le, drop-drop, Option, IfSome, Ok, Err
-}
+use Rattle.std.proofs.Common.{◌≡◌, ℕ, ◌+◌, ◌-◌, ◌<◌, ◌≤◌, min, List, [], ◌∷◌, ◌++◌, length, take, drop, get_or, refl}
+use Rattle.std.proofs.Common.{sym, ap, ◌∙◌, subst, arith, length-drop, length-take-le, drop-drop, Option, IfSome, Ok}
+use Rattle.std.proofs.Common.{Err}
 use Rattle.std.specs.List.{All}
 use Rattle.std.proofs.lemmas.List.{length-take, take_more, Elements.{All-cons, All-head, All-tail}}
 use Rattle.std.proofs.lemmas.{Option.{slice_get-get_or}, Grind.{common_steps}}
 use Rattle.rustc_lexer.specs.{Token, laws.Reach.{cut}, declared.relex.edit.Edit.{Edit}}
 use Rattle.rustc_lexer.specs.declared.relex.edit_list.EditStop.{EditStop, TheVariants.{Memory}}
 use Rattle.rustc_lexer.specs.declared.relex.relexing.Relexed.{Relexed}
-use Rattle.rustc_lexer.specs.Edits.{
-    IsEdit, IsRelexed, applied, apply, apply_list, count_after, AreEdits, AreRelexed, AreStepped, IsGreatest,
-    IsRefusedOn, IsStop, IsStopStepped, stop_at
-}
-use Rattle.rustc_lexer.specs.{
-    Kept.{HaveStepCounts, AreKept, AreKeptThrough, AreMade, Held, HasStepCount, IsEdited},
-    Partition.{Layout, tokens_in}
-}
+use Rattle.rustc_lexer.specs.Edits.{IsEdit, IsRelexed, applied, apply, apply_list, count_after, AreEdits, AreRelexed}
+use Rattle.rustc_lexer.specs.Edits.{AreStepped, IsGreatest, IsRefusedOn, IsStop, IsStopStepped, stop_at}
+use Rattle.rustc_lexer.specs.Kept.{HaveStepCounts, AreKept, AreKeptThrough, AreMade, Held, HasStepCount, IsEdited}
+use Rattle.rustc_lexer.specs.Partition.{Layout, tokens_in}
 use Rattle.rustc_lexer.specs.means.EditList.{AreLeast, StayAtEnds, AreKeptTo, AreMadeTo}
 use Rattle.rustc_lexer.specs.declared.relex.lexed.edits.Made.{Made}
 
@@ -38,12 +33,12 @@ text-more text now after es n few is made =
 abbrev pub IsStepped : (List ℕ → Layout) → List ℕ → ℕ → ℕ → List ℕ → ℕ → ℕ → Type 0
 IsStepped layout text start stop insert before after =
     (r : Relexed) × IsRelexed layout text start stop insert r
-        × (after + (length (layout (apply text start stop insert)).head - r.kept_front) ≡ before + r.lexed)
+    × (after + (length (layout (apply text start stop insert)).head - r.kept_front) ≡ before + r.lexed)
 
 -- what takes no more than these
 most_of : (layout : List ℕ → Layout) (text : List ℕ) (start stop : ℕ) (insert : List ℕ) (before after : ℕ)
     → (r : Relexed) × IsRelexed layout text start stop insert r
-        × (after + (length (layout (apply text start stop insert)).head - r.kept_front) ≤ before + r.lexed)
+    × (after + (length (layout (apply text start stop insert)).head - r.kept_front) ≤ before + r.lexed)
     → (most : ℕ) × IsStepped layout text start stop insert before most × (after ≤ most)
 most_of layout text start stop insert before after few =
     let own : ℕ = length (layout (apply text start stop insert)).head - few.0.kept_front in
@@ -67,21 +62,21 @@ module _ (layout : List ℕ → Layout) where
   pub stepped-more : (text now : List ℕ) (es : List Edit) (n before between after : ℕ) → n < length es
       → now ≡ apply_list text (take n es) → AreStepped layout text (take n es) before between
       → IsStepped layout now (get_or es n none).start (get_or es n none).stop (get_or es n none).insert.now between
-          after → AreStepped layout text (take (n + 1) es) before after
+      after → AreStepped layout text (take (n + 1) es) before after
   stepped-more text now es n before between after few is are one =
       rw (take_more es n none few)
-          (stepped-last text (take n es) (get_or es n none) before between after are (rw (sym is) one))
+      (stepped-last text (take n es) (get_or es n none) before between after are (rw (sym is) one))
 
   -- where memory is refused, the steps are at most those of one edit more
   pub stop-stepped : (text now : List ℕ) (es : List Edit) (n before between after : ℕ) → n < length es
       → now ≡ apply_list text (take n es) → AreStepped layout text (take n es) before between → between ≤ after
       → (r : Relexed) × IsRelexed layout now (get_or es n none).start (get_or es n none).stop
-          (get_or es n none).insert.now r
-          × (after + (length (layout (applied now (get_or es n none))).head - r.kept_front) ≤ between + r.lexed)
+      (get_or es n none).insert.now r
+      × (after + (length (layout (applied now (get_or es n none))).head - r.kept_front) ≤ between + r.lexed)
       → IsStopStepped (Memory n) layout text es before after
   stop-stepped text now es n before between after few is are rose at_most =
       let most = most_of layout now (get_or es n none).start (get_or es n none).stop
-          (get_or es n none).insert.now between after at_most in
+      (get_or es n none).insert.now between after at_most in
       (between, most.0, are, rose, stepped-more text now es n before between most.0 few is are most.1, most.2)
 
 -- one more edit keeps no more
@@ -92,19 +87,22 @@ module _ (layout : List ℕ → Layout) (r : Relexed) where
       → AreLeast layout text es f b front back → IsRelexed layout (apply_list text es) e.start e.stop e.insert.now r
       → AreLeast layout text (es ++ e ∷ []) f b next_front next_back
   least-last text [] e f b front back next_front next_back front_is back_is are is = grind (arith, common_steps)
-  least-last text (d ∷ es) e f b front back next_front next_back front_is back_is are is =
-      (are.0, are.1, least-last (applied text d) es e (min f are.0.kept_front) (min b are.0.kept_back) front back _ _
-          front_is back_is are.2 is)
+  least-last text (d ∷ es) e f b front back next_front next_back front_is back_is are is = (
+    are.0,
+    are.1,
+    least-last (applied text d) es e (min f are.0.kept_front) (min b are.0.kept_back) front back _ _
+        front_is back_is are.2 is,
+  )
 
   pub least-more : (text now : List ℕ) (es : List Edit) (n f b front back next_front next_back : ℕ) → n < length es
       → now ≡ apply_list text (take n es) → next_front ≡ min front r.kept_front → next_back ≡ min back r.kept_back
       → AreLeast layout text (take n es) f b front back
       → IsRelexed layout now (get_or es n none).start (get_or es n none).stop (get_or es n none).insert.now r
-          → AreLeast layout text (take (n + 1) es) f b next_front next_back
+      → AreLeast layout text (take (n + 1) es) f b next_front next_back
   least-more text now es n f b front back next_front next_back few is front_is back_is are one =
       rw (take_more es n none few)
-          (least-last text (take n es) (get_or es n none) f b front back next_front next_back front_is back_is are
-          (rw (sym is) one))
+      (least-last text (take n es) (get_or es n none) f b front back next_front next_back front_is back_is are
+      (rw (sym is) one))
 
 -- the least of some numbers is the greatest that is at most each of them
 greatest-next : (read : Relexed → ℕ) (r : Relexed) (rs : List Relexed) (most n : ℕ)
@@ -112,21 +110,26 @@ greatest-next : (read : Relexed → ℕ) (r : Relexed) (rs : List Relexed) (most
     → IsGreatest (λ n. (n ≤ most) × All (λ (c : Relexed). n ≤ read c) (r ∷ rs)) n
 greatest-next read r rs most n is = (
   (omega (arith, is.0.0), All-cons (λ (c : Relexed). n ≤ read c) r rs (omega (arith, is.0.0)) is.0.1),
-  λ m holds. is.1 m (omega (arith, holds.0, All-head (λ (c : Relexed). m ≤ read c) r rs holds.1),
-      All-tail (λ (c : Relexed). m ≤ read c) r rs holds.1),
+  λ m holds. is.1 m (
+    omega (arith, holds.0, All-head (λ (c : Relexed). m ≤ read c) r rs holds.1),
+    All-tail (λ (c : Relexed). m ≤ read c) r rs holds.1,
+  ),
 )
 
 pub greatest-of : (layout : List ℕ → Layout) (text : List ℕ) (es : List Edit) (f b front back : ℕ)
     → AreLeast layout text es f b front back
     → (each : List Relexed) × AreRelexed layout text es each
-        × IsGreatest (λ n. (n ≤ f) × All (λ (c : Relexed). n ≤ c.kept_front) each) front
-        × IsGreatest (λ n. (n ≤ b) × All (λ (c : Relexed). n ≤ c.kept_back) each) back
+    × IsGreatest (λ n. (n ≤ f) × All (λ (c : Relexed). n ≤ c.kept_front) each) front
+    × IsGreatest (λ n. (n ≤ b) × All (λ (c : Relexed). n ≤ c.kept_back) each) back
 greatest-of layout text [] f b front back are = grind (arith, common_steps)
 greatest-of layout text (e ∷ es) f b front back are =
     let later = greatest-of layout (applied text e) es (min f are.0.kept_front)
-        (min b are.0.kept_back) front back are.2 in
-    (are.0 ∷ later.0, (are.1, later.1), greatest-next (λ c. c.kept_front) are.0 later.0 f front later.2,
-        greatest-next (λ c. c.kept_back) are.0 later.0 b back later.3)
+    (min b are.0.kept_back) front back are.2 in (
+      are.0 ∷ later.0,
+      (are.1, later.1),
+      greatest-next (λ c. c.kept_front) are.0 later.0 f front later.2,
+      greatest-next (λ c. c.kept_back) are.0 later.0 b back later.3,
+    )
 
 edits-last : (text : List ℕ) (es : List Edit) (e : Edit) → AreEdits text es
     → IsEdit (apply_list text es) e.start e.stop e.insert.now
@@ -144,9 +147,11 @@ edits-more text now es n few same are is =
 -- which edit stopped the list, and why
 pub stop_of : (text : List ℕ) (es : List Edit) (s : EditStop) → stop_at s < length es
     → IsRefusedOn s text (get_or es (stop_at s) none) → IsStop s text es
-stop_of text es s few refused =
-    (few, subst (λ (o : Option Edit). IfSome o (IsRefusedOn s text)) (sym (slice_get-get_or es (stop_at s) none few))
-    refused)
+stop_of text es s few refused = (
+  few,
+  subst (λ (o : Option Edit). IfSome o (IsRefusedOn s text)) (sym (slice_get-get_or es (stop_at s) none few))
+      refused,
+)
 
 -- fewer of them stay too
 fewer_back : (n back : ℕ) (old new : List Token) → n ≤ back → back ≤ length old → back ≤ length new
@@ -156,7 +161,7 @@ fewer_back n back old new few old_has new_has same =
     let before : length new - back + (back - n) ≡ length new - n = omega arith in
     let after : length old - back + (back - n) ≡ length old - n = omega arith in
     sym (drop-drop (back - n) (length new - back) new ∙ ap (λ k. drop k new) before)
-        ∙ (ap (drop (back - n)) same ∙ (drop-drop (back - n) (length old - back) old ∙ ap (λ k. drop k old) after))
+    ∙ (ap (drop (back - n)) same ∙ (drop-drop (back - n) (length old - back) old ∙ ap (λ k. drop k old) after))
 
 fewer_stay : {old new : List Token} {front back : ℕ} (n m : ℕ) → n ≤ front → m ≤ back → StayAtEnds old new front back
     → StayAtEnds old new n m
@@ -191,8 +196,11 @@ kept_then {old} {between} {new} {a} {b} {r} front back count before then =
     (counts_stay between new b.kept_front b.lexed b.kept_back then.all then.front then.back) in
     let all : r.kept_front + r.lexed + r.kept_back ≡ length new = count ∙ then.all in
     let from : length new - r.kept_back ≡ r.kept_front + r.lexed = omega (arith, all) in
-    record { all = all; front = stay.same_front;
-        back = subst (λ k. drop k new ≡ drop (length old - r.kept_back) old) from stay.same_back }
+    record {
+      all = all;
+      front = stay.same_front;
+      back = subst (λ k. drop k new ≡ drop (length old - r.kept_back) old) from stay.same_back;
+    }
 
 -- ---- how far a list of edits was made
 
@@ -241,23 +249,25 @@ module _ {S : Type 0} {layout : List ℕ → Layout} {old mid : Held S} {edits :
           subst (λ k. AreLeast layout old.text (take k edits) (length old.tokens)
           (length old.tokens) next.front next.back) (sym count_is)
           (least-more layout r old.text mid.text edits at _ _ made.front made.back _ _ few m.text front_is back_is
-              kept.least i.relexed);
+          kept.least i.relexed);
     }
 
     -- an edit that is refused keeps the tokens
     pub kept_refused : {X : Type 0} {x : X} {new : Held S} → AreKeptTo layout old edits made mid
         → IsEdited {E = X} layout mid edit.start edit.stop edit.insert.now (Err x) new
-            → AreKeptTo layout old edits made new
+        → AreKeptTo layout old edits made new
     kept_refused {X} {x} {new} kept i =
-        record { stay = subst (λ ts. StayAtEnds old.tokens ts made.front made.back) (sym i.same_tokens) kept.stay;
-        least = kept.least }
+        record {
+          stay = subst (λ ts. StayAtEnds old.tokens ts made.front made.back) (sym i.same_tokens) kept.stay;
+          least = kept.least;
+        }
 
     pub made_refused : {X T : Type 0} {x : X} {new : Held S}
         → IsEdited {E = X} layout mid edit.start edit.stop edit.insert.now (Err x) new
         → AreMade {T = T} layout old edits (Err (Memory at)) new
     made_refused {X} {T} {x} {new} i =
         made_stop (Memory at) refl few
-            (subst (λ xs. IsEdit xs edit.start edit.stop edit.insert.now) (sym i.same_text) is) i.same_text
+        (subst (λ xs. IsEdit xs edit.start edit.stop edit.insert.now) (sym i.same_text) is) i.same_text
         i.from_scratch
 
     pub counted_refused : {X T : Type 0} {x : X} (before between after : ℕ)
@@ -291,14 +301,17 @@ kept_through {S} {layout} {old} {new} {edits} {made} r kept front back all =
     let stay = kept.stay in
     let most = greatest-of layout old.text (take made.count edits) _ _ _ _ kept.least in
     let past : made.front + (length new.tokens - made.front - r.kept_back) ≡ r.kept_front + r.lexed =
-        omega (arith, front, all) in
+    omega (arith, front, all) in
     record {
       each = most.0;
       each_is = most.1;
       most_front = rw front most.2;
       most_back = (
-        (omega (arith, front, back, stay.front_inside), omega (arith, front, back, stay.front_within),
-            λ k d less. omega (arith, back, most.3.0.1 k d less)),
+        (
+          omega (arith, front, back, stay.front_inside),
+          omega (arith, front, back, stay.front_within),
+          λ k d less. omega (arith, back, most.3.0.1 k d less),
+        ),
         λ n fits. let less = most.3.1 n (omega (arith, fits.0), fits.2) in
             omega (arith, front, back, fits.0, fits.1, less),
       );

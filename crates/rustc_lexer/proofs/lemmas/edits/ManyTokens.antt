@@ -1,8 +1,7 @@
 -- Lexing and relexing by many tokens at once, each block a buffer that is filled with the next ones, and one by one.
-use Rattle.std.proofs.Common.{
-    ◌≡◌, ℕ, ◌+◌, ◌<◌, ◌≤◌, List, ◌++◌, length, map, take, drop, sym, ap, ◌∙◌, subst, arith, length-append, length-drop,
-    length-take-le, take_at, drop-drop, take-add, IsCharBoundary, IsUtf8, false, ◌∷◌
-}
+use Rattle.std.proofs.Common.{◌≡◌, ℕ, ◌+◌, ◌<◌, ◌≤◌, List, ◌++◌, length, map, take, drop, sym, ap, ◌∙◌, subst, arith}
+use Rattle.std.proofs.Common.{length-append, length-drop, length-take-le, take_at, drop-drop, take-add, IsCharBoundary}
+use Rattle.std.proofs.Common.{IsUtf8, false, ◌∷◌}
 use Rattle.std.proofs.lemmas.{Bool.{cases_lt}, List.{map-id}, Str.{IsCharBoundary-from_drop}, Grind.{common_steps}}
 use Rattle.rustc_lexer.specs.{declared.{relex.{relexing.Relexing.{Relexing}}}, Token}
 use Rattle.rustc_lexer.specs.{Classes.{IsText}, Relexing.{known, TakesSteps}, Locality.{IsGrammar}}
@@ -27,7 +26,7 @@ module _ {first : List ℕ → Token} (law : IsGrammar first) (text left : List 
   block_boundary =
       let cut = at_bound law count left left_text in
       let same : drop (at + bytes) text ≡ drop (bound (tokens_by first left) count) left = sym (drop-drop bytes at text)
-          ∙ (ap (drop bytes) (sym left_is) ∙ ap (λ n. drop n left) bytes_is) in
+      ∙ (ap (drop bytes) (sym left_is) ∙ ap (λ n. drop n left) bytes_is) in
       IsCharBoundary-from_drop text (at + bytes) block_inside (subst IsUtf8 (sym same) cut.past.utf8)
 
   pub block_count : count ≤ bytes
@@ -61,7 +60,7 @@ lexed_block : {first : List ℕ → Token} (law : IsGrammar first) (text left : 
     (offset count bytes : ℕ) → IsText text
     → IsLexedTo first text items offset → left ≡ drop offset text → count ≤ length (tokens_by first left)
     → block ≡ take count (tokens_by first left) → bytes ≡ bound (tokens_by first left) count
-        → IsLexedTo first text (items ++ block) (offset + bytes)
+    → IsLexedTo first text (items ++ block) (offset + bytes)
 lexed_block law text left items block offset count bytes is at here few block_is bytes_is =
     grind (arith, common_steps, at_bound, length-append, length-take-le, length-drop, take-add, bound-shift)
 
@@ -77,7 +76,7 @@ pub record IsBlock (first : List ℕ → Token) (text : List ℕ) (items filled 
 pub block_more : {first now : List ℕ → Token} (law : IsGrammar first) {text left : List ℕ}
     {items buffer filled : List Token} {offset count bytes end : ℕ}
     → IsText text → now ≡ first → IsLexedTo first text items offset → offset < length text → left ≡ drop offset text
-        → 0 < length buffer → 0 < end
+    → 0 < length buffer → 0 < end
     → IsFilledTo (λ (t : Token). t) end (tokens_by now left) buffer filled count
     → bytes ≡ bound (tokens_by now left) count → IsBlock first text items filled offset count bytes
 block_more law {text} {left} {items} {buffer} {filled} {offset} {count} {bytes} {end} is same at more here places some
@@ -86,9 +85,9 @@ block_more law {text} {left} {items} {buffer} {filled} {offset} {count} {bytes} 
     let fills = rw same at fills in
     let front = front_of _ buffer filled count fills.few fills.tokens in
     let next = lexed_block law text left items (take count filled) offset count bytes is at here front.few front.front
-        long in
+    long in
     let fewer = block_count law text left is offset (lexed_offset law text items offset is at).boundary here count bytes
-        fills.few long in
+    fills.few long in
     record {
       more = next;
       number = length-take-le count filled front.within;
@@ -113,7 +112,7 @@ module _ {first : List ℕ → Token} (law : IsGrammar first) {text : List ℕ} 
       → (at.at < past → at.met ≡ false) → TakesSteps first text past begin 1 at
   one_step {token} token_is more front lexed offset same_back not_met =
       let cons = tokens-cons law rest (rest_is text begin.at is boundary)
-          (omega (arith, more, length-drop begin.at text)) in
+      (omega (arith, more, length-drop begin.at text)) in
       record {
         inside = omega (arith, ap (λ (ts : List Token). length ts) cons);
         none = λ e. absurd (omega (arith, e));
@@ -136,20 +135,29 @@ module _ {first : List ℕ → Token} (law : IsGrammar first) {text : List ℕ} 
         → drop count (tokens_by first rest) ≡ token ∷ tokens_by first (drop token.len (drop at.at text))
     next_left token_is some =
         let its : IsText (drop at.at text) =
-            subst IsText there (at_bound law count rest (rest_is text begin.at is boundary)).past in
+        subst IsText there (at_bound law count rest (rest_is text begin.at is boundary)).past in
         left_is ∙ rw token_is
-            (tokens-cons law (drop at.at text) its (omega (arith, some, tokens_le_bytes law (drop at.at text) its)))
+        (tokens-cons law (drop at.at text) its (omega (arith, some, tokens_le_bytes law (drop at.at text) its)))
 
     pub step_more : {next : Relexing} → TakesSteps first text past at 1 next
         → TakesSteps first text past begin (count + 1) next
     step_more step = record {
-      inside = omega (arith, step.inside, ap (λ (ts : List Token). length ts) left_is,
-          length-drop count (tokens_by first rest));
+      inside = omega (
+        arith,
+        step.inside,
+        ap (λ (ts : List Token). length ts) left_is,
+        length-drop count (tokens_by first rest),
+      );
       none = λ e. absurd (omega (arith, e));
       front = step.front ∙ steps.front;
       lexed = omega (arith, step.lexed, steps.lexed);
-      offset = omega (arith, step.offset, steps.offset, bound-shift (tokens_by first rest) count 1,
-          ap (λ (ts : List Token). bound ts 1) left_is);
+      offset = omega (
+        arith,
+        step.offset,
+        steps.offset,
+        bound-shift (tokens_by first rest) count 1,
+        ap (λ (ts : List Token). bound ts 1) left_is,
+      );
       same_back = λ early. step.same_back early ∙ steps.same_back (omega (arith, early, step.offset));
       not_met = λ some early. step.not_met (omega arith) early;
     }

@@ -1,16 +1,12 @@
 -- From an offset to a token: steps from a bound, and which tokens contain a byte of a range.
-use Rattle.std.proofs.Common.{
-    ◌≡◌, ℕ, ◌+◌, ◌-◌, ◌^◌, ◌<◌, ◌≤◌, ◌↔◌, List, length, map, get_or, ap, arith, Option, None, Some, IfSome, IsSome,
-    IsNone
-}
+use Rattle.std.proofs.Common.{◌≡◌, ℕ, ◌+◌, ◌-◌, ◌^◌, ◌<◌, ◌≤◌, ◌↔◌, List, length, map, get_or, ap, arith, Option, None}
+use Rattle.std.proofs.Common.{Some, IfSome, IsSome, IsNone}
 use Rattle.std.proofs.lemmas.{Bool.{cases_lt}, Grind.{common_steps}}
-use Rattle.rustc_lexer.specs.{
-    declared.relex.front.TokenStart.{TokenStart}, Token, Offsets.{AreTouched, ArePlaced, ContainsByte}
-}
+use Rattle.rustc_lexer.specs.{declared.relex.front.TokenStart.{TokenStart}, Token}
+use Rattle.rustc_lexer.specs.Offsets.{AreTouched, ArePlaced, ContainsByte}
 use Rattle.rustc_lexer.specs.Tokens.{bound}
-use Rattle.rustc_lexer.proofs.lemmas.edits.{
-    Bounds.{bound_mono}, ByLengths.{as_long, as_many, no_token}, KeptFront.{bound-next}
-}
+use Rattle.rustc_lexer.proofs.lemmas.edits.{Bounds.{bound_mono}, ByLengths.{as_long, as_many, no_token}}
+use Rattle.rustc_lexer.proofs.lemmas.edits.KeptFront.{bound-next}
 
 -- one token back
 module _ (tokens : List Token) (first n here : ℕ) (d : Token) (is : here ≡ first + bound tokens n) (some : 0 < n)
@@ -108,7 +104,7 @@ answered result first tokens offset len w5 w6 w7 = grind (arith, common_steps, b
 pub if_some : {lengths : List ℕ} {first : ℕ} {tokens : List Token} {near : TokenStart} (offset : ℕ)
     (result : Option TokenStart)
     → IfSome result (λ at. (first : ℕ) (ts : List Token) → ArePlaced lengths first ts near
-        → ContainsByte first ts offset at)
+    → ContainsByte first ts offset at)
     → ArePlaced lengths first tokens near → IfSome result (ContainsByte first tokens offset)
 if_some offset None found placed = found
 if_some {first = first} {tokens = tokens} offset (Some at) found placed = found first tokens placed

@@ -1,8 +1,6 @@
 -- What an edit keeps, by all tokens of a text and by those of its body; there are counts of it.
-use Rattle.std.proofs.Common.{
-    ◌≡◌, ◌⊎◌, ℕ, zero, suc, ◌+◌, ◌-◌, ◌<◌, ◌≤◌, List, length, take, refl, sym, ap, subst, arith, length-take, inl, inr,
-    eq-or-lt_of_le, ◌↔◌, [], ◌∙◌, length-append
-}
+use Rattle.std.proofs.Common.{◌≡◌, ◌⊎◌, ℕ, zero, suc, ◌+◌, ◌-◌, ◌<◌, ◌≤◌, List, length, take, refl, sym, ap, subst}
+use Rattle.std.proofs.Common.{arith, length-take, inl, inr, eq-or-lt_of_le, ◌↔◌, [], ◌∙◌, length-append}
 use Rattle.std.proofs.lemmas.{Bool.{cases_lt, eqb-false, eqb-true}, Grind.{common_steps}}
 use Rattle.rustc_lexer.specs.{declared.relex.relexing.{Change.Change, Relexed.Relexed}, Token}
 use Rattle.rustc_lexer.specs.Edits.{IsMeeting, IsRelexedTo, part_by, body_in, IsRelexed, offset_in}
@@ -25,7 +23,7 @@ bare tokens = record { start = 0; head = []; body = tokens }
 pub counts_of : (layout : List ℕ → Layout) {text insert made : List ℕ} {edit : Change} → IsEditOf text edit insert made
     → (r : Relexed)
     → IsRelexed layout text edit.start edit.old_stop insert r
-        ↔ IsRelexedTo (layout text) (layout made) text edit.start edit.old_stop edit.new_stop r
+    ↔ IsRelexedTo (layout text) (layout made) text edit.start edit.old_stop edit.new_stop r
 counts_of layout e r = (λ c. rw (e.made, e.new_stop) c, λ c. rw (sym e.made, sym e.new_stop) c)
 
 -- ---- a text with a head: the bodies meet where all tokens do, as `more` is how far both bodies begin past the edit
@@ -36,8 +34,15 @@ module _ (old new : Layout) (stop new_stop more body_stop new_body_stop : ℕ)
   pub meets : (number back : ℕ) → IsMeeting (bare old.body) (bare new.body) body_stop new_body_stop number back
       → IsMeeting old new stop new_stop (length new.head + number) back
   meets number back m =
-      grind (arith, common_steps, m.past_edit, m.same_offset, offset-behind new number, offset-behind old m.old_number,
-      length-append)
+      grind (
+        arith,
+        common_steps,
+        m.past_edit,
+        m.same_offset,
+        offset-behind new number,
+        offset-behind old m.old_number,
+        length-append,
+      )
 
   pub meets_behind : (number back : ℕ) → IsMeeting old new stop new_stop number back
       → IsMeeting (bare old.body) (bare new.body) body_stop new_body_stop (number - length new.head) back
@@ -48,11 +53,11 @@ module _ (old new : Layout) (stop new_stop more body_stop new_body_stop : ℕ)
       let n : length new.head + (number - length new.head) ≡ number = omega (arith, m.past_head) in
       let i : length old.head + (m.old_number - length old.head) ≡ m.old_number = omega arith in
       let at : offset_in new number ≡ body_in new + bound new.body (number - length new.head) =
-          ap (offset_in new) (sym n) ∙ offset-behind new (number - length new.head) in
+      ap (offset_in new) (sym n) ∙ offset-behind new (number - length new.head) in
       let old_at : offset_in old m.old_number ≡ body_in old + bound old.body (m.old_number - length old.head) =
-          ap (offset_in old) (sym i) ∙ offset-behind old (m.old_number - length old.head) in
+      ap (offset_in old) (sym i) ∙ offset-behind old (m.old_number - length old.head) in
       let far : more ≤ offset_in new number - new_stop =
-          least (offset_in new number - new_stop) (omega (arith, same, past, old_at)) (omega (arith, past, at)) in
+      least (offset_in new number - new_stop) (omega (arith, same, past, old_at)) (omega (arith, past, at)) in
       record {
         number_inside = (let few = m.number_inside in omega (arith, few, length-append new.head new.body));
         past_edit = omega (arith, far, past, at, new_more);
@@ -99,12 +104,22 @@ first_or_none P decided (suc n) k = by_first (decided k) (first_or_none P decide
         → ((j : ℕ) × (j < suc k + n) × IsFirst P (suc k) j) ⊎ ((i : ℕ) → suc k ≤ i → i < suc k + n → P i → ⊥)
         → ((j : ℕ) × (j < k + suc n) × IsFirst P k j) ⊎ ((i : ℕ) → k ≤ i → i < k + suc n → P i → ⊥)
     by_first (inl now) later =
-        inl (k, omega arith,
-        record { from = omega arith; holds = now; none_before = λ i le less p. absurd (omega arith) })
+        inl (
+          k,
+          omega arith,
+          record { from = omega arith; holds = now; none_before = λ i le less p. absurd (omega arith) },
+        )
     by_first (inr none) (inl at) = let is = at.2 in
-        inl (at.0, omega (arith, at.1),
-        record { from = omega (arith, is.from); holds = is.holds; none_before = λ i le less p. is.none_before i
-        (past none le p) less p })
+        inl (
+          at.0,
+          omega (arith, at.1),
+          record {
+            from = omega (arith, is.from);
+            holds = is.holds;
+            none_before = λ i le less p. is.none_before i
+                (past none le p) less p;
+          },
+        )
     by_first (inr none) (inr all) = inr (λ i le less p. all i (past none le p) (omega (arith, less)) p)
 
 module _ (old new : List Token) (stop new_stop number : ℕ) where
@@ -114,9 +129,19 @@ module _ (old new : List Token) (stop new_stop number : ℕ) where
   pub meets_or_not : Decided ((back : ℕ) × IsMeeting (bare old) (bare new) stop new_stop number back)
   meets_or_not = elim (first_or_none At (λ i. all (at_most _ _) (at_most _ _) (numbers _ _)) (suc (length old)) 0) [
     | inl at ↦ let m = at.2.holds in
-        inl (length old - at.0, record { number_inside = m.0; past_edit = omega (arith, m.1); past_head = omega arith;
-        old_number = at.0; past_old_head = omega arith; back_is = omega (arith, at.1); same_offset =
-        omega (arith, m.2) })
+        inl (
+          length old - at.0,
+          record {
+            number_inside = m.0;
+            past_edit = omega (arith, m.1);
+            past_head = omega arith;
+            old_number = at.0;
+            past_old_head = omega arith;
+            back_is = omega (arith, at.1);
+            same_offset =
+                omega (arith, m.2);
+          },
+        )
     | inr none ↦ inr
         (λ m. none m.1.old_number (omega arith) (omega (arith, m.1.back_is))
         (m.1.number_inside, omega (arith, m.1.past_edit), omega (arith, m.1.same_offset)))
@@ -171,16 +196,16 @@ module _ {first : List ℕ → Token} (law : IsGrammar first) {text insert new_t
       × IsRelexedTo (part_by first text) (part_by first new_text) text edit.start edit.old_stop edit.new_stop r
   relexed_is = elim (first_or_none (λ j. (back : ℕ) × Meets j back) (meets_or_not old new edit.old_stop edit.new_stop)
       (suc (length new - kept)) kept) [
-    | inl at ↦
-        let is = at.2 in
-        let sum : at.0 ≡ kept + (at.0 - kept) = omega (arith, is.from) in (
-          record { kept_front = kept; lexed = at.0 - kept; kept_back = is.holds.0 },
-          record {
-            kept = λ k. omega arith;
-            changed = λ none. absurd (none (omega arith, refl, refl));
-            meeting = subst (λ n. Meets n is.holds.0) sum is.holds.1;
-            none_before = λ number back le less m. is.none_before number le (omega (arith, less, sum)) (back, m);
-          },
-        )
-    | inr none ↦ absurd (none (length new) kept_new (omega (arith, kept_new)) (0, ends_meet))
-  ]
+        | inl at ↦
+            let is = at.2 in
+            let sum : at.0 ≡ kept + (at.0 - kept) = omega (arith, is.from) in (
+              record { kept_front = kept; lexed = at.0 - kept; kept_back = is.holds.0 },
+              record {
+                kept = λ k. omega arith;
+                changed = λ none. absurd (none (omega arith, refl, refl));
+                meeting = subst (λ n. Meets n is.holds.0) sum is.holds.1;
+                none_before = λ number back le less m. is.none_before number le (omega (arith, less, sum)) (back, m);
+              },
+            )
+        | inr none ↦ absurd (none (length new) kept_new (omega (arith, kept_new)) (0, ends_meet))
+      ]

@@ -1,9 +1,7 @@
 -- The pieces of a text, one by one.
-use Rattle.std.proofs.Common.{
-    ◌≡◌, ℕ, zero, suc, ◌+◌, ◌-◌, ◌≤◌, List, [], ◌∷◌, ◌++◌, length, take, drop, slice_range, refl, sym, ap, ◌∙◌, subst,
-    arith, length-append, length-take, length-take-le, length-drop, take-take, IsCharBoundary, Option, Some, None,
-    IfSome, IsSome
-}
+use Rattle.std.proofs.Common.{◌≡◌, ℕ, zero, suc, ◌+◌, ◌-◌, ◌≤◌, List, [], ◌∷◌, ◌++◌, length, take, drop, slice_range}
+use Rattle.std.proofs.Common.{refl, sym, ap, ◌∙◌, subst, arith, length-append, length-take, length-take-le, length-drop}
+use Rattle.std.proofs.Common.{take-take, IsCharBoundary, Option, Some, None, IfSome, IsSome}
 use Rattle.std.proofs.lemmas.{Grind.{common_steps}, List.{take-append-le}}
 use Rattle.rustc_lexer.specs.{declared.relex.{front.TokenStart.TokenStart, pieces.Piece.Piece}, Token, Tokens.{bound}}
 use Rattle.rustc_lexer.specs.{means.Pieces.{AreBoundariesFrom, AreCut}, Kept.{Placed, YieldsPiece, pieces_from, placed}}
@@ -15,9 +13,11 @@ use Rattle.rustc_lexer.proofs.lemmas.edits.KeptFront.{bound-shift}
 pub cut_edges : (text : List ℕ) (start end : ℕ) (tokens : List Token) → AreCut text start end tokens
     → IsCharBoundary text start × IsCharBoundary text end
 cut_edges text start end tokens are =
-    let first : start + 0 ≡ start = omega arith in
-    (subst (IsCharBoundary text) first (are.1 0 (omega arith)), subst (IsCharBoundary text) (sym are.2)
-        (are.1 (length tokens) (omega arith)))
+    let first : start + 0 ≡ start = omega arith in (
+      subst (IsCharBoundary text) first (are.1 0 (omega arith)),
+      subst (IsCharBoundary text) (sym are.2)
+          (are.1 (length tokens) (omega arith)),
+    )
 
 -- past the first token
 pub cut_tail : (text : List ℕ) (start end : ℕ) (all : List Token) (token : Token) (tokens : List Token)
@@ -34,11 +34,16 @@ cut_front text start end all tokens token e are =
     let all : AreCut text start end (tokens ++ token ∷ []) = subst (AreCut text start end) e are in
     let ends : end ≡ start + bound tokens (length tokens) + token.len = omega (arith, all.2, bound-end tokens token) in
     let same : (k : ℕ) → k ≤ length tokens → start + bound (tokens ++ token ∷ []) k ≡ start + bound tokens k =
-        λ k few. ap (λ n. start + n)
-        (bound-same k (tokens ++ token ∷ []) tokens (take-append-le k tokens (token ∷ []) few)) in
-    (omega (arith, ends),
-        (all.0, λ k few. subst (IsCharBoundary text) (same k few)
-        (all.1 k (omega (arith, length-append tokens (token ∷ [])))), omega (arith, ends)))
+    λ k few. ap (λ n. start + n)
+    (bound-same k (tokens ++ token ∷ []) tokens (take-append-le k tokens (token ∷ []) few)) in (
+      omega (arith, ends),
+      (
+        all.0,
+        λ k few. subst (IsCharBoundary text) (same k few)
+            (all.1 k (omega (arith, length-append tokens (token ∷ [])))),
+        omega (arith, ends),
+      ),
+    )
 
 -- ---- the pieces of some of the tokens
 
@@ -60,8 +65,8 @@ bound-part tokens items from to offset le inside is at =
     let enough : to - from ≤ length (drop from tokens) = omega (arith, length-drop from tokens) in
     let long : length items ≡ to - from = ap length is ∙ length-take-le (to - from) (drop from tokens) enough in
     let same : bound items (length items) ≡ bound (drop from tokens) (to - from) =
-        ap (bound items) long
-        ∙ (ap (λ (ts : List Token). bound ts (to - from)) is ∙ bound-take (to - from) (drop from tokens)) in
+    ap (bound items) long
+    ∙ (ap (λ (ts : List Token). bound ts (to - from)) is ∙ bound-take (to - from) (drop from tokens)) in
     omega (arith, at, same, bound-shift tokens from (to - from), ap (bound tokens) all)
 
 -- some of the tokens
@@ -78,9 +83,9 @@ cut_part text start end offset stop tokens from to le few at until are =
         let n : ℕ = to - from in
         let within : k ≤ n = omega (arith, length-take n (drop from tokens)) in
         let short : bound (take n (drop from tokens)) k ≡ bound (drop from tokens) k =
-            bound-same k (take n (drop from tokens)) (drop from tokens) (take-take k n (drop from tokens) within) in
+        bound-same k (take n (drop from tokens)) (drop from tokens) (take-take k n (drop from tokens) within) in
         let same : start + bound tokens (from + k) ≡ offset + bound (take n (drop from tokens)) k =
-            omega (arith, at, bound-shift tokens from k, short) in
+        omega (arith, at, bound-shift tokens from k, short) in
         subst (IsCharBoundary text) same (are.1 (from + k) (omega (arith, within)))
 
 pub drop-pieces : (text : List ℕ) (start k : ℕ) (ts : List Token) → drop k (pieces_from text start ts) ≡
@@ -115,15 +120,15 @@ pieces-last text start (u ∷ ts) t = grind (arith, common_steps, pieces-last te
 pub last_piece : (text : List ℕ) (start end : ℕ) (all tokens : List Token) (t : Token) → all ≡ tokens ++ t ∷ []
     → AreCut text start end all
     → pieces_from text start all ≡ pieces_from text start tokens ++ piece_at text t (end - t.len)
-        (end - (end - t.len)) ∷ []
+    (end - (end - t.len)) ∷ []
 last_piece text start end all tokens t e are =
     let front = cut_front text start end all tokens t e are in
     let long : t.len ≡ end - (end - t.len) = omega (arith, front.0) in
     let same : piece_at text t (start + bound tokens (length tokens)) t.len ≡
-        piece_at text t (end - t.len) (end - (end - t.len)) = ap (λ p. piece_at text t p t.len) (sym front.1.2)
-        ∙ ap (piece_at text t (end - t.len)) long in
+    piece_at text t (end - t.len) (end - (end - t.len)) = ap (λ p. piece_at text t p t.len) (sym front.1.2)
+    ∙ ap (piece_at text t (end - t.len)) long in
     ap (pieces_from text start) e
-        ∙ (pieces-last text start tokens t ∙ ap (λ p. pieces_from text start tokens ++ p ∷ []) same)
+    ∙ (pieces-last text start tokens t ∙ ap (λ p. pieces_from text start tokens ++ p ∷ []) same)
 
 -- the first piece from the token on that contains a byte
 pub piece_is : (piece : Option Piece) (text : List ℕ) (first offset : ℕ) (tokens : List Token) (at : TokenStart)
@@ -131,13 +136,13 @@ pub piece_is : (piece : Option Piece) (text : List ℕ) (first offset : ℕ) (to
     → ContainsByte first tokens offset at
     → YieldsPiece (pieces_from text at.offset (take (length tokens - at.index) (drop at.index tokens))) piece rest
     → IfSome piece (λ piece. (at : TokenStart) × ContainsByte first tokens offset at
-        × (take 1 (drop at.index (pieces_from text first tokens)) ≡ placed piece ∷ []))
+    × (take 1 (drop at.index (pieces_from text first tokens)) ≡ placed piece ∷ []))
 piece_is None text first offset tokens at rest is yields = tt
 piece_is (Some piece) text first offset tokens at rest is yields =
     let n : ℕ = length tokens - at.index in
     let left : List Placed = drop at.index (pieces_from text first tokens) in
     let begin : take n left ≡ placed piece ∷ rest = sym (pieces-part text first at.offset tokens at.index n is.start)
-        ∙ yields.0 in
+    ∙ yields.0 in
     (at, is, sym (take-take 1 n left (omega (arith, is.number))) ∙ ap (take 1) begin)
 
 pub piece_some : (piece : Option Piece) (text : List ℕ) (first offset : ℕ) (tokens : List Token) (at : TokenStart)

@@ -1,8 +1,6 @@
 -- How far the tokens of a text are sure.
-use Rattle.std.proofs.Common.{
-    ◌≡◌, ℕ, zero, suc, ◌+◌, ◌-◌, ◌<◌, ◌≤◌, true, false, List, [], ◌∷◌, ◌++◌, length, take, drop, refl, sym, ap, ◌∙◌,
-    arith, take_at, length-append, IsUtf8, IsCharBoundary, subst
-}
+use Rattle.std.proofs.Common.{◌≡◌, ℕ, zero, suc, ◌+◌, ◌-◌, ◌<◌, ◌≤◌, true, false, List, [], ◌∷◌, ◌++◌, length, take}
+use Rattle.std.proofs.Common.{drop, refl, sym, ap, ◌∙◌, arith, take_at, length-append, IsUtf8, IsCharBoundary, subst}
 use Rattle.std.proofs.lemmas.Str.{IsCharBoundary-from_drop, IsCharBoundary-end, IsUtf8-between}
 use Rattle.std.proofs.{Math.Seq.{take-length}, lemmas.Grind.{common_steps}}
 use Rattle.rustc_lexer.specs.{declared.relex.front.TokenStart.{TokenStart}, Token, Offsets.{IsBound}}
@@ -40,7 +38,7 @@ module _ {first : List ℕ → Token} (law : IsGrammar first) (text : List ℕ) 
     two = λ some. two (positive at.index here.1 some);
     last = λ k few has.
         let kept = (kept_tells text (tokens_by first text) (length text) is.utf8 (cuts law text is) k few).0
-            (λ some. has) in
+        (λ some. has) in
         omega (arith, here.1, bound_mono (tokens_by first text) k at.index (omega (arith, count, kept)));
   }
     where
@@ -54,26 +52,35 @@ module _ {first : List ℕ → Token} (law : IsGrammar first) (text : List ℕ) 
       → IsSettled text (tokens_by first text) offset
   sure_stop offset at out = settled_at (record { index = length at.items; offset = offset })
       (kept_is text (tokens_by first text) (length text) is.utf8 (cuts law text is) (length at.items) at.to.number
-          (rw (sym at.to.offset_is) at.two) next)
+      (rw (sym at.to.offset_is) at.two) next)
       (at.to.number, at.to.offset_is) at.two
     where
       next : length at.items < length (tokens_by first text)
           → has_two text (bound (tokens_by first text) (length at.items + 1)) (length text) ≡ false
       next few =
           let more : offset < length text =
-              omega (arith, at.to.offset_is, rises law text is (length at.items) few,
-              (boundary (suc (length at.items))).0) in
+          omega (
+            arith,
+            at.to.offset_is,
+            rises law text is (length at.items) few,
+            (boundary (suc (length at.items))).0,
+          ) in
           let past = (lexed_more law text at.items offset is at.to more).offset_is in
           rw (sym (past ∙ ap (bound (tokens_by first text)) (length-append at.items (first (drop offset text) ∷ []))))
-              (out more)
+          (out more)
 
   pub next_boundary : (offset : ℕ) (token : Token) → IsSureTo first text offset → offset < length text
       → token ≡ first (drop offset text) → (offset + token.len ≤ length text) × IsCharBoundary text (offset + token.len)
   next_boundary offset token at more token_is =
-      grind (arith, common_steps, lexed_more law text at.items offset is at.to more, token_is,
-          (lexed_more law text at.items offset is at.to more).offset_is,
-          (ap (λ (t : Token). offset + t.len) token_is ∙ (lexed_more law text at.items offset is at.to more).offset_is),
-          boundary (length (at.items ++ first (drop offset text) ∷ [])))
+      grind (
+        arith,
+        common_steps,
+        lexed_more law text at.items offset is at.to more,
+        token_is,
+        (lexed_more law text at.items offset is at.to more).offset_is,
+        (ap (λ (t : Token). offset + t.len) token_is ∙ (lexed_more law text at.items offset is at.to more).offset_is),
+        boundary (length (at.items ++ first (drop offset text) ∷ [])),
+      )
 
   -- whatever is appended, the tokens before a bound that two characters follow stay
   pub stays_at : (more : List ℕ) (k : ℕ) → IsText (text ++ more) → k ≤ length (tokens_by first text)
@@ -82,22 +89,22 @@ module _ {first : List ℕ → Token} (law : IsGrammar first) (text : List ℕ) 
   stays_at more k its few two =
       let b : ℕ = bound (tokens_by first text) k in
       let middle : IsUtf8 (take (length text - b) (drop b text)) =
-          IsUtf8-between text b (length text) is.utf8 (boundary k).0 (boundary k).1 (IsCharBoundary-end text) in
+      IsUtf8-between text b (length text) is.utf8 (boundary k).0 (boundary k).1 (IsCharBoundary-end text) in
       tokens_local law k text (text ++ more) is its few
-          (has_two-agree text (text ++ more) b (length text) middle
-          (take_at text more (length text) refl ∙ sym (take-length text)) two)
+      (has_two-agree text (text ++ more) b (length text) middle
+      (take_at text more (length text) refl ∙ sym (take-length text)) two)
 
   pub stays : (offset : ℕ) → IsSettled text (tokens_by first text) offset → StaysUpTo offset text (tokens_by first)
   stays offset settled more zero its few le = refl
   stays offset settled more (suc k) its few le =
       let b : ℕ = bound (tokens_by first text) (suc k) in
       let positive : 0 < b =
-          omega (arith, rises law text is 0 (omega arith), bound_mono (tokens_by first text) 1 (suc k) (omega arith)) in
+      omega (arith, rises law text is 0 (omega arith), bound_mono (tokens_by first text) 1 (suc k) (omega arith)) in
       let at_offset : IsCharBoundary text offset =
-          subst (IsCharBoundary text) settled.at_bound.2 (boundary settled.at_bound.0).1 in
+      subst (IsCharBoundary text) settled.at_bound.2 (boundary settled.at_bound.0).1 in
       stays_at more (suc k) its few
-          (has_two-mono text b offset (length text) is.utf8 le (boundary (suc k)).1 at_offset
-          (settled.two (omega arith)))
+      (has_two-mono text b offset (length text) is.utf8 le (boundary (suc k)).1 at_offset
+      (settled.two (omega arith)))
 
 pub local : {first : List ℕ → Token} (law : IsGrammar first) → AreLocal (tokens_by first)
 local law text other k is its few agree = tokens_local law k text other is its few agree

@@ -1,8 +1,7 @@
 -- Relexing is under way: from its beginning, past tokens, to the meeting.
-use Rattle.std.proofs.Common.{
-    ◌≡◌, ◌↔◌, ℕ, ◌+◌, ◌-◌, ◌<◌, ◌≤◌, Bool, true, false, true≢false, eqb, eqb-true, List, ◌∷◌, ◌++◌, length, take, drop,
-    refl, sym, ap, ◌∙◌, ap₂, suc, subst, arith, inl, inr, length-drop, drop-drop, take-append-drop, max, eq-or-lt_of_le
-}
+use Rattle.std.proofs.Common.{◌≡◌, ◌↔◌, ℕ, ◌+◌, ◌-◌, ◌<◌, ◌≤◌, Bool, true, false, true≢false, eqb, eqb-true, List, ◌∷◌}
+use Rattle.std.proofs.Common.{◌++◌, length, take, drop, refl, sym, ap, ◌∙◌, ap₂, suc, subst, arith, inl, inr}
+use Rattle.std.proofs.Common.{length-drop, drop-drop, take-append-drop, max, eq-or-lt_of_le}
 use Rattle.std.proofs.lemmas.{Bool.{cases_lt}, Grind.{common_steps}}
 use Rattle.rustc_lexer.specs.declared.relex.front.{Meeting.Meeting, TokenStart.TokenStart}
 use Rattle.rustc_lexer.specs.{declared.relex.relexing.{Change.Change, Relexed.Relexed, Relexing.Relexing}, Token}
@@ -25,13 +24,15 @@ module _ (old new : List Token) (old_stop new_stop number offset : ℕ) (back : 
   meets_there : ((k : ℕ) → k < back.index → bound old k + new_stop < max new_stop offset + old_stop)
       → (new_stop ≤ offset → back.index < length old → offset + old_stop ≤ back.offset + new_stop)
       → (rest : ℕ) × IsMeeting (bare old) (bare new) old_stop new_stop number rest → (new_stop ≤ offset)
-          × (offset + old_stop ≡ back.offset + new_stop)
+      × (offset + old_stop ≡ back.offset + new_stop)
   meets_there w0 w1 w2 = grind (arith, common_steps, cases_lt, eq-or-lt_of_le, bound_mono)
 
   met_by : {met : Bool} → number ≤ length new → IsFollowed old old_stop new_stop offset back met → (met ≡ true)
       ↔ ((rest : ℕ) × IsMeeting (bare old) (bare new) old_stop new_stop number rest)
-  met_by few f = (λ hit. (length old - back.index, meets_here few (f.met_is.0 hit)),
-      λ m. f.met_is.1 (meets_there f.passed f.reached m))
+  met_by few f = (
+    λ hit. (length old - back.index, meets_here few (f.met_is.0 hit)),
+    λ m. f.met_is.1 (meets_there f.passed f.reached m),
+  )
 
 -- no old token that has not been followed is met before an offset
 abbrev pub IsClear : Change → Relexing → ℕ → Type 0
@@ -63,13 +64,18 @@ module _ {first : List ℕ → Token} (law : IsGrammar first) {before lengths in
   pub begun : (front : TokenStart) (to : Meeting) → front.index ≡ kept_front before old change.start → IsBound old front
       → IsFollowed old change.old_stop change.new_stop front.offset to.at to.met
       → (front.offset < change.new_stop → to.at ≡ front)
-      → IsUnderWay first before change text record { front = front; lexed = 0; back = to.at; at = front.offset;
-          met = to.met }
+      → IsUnderWay first before change text record {
+        front = front;
+        lexed = 0;
+        back = to.at;
+        at = front.offset;
+        met = to.met;
+      }
   begun front to number at followed stays =
       let same = kept_old front.index number in
       let none : front.index ≡ front.index + 0 = omega arith in
       let offset : front.offset ≡ bound new (front.index + 0) =
-          at.1 ∙ (bound-same front.index old new same.0 ∙ ap (bound new) none) in
+      at.1 ∙ (bound-same front.index old new same.0 ∙ ap (bound new) none) in
       let inside : front.index + 0 ≤ length new = omega (arith, same.1) in
       record {
         front = number;
@@ -130,13 +136,13 @@ module _ {first : List ℕ → Token} (law : IsGrammar first) {before lengths in
     rest_met hit =
         let here = meets_there old new _ _ _ _ _ u.offset u.back_bound u.passed u.reached (u.met.0 hit) in
         met_rest law is.edit_of (known at) at.back.index (omega (arith, here.0, u.offset))
-            (omega (arith, here.1, u.back_bound.1, u.offset))
+        (omega (arith, here.1, u.back_bound.1, u.offset))
 
     -- the counts are those of the edit, and the new tokens are whole
     pub counts_met : at.met ≡ true
         → IsRelexed (part_by first) before change.start change.old_stop insert
-            (record { kept_front = at.front.index; lexed = at.lexed; kept_back = length old - at.back.index })
-            × IsWhole old new at
+        (record { kept_front = at.front.index; lexed = at.lexed; kept_back = length old - at.back.index })
+        × IsWhole old new at
     counts_met hit =
         let front = (kept_old at.front.index u.front).0 in
         let rest = rest_met hit in
@@ -148,8 +154,11 @@ module _ {first : List ℕ → Token} (law : IsGrammar first) {before lengths in
                 meets_here old new _ _ _ _ _ u.offset u.back_bound u.inside here;
             none_before = u.none_before;
           },
-          cc (take-append-drop at.front.index new, take-append-drop at.lexed (drop at.front.index new),
-              drop-drop at.lexed at.front.index new),
+          cc (
+            take-append-drop at.front.index new,
+            take-append-drop at.lexed (drop at.front.index new),
+            drop-drop at.lexed at.front.index new,
+          ),
         )
 
     -- past so many tokens
@@ -202,15 +211,25 @@ module _ {first : List ℕ → Token} (law : IsGrammar first) {before lengths in
           let k : ℕ = number - known at in
           let here : known at + k ≡ number = omega (arith, more) in
           let early : bound new number < end =
-              omega (arith, begin k (omega (arith, more, less, known_past)), shift k, ap (bound new) here) in
+          omega (arith, begin k (omega (arith, more, less, known_past)), shift k, ap (bound new) here) in
           let later : at.at < bound new number =
-              omega (arith, u.offset, rises law text (edited is.edit_of).text_is (known at)
-              (omega (arith, more, m.number_inside)), bound_mono new (suc (known at)) number more) in
+          omega (
+            arith,
+            u.offset,
+            rises law text (edited is.edit_of).text_is (known at)
+                (omega (arith, more, m.number_inside)),
+            bound_mono new (suc (known at)) number more,
+          ) in
           let free = clear (bound new number) later early (omega (arith, m.past_edit)) in
           elim (cases_lt m.old_number at.back.index) [
             | inl below ↦ omega (arith, u.passed m.old_number below, free.0, m.same_offset, later)
-            | inr far ↦ omega (arith, u.back_bound.1, bound_mono old at.back.index m.old_number far, m.same_offset,
-                free.1)
+            | inr far ↦ omega (
+              arith,
+              u.back_bound.1,
+              bound_mono old at.back.index m.old_number far,
+              m.same_offset,
+              free.1,
+            )
           ]
 
     -- the next token
@@ -219,11 +238,11 @@ module _ {first : List ℕ → Token} (law : IsGrammar first) {before lengths in
     gives_next {token} {past} out token_is steps =
         let rest : List ℕ = drop at.at text in
         let rest_is : IsText rest =
-            subst (λ p. IsText (drop p text)) (sym u.offset)
-            (at_bound law (known at) text (edited is.edit_of).text_is).past in
+        subst (λ p. IsText (drop p text)) (sym u.offset)
+        (at_bound law (known at) text (edited is.edit_of).text_is).past in
         let cons = sym left_at ∙ tokens-cons law rest rest_is (omega (arith, more_left out, length-drop at.at text)) in
         let behind : drop (known past) new ≡ tokens_by first (drop (first rest).len rest) =
-            ap (λ n. drop n new) (known_past steps) ∙ (sym (drop-drop 1 (known at) new) ∙ ap (drop 1) cons) in
+        ap (λ n. drop n new) (known_past steps) ∙ (sym (drop-drop 1 (known at) new) ∙ ap (drop 1) cons) in
         cons ∙ ap₂ (λ (t : Token) (ts : List Token). t ∷ ts) (sym token_is) (sym behind)
 
   -- the tokens that were lexed for it, put between those that are kept, are the new ones

@@ -1,9 +1,8 @@
 -- An edit of a text with its head: what it is to the body, whose counts give its own.
-use Rattle.std.proofs.Common.{
-    ◌≡◌, ℕ, max, ◌+◌, ◌-◌, ◌<◌, ◌≤◌, Bool, true, false, if◌then◌else◌, true≢false, List, [], ◌∷◌, length, map, drop,
-    refl, sym, ap, ◌∙◌, arith, drop-drop, IsTrue, ◌↔◌, ◌++◌, take, ap₂, subst, length-drop, take-append-drop,
-    length-take-le, IsUtf8, IsCharBoundary, take-add, append_assoc, Result, OnOk
-}
+use Rattle.std.proofs.Common.{◌≡◌, ℕ, max, ◌+◌, ◌-◌, ◌<◌, ◌≤◌, Bool, true, false, if◌then◌else◌, true≢false, List, []}
+use Rattle.std.proofs.Common.{◌∷◌, length, map, drop, refl, sym, ap, ◌∙◌, arith, drop-drop, IsTrue, ◌↔◌, ◌++◌, take}
+use Rattle.std.proofs.Common.{ap₂, subst, length-drop, take-append-drop, length-take-le, IsUtf8, IsCharBoundary}
+use Rattle.std.proofs.Common.{take-add, append_assoc, Result, OnOk}
 use Rattle.std.proofs.Math.Nat.{le-max_left, le-max_right, max-le}
 use Rattle.std.specs.List.{count_by}
 use Rattle.std.proofs.lemmas.Grind.{common_steps}
@@ -12,9 +11,8 @@ use Rattle.rustc_lexer.specs.Edits.{body_in, ends_from, IsMeeting, IsRelexed, Is
 use Rattle.rustc_lexer.specs.Locality.{has_two, IsGrammar}
 use Rattle.rustc_lexer.specs.{Relexing.{IsEditOf, IsMadeOf, IsBodyChange, IsHeadOf, IsInBody}, Partition.{Layout}}
 use Rattle.rustc_lexer.specs.Tokens.{tokens_by}
-use Rattle.rustc_lexer.specs.means.Document.{
-    body_change, body_insert, by_head, counted, IsHeadIn, TakesFew, tokens_of_head
-}
+use Rattle.rustc_lexer.specs.means.Document.{body_change, body_insert, by_head, counted, IsHeadIn, TakesFew}
+use Rattle.rustc_lexer.specs.means.Document.{tokens_of_head}
 use Rattle.rustc_lexer.proofs.lemmas.edits.KeptFront.{kept_none}
 use Rattle.rustc_lexer.proofs.lemmas.edits.OneAnswer.{relexed_is, counts_of, meets, meets_behind}
 use Rattle.rustc_lexer.proofs.lemmas.edits.{FrontAndBack.{edited, IsEdited, same_rest}, Bounds.{count-cons, rest_is}}
@@ -64,20 +62,29 @@ module _ {first : List ℕ → Token} (law : IsGrammar first) {text insert made 
       let b = e.is_edit.inside.stop_inside in
       let there : from + (edit.start - from) ≡ edit.start = omega arith in
       let front : drop from (take edit.start text) ≡ take (edit.start - from) (drop from text) =
-          ap (λ n. drop from (take n text)) (sym there)
+      ap (λ n. drop from (take n text)) (sym there)
       ∙ drop-take from (edit.start - from) text in
       let back : drop edit.old_stop text ≡ drop (edit.old_stop - from) (drop from text) =
-          drop-past text from edit.old_stop (omega arith) in
+      drop-past text from edit.old_stop (omega arith) in
       let few : from ≤ length (take edit.start text) = omega (arith, length-take-le edit.start text (omega arith)) in
       ap (λ n. drop n made) (sym same) ∙ (ap (drop from) e.made
       ∙ (drop-append-le from (take edit.start text) (insert ++ drop edit.old_stop text) few
-          ∙ ap₂ (λ xs ys. xs ++ (insert ++ ys)) front back))
+      ∙ ap₂ (λ xs ys. xs ++ (insert ++ ys)) front back))
 
   kept_body : from ≡ to → from ≤ edit.start
       → IsMadeOf first (drop from text) lengths (body_change true from to edit) insert body
   kept_body same before =
-      grind (arith, e.is_edit.inside.start_le_stop, e.is_edit.inside.stop_inside, e.is_edit.short, e.new_stop, old_text,
-          length-drop, boundary-past, kept_made)
+      grind (
+        arith,
+        e.is_edit.inside.start_le_stop,
+        e.is_edit.inside.stop_inside,
+        e.is_edit.short,
+        e.new_stop,
+        old_text,
+        length-drop,
+        boundary-past,
+        kept_made,
+      )
 
   -- it does not: up to here both differ
   abbrev past : ℕ
@@ -96,13 +103,22 @@ module _ {first : List ℕ → Token} (law : IsGrammar first) {text insert made 
 
   ends_inside : (from ≤ old_end) × (to ≤ new_end) × (old_end ≤ length text) × (new_end ≤ length made)
   unfolding ed
-  ends_inside = grind (arith, common_steps, max-le, le-max_left, le-max_right, ed.len, ed.old_inside, old_at.0,
-      now_at.0)
+  ends_inside = grind (
+    arith,
+    common_steps,
+    max-le,
+    le-max_left,
+    le-max_right,
+    ed.len,
+    ed.old_inside,
+    old_at.0,
+    now_at.0,
+  )
 
   back_utf8 : IsUtf8 (drop old_end text)
   back_utf8 = by_max (λ n. IsUtf8 (drop (edit.old_stop + n) text)) (from - edit.old_stop) (to - edit.new_stop)
       (by_past (λ n. IsUtf8 (drop n text)) edit.old_stop from
-          (IsUtf8-drop text edit.old_stop e.is_text.utf8 e.is_edit.inside.stop_boundary)
+      (IsUtf8-drop text edit.old_stop e.is_text.utf8 e.is_edit.inside.stop_boundary)
       (IsUtf8-drop text from e.is_text.utf8 old_at))
       (let m : ℕ = to - edit.new_stop in
       let there : edit.new_stop + m - edit.new_stop + edit.old_stop ≡ edit.old_stop + m = omega arith in
@@ -123,7 +139,7 @@ module _ {first : List ℕ → Token} (law : IsGrammar first) {text insert made 
       let size : length body ≡ length made - to = length-drop to made in
       let back : drop (new_end - to) body ≡ drop old_end text = sym (drop-past made to new_end i.1) ∙ same_back in
       let cut : IsCharBoundary body (new_end - to) =
-          IsCharBoundary-from_drop body (new_end - to) (omega arith) (rw back back_utf8) in
+      IsCharBoundary-from_drop body (new_end - to) (omega arith) (rw back back_utf8) in
       let long : length (take (new_end - to) body) ≡ new_end - to = length-take-le (new_end - to) body (omega arith) in
       let old_back : drop old_end text ≡ drop (old_end - from) (drop from text) = drop-past text from old_end i.0 in
       record {
@@ -150,21 +166,21 @@ module _ {first : List ℕ → Token} (law : IsGrammar first) {text insert made 
   -- what an edit is to the body
   pub made_body : (kept : Bool) → (kept ≡ true → (from ≡ to) × (from ≤ edit.start))
       → IsMadeOf first (drop from text) lengths (body_change kept from to edit)
-          (body_insert kept (body_change kept from to edit) insert body) body
+      (body_insert kept (body_change kept from to edit) insert body) body
   made_body true decided = kept_body (decided refl).0 (decided refl).1
   made_body false decided = front_body
 
 -- the tokens behind the first ones are replaced
 put_is : (tokens lexed : List Token) (n f b : ℕ) → f ≤ b → n + b ≤ length tokens
     → take (n + f) tokens ++ (lexed ++ drop (n + b) tokens) ≡
-        take n tokens ++ (take f (drop n tokens) ++ (lexed ++ drop b (drop n tokens)))
+    take n tokens ++ (take f (drop n tokens) ++ (lexed ++ drop b (drop n tokens)))
 put_is tokens lexed n f b le inside = grind (arith, common_steps, take-add, drop-drop, append_assoc)
 
 pub put_behind : (tokens lexed : List Token) (n f b : ℕ) (keeps : Bool) (head : List Token) → f ≤ b
     → n + b ≤ length tokens → keeps ≡ true → {E : Type 0} (r : Result Unit E) (now : List Token)
     → OnOk r (now ≡ take (n + f) tokens ++ (lexed ++ drop (n + b) tokens))
-        → OnOk r (now ≡ (if keeps then take n tokens else head)
-        ++ (take f (drop n tokens) ++ (lexed ++ drop b (drop n tokens))))
+    → OnOk r (now ≡ (if keeps then take n tokens else head)
+    ++ (take f (drop n tokens) ++ (lexed ++ drop b (drop n tokens))))
 put_behind tokens lexed n f b keeps head w6 w7 w8 r now w11 = grind (arith, common_steps, put_is)
 
 -- ---- the counts of an edit
@@ -178,7 +194,7 @@ two_behind text from end to = grind (arith, common_steps, drop-drop)
 
 fronts : (text : List ℕ) (from at to : ℕ) (tokens : List Token)
     → count_by (λ end. has_two (drop from text) end (to - from)) (ends_from at tokens) ≡
-        count_by (λ end. has_two text end to) (ends_from (from + at) tokens)
+    count_by (λ end. has_two text end to) (ends_from (from + at) tokens)
 fronts text from at to [] = refl
 fronts text from at to (t ∷ ts) =
     grind (arith, common_steps, count-cons, two_behind, fronts text from (at + t.len) to ts)
@@ -188,7 +204,7 @@ fronts text from at to (t ∷ ts) =
 module _ {first : List ℕ → Token} (law : IsGrammar first) {layout : (List ℕ → Token) → List ℕ → Layout}
     {text insert made : List ℕ} {edit : Change}
     (e : IsEditOf text edit insert made) {was now : Head} (was_is : IsHeadIn layout text was)
-        (now_is : IsHeadIn layout made now) {kept : Bool}
+    (now_is : IsHeadIn layout made now) {kept : Bool}
     (decided : IsTrue kept ↔ ((was ≡ now) × (was.body ≤ edit.start))) where
   abbrev old : Layout
   old = by_head was first text
@@ -220,8 +236,16 @@ module _ {first : List ℕ → Token} (law : IsGrammar first) {layout : (List �
 
   is_past : (stays : Bool) → (stays ≡ true → (was.body ≡ now.body) × (was.body ≤ edit.start)) → IsPast stays
   is_past stays w1 =
-      grind (arith, common_steps, body_at was_is first, body_at now_is first, le-max_left, le-max_right, max-le,
-      edited e)
+      grind (
+        arith,
+        common_steps,
+        body_at was_is first,
+        body_at now_is first,
+        le-max_left,
+        le-max_right,
+        max-le,
+        edited e,
+      )
 
   abbrev InBody : Bool → Relexed → Type 0
   InBody stays x = IsRelexedTo (part_by first (drop was.body text)) (part_by first (drop now.body made))
@@ -233,7 +257,7 @@ module _ {first : List ℕ → Token} (law : IsGrammar first) {layout : (List �
 
   module _ {stays : Bool} (p : IsPast stays) (r x : Relexed) (is_body : InBody stays x)
       (sum : r.kept_front + r.lexed ≡ length new.head + (x.kept_front + x.lexed))
-          (back_is : r.kept_back ≡ x.kept_back) where
+      (back_is : r.kept_back ≡ x.kept_back) where
     meeting : IsMeeting old new edit.old_stop edit.new_stop (r.kept_front + r.lexed) r.kept_back
     meeting = rw (back_is, sum) (meets old new edit.old_stop edit.new_stop (more stays) (change stays).old_stop
         (change stays).new_stop p.old_more p.new_more p.least _ _ is_body.meeting)
@@ -252,10 +276,10 @@ module _ {first : List ℕ → Token} (law : IsGrammar first) {layout : (List �
       let k = (head_stays was_is now_is first edit.start refl refl).1 (decided.0 same) in
       let begin : was.body + 0 ≡ body_in old = omega (arith, body_at was_is first) in
       let ends = fronts text was.body 0 edit.start old.body
-          ∙ ap (λ n. count_by (λ end. has_two text end edit.start) (ends_from n old.body)) begin in
+      ∙ ap (λ n. count_by (λ end. has_two text end edit.start) (ends_from n old.body)) begin in
       let heads : length old.head ≡ length new.head = ap (λ (ts : List Token). length ts) k.2 in
       let sum : length old.head + x.kept_front + x.lexed ≡ length new.head + (x.kept_front + x.lexed) =
-          omega (arith, heads) in
+      omega (arith, heads) in
       record {
         kept = λ again. omega (arith, is_body.kept (omega arith, refl, refl), ends);
         changed = λ none. absurd (none k);
@@ -265,7 +289,7 @@ module _ {first : List ℕ → Token} (law : IsGrammar first) {layout : (List �
       }
   relexed_to false same p x is_body =
       let none : x.kept_front ≡ 0 =
-          omega (arith, is_body.kept (omega arith, refl, refl), kept_none (drop was.body text) old.body) in
+      omega (arith, is_body.kept (omega arith, refl, refl), kept_none (drop was.body text) old.body) in
       let sum : x.kept_front + (length new.head + x.lexed) ≡ length new.head + (x.kept_front + x.lexed) = omega arith in
       record {
         kept = λ k. absurd
@@ -288,7 +312,7 @@ module _ {first : List ℕ → Token} (law : IsGrammar first) {layout : (List �
   relexed_as x found =
       let p = is_past kept (λ stays. let s = decided.0 stays in (ap (λ (h : Head). h.body) s.0, s.1)) in
       (counts_of (layout first) e (all_of kept x)).1
-          (rw (was_is.layout_is first, now_is.layout_is first) (relexed_to kept refl p x (as_body x found)))
+      (rw (was_is.layout_is first, now_is.layout_is first) (relexed_to kept refl p x (as_body x found)))
 
   -- the tokens of a new head take no step
   pub steps_by : (x : Relexed) → Found x → length (layout first made).head - (all_of kept x).kept_front + x.lexed ≡
@@ -306,9 +330,11 @@ module _ {first : List ℕ → Token} (law : IsGrammar first) {layout : (List �
       → TakesFew (layout first) text edit.start edit.old_stop insert before after
   few_by before after few =
       let counts = relexed_is law body_made.edit_of in
-      let found = (counts_of (part_by first) body_made.edit_of counts.0).1 counts.1 in
-      (all_of kept counts.0, relexed_as counts.0 found,
-          rw (sym e.made) (omega (arith, few counts.0 found, steps_by counts.0 found)))
+      let found = (counts_of (part_by first) body_made.edit_of counts.0).1 counts.1 in (
+        all_of kept counts.0,
+        relexed_as counts.0 found,
+        rw (sym e.made) (omega (arith, few counts.0 found, steps_by counts.0 found)),
+      )
 
 -- ---- a document
 
@@ -316,22 +342,22 @@ pub body_is : {first : List ℕ → Token} (law : IsGrammar first) (before inser
     (old now : Head) (kept : Bool) (change : Change)
     → IsEditOf before edit insert text → IsHeadOf before old → IsHeadOf text now
     → IsTrue kept ↔ ((old ≡ now) × (old.body ≤ edit.start)) → change ≡ body_change kept old.body now.body edit
-        → IsBodyChange first before edit insert text kept change
+    → IsBodyChange first before edit insert text kept change
 body_is {first} law before insert text edit old now kept change e old_head now_head decided change_is =
     rw change_is record {
-  keeps = (λ k. stays.1 (decided.0 k), λ s. decided.1 (stays.0 s));
-  put = inserted;
-  made_of =
-      subst (λ n. IsMadeOf first (drop n before) (map (λ (t : Token). t.len) (tokens_by first (drop n before))) ch
-      inserted (drop (body_start text) text))
-      old_head.end_is
-      (subst (λ n. IsMadeOf first (drop old.body before)
+      keeps = (λ k. stays.1 (decided.0 k), λ s. decided.1 (stays.0 s));
+      put = inserted;
+      made_of =
+          subst (λ n. IsMadeOf first (drop n before) (map (λ (t : Token). t.len) (tokens_by first (drop n before))) ch
+          inserted (drop (body_start text) text))
+          old_head.end_is
+          (subst (λ n. IsMadeOf first (drop old.body before)
           (map (λ (t : Token). t.len) (tokens_by first (drop old.body before))) ch inserted (drop n text))
-      now_head.end_is
-      (body_made law e old_is now_is decided));
-  counts_kept = counts true;
-  counts_new = counts false;
-}
+          now_head.end_is
+          (body_made law e old_is now_is decided));
+      counts_kept = counts true;
+      counts_new = counts false;
+    }
   where
     old_is : IsHeadIn whole_by before old
     old_is = whole_head before e.is_text old old_head
@@ -358,17 +384,21 @@ body_is {first} law before insert text edit old now kept change e old_head now_h
         → Counted k (head_tokens before) (head_tokens text) r
     counts k same r x =
         let there = subst (λ n. IsRelexed (part_by first) (drop n before) ch.start ch.old_stop inserted r)
-            (sym old_head.end_is) x in
+        (sym old_head.end_is) x in
         subst (λ k. Counted k (head_tokens before) (head_tokens text) r) same
-            (subst (λ ts. Counted kept ts (head_tokens text) r) old_head.tokens_are
+        (subst (λ ts. Counted kept ts (head_tokens text) r) old_head.tokens_are
         (subst (λ ts. Counted kept (tokens_of_head old) ts r) now_head.tokens_are
-            (relexed_as law e old_is now_is decided r there)))
+        (relexed_as law e old_is now_is decided r there)))
 
 -- what the change is, by its places
 pub in_body : (kept : Bool) (from to : ℕ) (edit : Change)
     → (kept ≡ true → (from ≤ edit.start) × (edit.start ≤ edit.old_stop) × (edit.start ≤ edit.new_stop))
     → IsInBody kept from to edit (body_change kept from to edit)
 in_body true from to edit order = let o = order refl in grind (arith, common_steps, o.0, o.1, o.2)
-in_body false from to edit order =
-    (max (from - edit.old_stop) (to - edit.new_stop), refl, omega arith, omega arith,
-    λ n old new. omega (arith, old, new))
+in_body false from to edit order = (
+  max (from - edit.old_stop) (to - edit.new_stop),
+  refl,
+  omega arith,
+  omega arith,
+  λ n old new. omega (arith, old, new),
+)

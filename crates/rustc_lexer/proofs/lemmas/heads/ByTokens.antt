@@ -1,8 +1,7 @@
 -- The head that is found in a document is the one that its tokens tell: those up to the frontmatter.
-use Rattle.std.proofs.Common.{
-    ◌≡◌, ℕ, zero, suc, ◌+◌, ◌-◌, ◌≤◌, true, false, true≢false, List, [], ◌∷◌, ◌++◌, length, length-append, length-drop,
-    drop-drop, take, drop, refl, sym, ap, ap₂, ◌∙◌, subst, arith, chars, Option, None, Some, IsCharBoundary
-}
+use Rattle.std.proofs.Common.{◌≡◌, ℕ, zero, suc, ◌+◌, ◌-◌, ◌≤◌, true, false, true≢false, List, [], ◌∷◌, ◌++◌, length}
+use Rattle.std.proofs.Common.{length-append, length-drop, drop-drop, take, drop, refl, sym, ap, ap₂, ◌∙◌, subst, arith}
+use Rattle.std.proofs.Common.{chars, Option, None, Some, IsCharBoundary}
 use Rattle.std.proofs.{Math.Seq.{take-append_seam}, lemmas.Bool.{not-true}}
 use Rattle.rustc_lexer.specs.{Edition, Token, TokenKind, declared.head.Head.{Head}, Classes.{IsText, bytes}}
 use Rattle.rustc_lexer.specs.Answers.{first_in}
@@ -77,7 +76,7 @@ pub record IsHead (text : List ℕ) (head : Head) : Type 0 where
   pub is_one : (t : Token) → head.frontmatter ≡ Some t → is_frontmatter t.kind ≡ true
   pub tokens : (edition : Edition)
       → front_tokens head.space_len head.frontmatter ++ read_tokens (part edition) (drop head.body text) ≡
-          document_tokens edition text
+      document_tokens edition text
 
 module _ (text : List ℕ) (is : IsText text) where
   abbrev all : List Token
@@ -98,21 +97,24 @@ module _ (text : List ℕ) (is : IsText text) where
     head_is {space} {front} {len} at body body_is =
         let ts : List Token = front_tokens space front in
         let whole : all ≡ ts ++ read_tokens (part newest) (drop len rest) =
-            ap (read_tokens (source newest)) (sym rest_same) ∙ at.tokens newest in
+        ap (read_tokens (source newest)) (sym rest_same) ∙ at.tokens newest in
         let end : bound all (length ts) ≡ len = ap (λ us. bound us (length ts)) whole
-            ∙ (bound-append ts _ ∙ sym at.ends) in
+        ∙ (bound-append ts _ ∙ sym at.ends) in
         let cut : IsCharBoundary rest len =
-            subst (IsCharBoundary rest) end (subst (λ xs. IsCharBoundary xs (bound all (length ts))) (sym rest_same)
+        subst (IsCharBoundary rest) end (subst (λ xs. IsCharBoundary xs (bound all (length ts))) (sym rest_same)
         ((partitions _ (source newest) (rest_text _ refl)).boundaries (length ts)
         (omega (arith, ap length whole, length-append ts (read_tokens (part newest) (drop len rest)))))) in
         let behind : drop body text ≡ drop len rest = ap (λ k. drop k text) body_is
-            ∙ (sym (drop-drop len n text) ∙ ap (drop len) (sym rest_is)) in
+        ∙ (sym (drop-drop len n text) ∙ ap (drop len) (sym rest_is)) in
         let its = rest_text rest rest_same in
         let left : IsText (drop len rest) =
-        record { utf8 = IsUtf8-drop rest len its.utf8 cut; fits = let f = its.fits in
-            omega (arith, length-drop len rest) } in
+        record {
+          utf8 = IsUtf8-drop rest len its.utf8 cut;
+          fits = let f = its.fits in
+              omega (arith, length-drop len rest);
+        } in
         let count : head_count all ≡ length ts =
-            ap head_count whole ∙ count-front space front _ at.is_one (part-none newest (drop len rest) left) in
+        ap head_count whole ∙ count-front space front _ at.is_one (part-none newest (drop len rest) left) in
         record {
           of = record {
             shebang_is = n_is;
@@ -177,7 +179,7 @@ module _ (text : List ℕ) (is : IsText text) where
   in_edition edition =
       let some = some_head.1 in
       sym (ap₂ (λ ts n. ts ++ tokens_by (first_in edition) (drop n text)) some.of.tokens_are some.of.end_is)
-          ∙ some.tokens edition
+      ∙ some.tokens edition
 
   -- the tokens of the head are cut between characters
   pub head_cuts : (k : ℕ) → k ≤ length (head_tokens text)
@@ -185,8 +187,8 @@ module _ (text : List ℕ) (is : IsText text) where
   head_cuts k few =
       let same : bound all k ≡ bound (head_tokens text) k =
       bound-same k all (head_tokens text)
-          (sym (take-take k (head_count all) all (omega (arith, few, length-take (head_count all) all)))) in
+      (sym (take-take k (head_count all) all (omega (arith, few, length-take (head_count all) all)))) in
       IsCharBoundary-from_rest text (tokens_start text) (bound (head_tokens text) k) (start-boundary text is).0
       (subst (IsCharBoundary rest) same
       ((partitions rest (source newest) (rest_text rest refl)).boundaries k
-          (omega (arith, few, length-take (head_count all) all))))
+      (omega (arith, few, length-take (head_count all) all))))

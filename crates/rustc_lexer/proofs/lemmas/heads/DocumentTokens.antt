@@ -1,16 +1,14 @@
 -- The tokens of a document: those of its head, and those of its body.
 use Rattle.std.proofs.lemmas.Grind.{common_steps}
-use Rattle.std.proofs.Common.{
-    ◌≡◌, ℕ, zero, suc, ◌+◌, ◌-◌, ◌<◌, Bool, not, true, false, true≢false, List, [], ◌∷◌, ◌++◌, length, take, drop, refl,
-    sym, ap, ap₂, ◌∙◌, subst, arith, length-drop, drop-drop, take-append-drop, append_assoc, length-append, codes,
-    get_or, IsUtf8, IsCharBoundary, chars, Option, None, Some
-}
+use Rattle.std.proofs.Common.{◌≡◌, ℕ, zero, suc, ◌+◌, ◌-◌, ◌<◌, Bool, not, true, false, true≢false, List, [], ◌∷◌, ◌++◌}
+use Rattle.std.proofs.Common.{length, take, drop, refl, sym, ap, ap₂, ◌∙◌, subst, arith, length-drop, drop-drop}
+use Rattle.std.proofs.Common.{take-append-drop, append_assoc, length-append, codes, get_or, IsUtf8, IsCharBoundary}
+use Rattle.std.proofs.Common.{chars, Option, None, Some}
 use Rattle.std.specs.Option.{unwrap_or}
 use Rattle.std.proofs.{lemmas.Bool.{and_parts, eqb-true, not-true}, Math.Seq.{get_or-append_seam}}
 use Rattle.std.proofs.lemmas.Str.{IsCharBoundary-from_rest, IsUtf8-drop}
-use Rattle.std.proofs.lemmas.Str.{
-    length-le-encodes, IsCharBoundary-before_ascii, IsCharBoundary-end, IsCharBoundary-start
-}
+use Rattle.std.proofs.lemmas.Str.{length-le-encodes, IsCharBoundary-before_ascii, IsCharBoundary-end}
+use Rattle.std.proofs.lemmas.Str.{IsCharBoundary-start}
 use Rattle.rustc_lexer.specs.{Edition, Token, TokenKind, Eof, Whitespace, Classes.{is_whitespace, IsText, bytes}}
 use Rattle.rustc_lexer.specs.{Document.{mark_len, tokens_start}, means.Document.{front_tokens}, Answers.{shebang}}
 use Rattle.rustc_lexer.specs.Language as the
@@ -18,9 +16,8 @@ use Rattle.rustc_lexer.specs.LanguageCalls as calls
 use Rattle.rustc_lexer.specs.{LanguageCalls.{IsLineBefore, IsShebang}, laws.TheAnswers.{the_shebang}}
 use Rattle.rustc_lexer.specs.Language.{IsTokenBefore}
 use Rattle.rustc_lexer.specs.LanguageText as grammar
-use Rattle.rustc_lexer.specs.LanguageText.{
-    AreTokens, IsTokenIn, Mode, is_source, mode_after, mode_edition, part, source
-}
+use Rattle.rustc_lexer.specs.LanguageText.{AreTokens, IsTokenIn, Mode, is_source, mode_after, mode_edition, part}
+use Rattle.rustc_lexer.specs.LanguageText.{source}
 use Rattle.rustc_lexer.specs.{FrontmatterGrammar.{OpensNone}, Tables.{symbols}, laws.Choice.{by_either, by_symbol}}
 use Rattle.rustc_lexer.specs.laws.{LanguageFrontmatter.{opens-none}, LanguageIn.{oldest}}
 use Rattle.rustc_lexer.specs.laws.{LanguageTokens.{tokens-are, tokens-read}, Frontmatter.{frontmatter-cut}}
@@ -74,10 +71,10 @@ module _ (edition : Edition) where
   unfolding frontmatter
   with-front text is e =
       let some : 0 < length text = (let cut = frontmatter-cut text is.utf8 e in let i = cut.inside in
-          let m = cut.not_empty in omega arith) in
+      let m = cut.not_empty in omega arith) in
       let at : token_at (source edition) text ≡ frontmatter text = rw e refl in
       tokens-cons (source edition) text is some
-          ∙ ap (λ (t : Token). t ∷ read_tokens (mode_after (source edition) t.kind) (drop t.len text)) at
+      ∙ ap (λ (t : Token). t ∷ read_tokens (mode_after (source edition) t.kind) (drop t.len text)) at
 
   -- none, and no white space
   as-source : {cs : List ℕ} {tokens : List Token} → AreTokens (part edition) cs tokens → OpensNone cs
@@ -86,8 +83,8 @@ module _ (edition : Edition) where
   as-source grammar.nothing none out = grammar.nothing
   as-source (grammar.something {kind} {next} {tokens} p free rest) none out =
       grammar.something p (λ e. none)
-          (subst (λ (mode : Mode). AreTokens mode next tokens)
-          (sym (solid-after edition kind (solid-in p out (omega arith)))) rest)
+      (subst (λ (mode : Mode). AreTokens mode next tokens)
+      (sym (solid-after edition kind (solid-in p out (omega arith)))) rest)
 
   without-space : (text : List ℕ) → IsText text → opens (chars text) ≡ false → next_is is_whitespace (chars text) ≡
       false → read_tokens (source edition) text ≡ read_tokens (part edition) text
@@ -106,8 +103,10 @@ module _ (edition : Edition) where
     tail_drop = tail_is ∙ (past-drop (spaces_len (chars text)) text is.utf8 ∙ ap (λ n. drop n text) size_is)
 
     tail_text : IsText tail
-    tail_text = record { utf8 = subst IsUtf8 (sym tail_is) (IsUtf8-past (spaces_len (chars text)) text is.utf8);
-        fits = let f = is.fits in omega (arith, ap length tail_drop, length-drop size text) }
+    tail_text = record {
+      utf8 = subst IsUtf8 (sym tail_is) (IsUtf8-past (spaces_len (chars text)) text is.utf8);
+      fits = let f = is.fits in omega (arith, ap length tail_drop, length-drop size text);
+    }
 
     left : chars tail ≡ drop (spaces_len (chars text)) (chars text)
     left = ap chars tail_is ∙ chars-past (spaces_len (chars text)) text is.utf8
@@ -120,7 +119,7 @@ module _ (edition : Edition) where
         bare zero_len =
             let same : tail ≡ text = tail_is ∙ (ap (λ n. past n text) zero_len ∙ past-zero text is.utf8) in
             sym (ap₂ (λ n u. space_before n ++ read_tokens mode u)
-                (let no_size : size ≡ 0 = omega (arith, ap length same) in no_size) same)
+            (let no_size : size ≡ 0 = omega (arith, ap length same) in no_size) same)
 
         one : (n : ℕ) (tokens : List Token) → 0 < n → record { kind = Whitespace; len = n } ∷ tokens ≡
             space_before n ++ tokens
@@ -137,10 +136,10 @@ module _ (edition : Edition) where
             let behind : AreTokens (mode_after mode Whitespace) (drop n s) (read_tokens mode tail) =
             subst (λ (m : Mode). AreTokens m (drop n s) (read_tokens mode tail)) (sym (space-after mode))
             (subst (λ cs. AreTokens mode cs (read_tokens mode tail)) (left ∙ ap₂ drop long e)
-                (tokens-are tail mode tail_text)) in
+            (tokens-are tail mode tail_text)) in
             let token = grammar.kept (oldest (mode_edition mode)) (space-sound c white s) in
             tokens-read (grammar.something token (λ y. subst OpensNone whole (opens-none (chars text) (none y))) behind)
-                text is whole
+            text is whole
             ∙ (ap (λ k. record { kind = Whitespace; len = k } ∷ read_tokens mode tail) len
             ∙ one size (read_tokens mode tail) (omega (arith, len, length-le-encodes (c ∷ take n s)))))
             (λ out. bare (ap spaces_len e ∙ rw out refl))
@@ -150,19 +149,19 @@ module _ (edition : Edition) where
         read_tokens (part edition) text
     without-front none none_past =
         let out : next_is is_whitespace (chars tail) ≡ false = ap (next_is is_whitespace) left
-            ∙ run-stops is_whitespace (chars text) in
+        ∙ run-stops is_whitespace (chars text) in
         spaced (source edition) (λ e. none)
         ∙ (ap (λ ts. space_before size ++ ts) (without-space tail tail_text none_past out)
-            ∙ sym (spaced (part edition) (λ e. absurd (true≢false (sym e)))))
+        ∙ sym (spaced (part edition) (λ e. absurd (true≢false (sym e)))))
 
     -- a frontmatter past white space
     pub with-spaced : opens (chars text) ≡ false → opens (chars tail) ≡ true
         → read_tokens (source edition) text ≡ front_tokens size (Some (frontmatter tail)) ++ read_tokens (part edition)
-            (drop (size + (frontmatter tail).len) text)
+        (drop (size + (frontmatter tail).len) text)
     with-spaced none opened =
         spaced (source edition) (λ e. none)
         ∙ (ap (λ ts. space_before size ++ ts)
-            (with-front tail tail_text opened ∙ ap (λ xs. frontmatter tail ∷ read_tokens (part edition) xs) behind)
+        (with-front tail tail_text opened ∙ ap (λ xs. frontmatter tail ∷ read_tokens (part edition) xs) behind)
         ∙ both size _)
       where
         behind : drop (frontmatter tail).len tail ≡ drop (size + (frontmatter tail).len) text
@@ -205,4 +204,4 @@ start-boundary text is =
       fits = omega (arith, is.fits, length-drop (mark_len text) text);
     } in
     IsCharBoundary-from_rest text (mark_len text) (unwrap_or (shebang (drop (mark_len text) text)) 0)
-        (mark_boundary text is.utf8).0 (line-boundary (drop (mark_len text) text) after)
+    (mark_boundary text is.utf8).0 (line-boundary (drop (mark_len text) text) after)

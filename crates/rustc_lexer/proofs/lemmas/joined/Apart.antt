@@ -1,19 +1,14 @@
 -- White space parts tokens: a token that is closed stays one before any white space.
-use Rattle.std.proofs.Common.{
-    ◌≡◌, ℕ, ◌<◌, ◌==◌, ◌&&◌, not, codes, Bool, true, false, true≢false, List, [], ◌∷◌, ◌++◌, length, refl, sym, ap, ◌∙◌,
-    subst, arith, Option, is_some
-}
+use Rattle.std.proofs.Common.{◌≡◌, ℕ, ◌<◌, ◌==◌, ◌&&◌, not, codes, Bool, true, false, true≢false, List, [], ◌∷◌, ◌++◌}
+use Rattle.std.proofs.Common.{length, refl, sym, ap, ◌∙◌, subst, arith, Option, is_some}
 use Rattle.std.proofs.lemmas.Bool.{and_parts, false_from_ne_true}
 use Rattle.std.specs.List.{list_all}
 use Rattle.std.proofs.lemmas.Grind.{common_steps}
 use Rattle.unicode_ident.proofs.Computing.{unicode_ident}
-use Rattle.rustc_lexer.specs.{
-    LiteralKind, TokenKind, Whitespace, LineComment, UnknownPrefix, UnknownPrefixLifetime, Edition
-}
-use Rattle.rustc_lexer.specs.Classes.{
-    is_among, is_whitespace, is_id_start, is_id_continue, is_word_continue, ends_prefix, begins_ident_after, NextIs,
-    NextIsNot, is_inline
-}
+use Rattle.rustc_lexer.specs.{LiteralKind, TokenKind, Whitespace, LineComment, UnknownPrefix, UnknownPrefixLifetime}
+use Rattle.rustc_lexer.specs.{Edition}
+use Rattle.rustc_lexer.specs.Classes.{is_among, is_whitespace, is_id_start, is_id_continue, is_word_continue}
+use Rattle.rustc_lexer.specs.Classes.{ends_prefix, begins_ident_after, NextIs, NextIsNot, is_inline}
 use Rattle.rustc_lexer.specs.Tables.{is_emoji, emoji_ranges}
 use Rattle.rustc_lexer.specs.Language as the
 use Rattle.rustc_lexer.specs.Language.{IsTokenBefore, begins_prefixed}
@@ -107,7 +102,7 @@ number-apart {next} {kind} is other ch =
     let d = number-digit is in
     subst (IsNumberBefore other kind) (sym d.whole)
     (number-before d.first d.rest d.digit (subst (IsNumberBefore next kind) d.whole is) other
-        (λ p solid. same p solid ch) (λ base int. fraction-same ch))
+    (λ p solid. same p solid ch) (λ base int. fraction-same ch))
 
 -- ---- literals
 
@@ -140,8 +135,25 @@ literal-by : {next other : List ℕ} {kind : LiteralKind} {takes : Bool} {w : Li
     → ((t : Bool) (w : List ℕ) → IsSingleQuoted next t w → t ≡ true → IsSingleQuoted other t w)
     → IsLiteralBefore next kind takes w → is_faulty kind ≡ false → IsLiteralBefore other kind takes w
 literal-by {next} {other} number single w0 good =
-    grind (arith, common_steps, number, single, double-apart, raw-apart, lit.number, lit.str, lit.byte_str, lit.c_str,
-        lit.byte_char, lit.char_of_one, lit.char, lit.char_of_name, lit.raw_str, lit.raw_byte_str, lit.raw_c_str)
+    grind (
+      arith,
+      common_steps,
+      number,
+      single,
+      double-apart,
+      raw-apart,
+      lit.number,
+      lit.str,
+      lit.byte_str,
+      lit.c_str,
+      lit.byte_char,
+      lit.char_of_one,
+      lit.char,
+      lit.char_of_name,
+      lit.raw_str,
+      lit.raw_byte_str,
+      lit.raw_c_str,
+    )
 
 literal-apart : {next : List ℕ} {kind : LiteralKind} {takes : Bool} {w : List ℕ} → IsLiteralBefore next kind takes w
     → is_faulty kind ≡ false → (other : List ℕ) → Changes next other → IsLiteralBefore other kind takes w
@@ -176,7 +188,7 @@ prefixed-apart w ch = rw (
 
 pub token-apart : {next : List ℕ} {kind : TokenKind} {w : List ℕ} → IsTokenBefore next kind w → 0 < length w
     → is_malformed kind ≡ false → (other : List ℕ) → Changes next other → Goes kind next other
-        → IsTokenBefore other kind w
+    → IsTokenBefore other kind w
 token-apart (the.end none) some good other ch go = absurd (omega arith)
 token-apart (the.whitespace all stop) some good other ch go = the.whitespace all (go.space refl stop)
 token-apart (the.line_comment all stop is) some good other ch go = the.line_comment all (go.line refl stop) is
@@ -194,17 +206,17 @@ token-apart (the.forced_keyword is stop) some good other ch go =
     the.forced_keyword is (same is_id_continue continue-solid ch ∙ stop)
 token-apart (the.lifetime start all stop quote hash) some good other ch go =
     the.lifetime start all (same is_word_continue word-solid ch ∙ stop)
-        (same (is_among (codes "'")) (solid-by (is_among (codes "'")) refl) ch ∙ quote)
+    (same (is_among (codes "'")) (solid-by (is_among (codes "'")) refl) ch ∙ quote)
     (λ goes. hash (sym (same (is_among (codes "#")) (solid-by (is_among (codes "#")) refl) ch) ∙ goes))
 token-apart (the.unknown_prefix_lifetime {c} {w} start all hash free) some good other ch go =
     the.unknown_prefix_lifetime start all (same (is_among (codes "#")) (solid-by (is_among (codes "#")) refl) ch ∙ hash)
-        (same-ident (codes "r#") (c ∷ w) refl ch ∙ free)
+    (same-ident (codes "r#") (c ∷ w) refl ch ∙ free)
 token-apart (the.raw_lifetime is stop) some good other ch go =
     the.raw_lifetime is (same is_id_continue continue-solid ch ∙ stop)
 token-apart (the.literal is) some good other ch go = the.literal (literal-apart is good other ch)
 token-apart {next} (the.literal_with {suffix = suffix} is suffix_is) some good other ch go =
     the.literal_with (literal-apart is good (suffix ++ other) (changes-past suffix ch))
-        (suffix-apart suffix_is other ch)
+    (suffix-apart suffix_is other ch)
 token-apart (the.slash stop) some good other ch go =
     the.slash (same (is_among (codes "/*")) (solid-by (is_among (codes "/*")) refl) ch ∙ stop)
 token-apart (the.pound stop) some good other ch go =

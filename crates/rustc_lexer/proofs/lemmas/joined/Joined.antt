@@ -1,13 +1,10 @@
 -- Texts that touch: how to find that out, and that the end of the first text is enough for it.
-use Rattle.std.proofs.Common.{
-    ◌≡◌, ◌↔◌, ℕ, zero, suc, ◌+◌, ◌-◌, ◌<◌, ◌≤◌, true, List, [], ◌∷◌, ◌++◌, length, take, drop, refl, sym, ap, ◌∙◌,
-    arith, length-append, length-drop, length-take, length-take-le, take-append-drop, slice_range, IsUtf8,
-    IsCharBoundary
-}
+use Rattle.std.proofs.Common.{◌≡◌, ◌↔◌, ℕ, zero, suc, ◌+◌, ◌-◌, ◌<◌, ◌≤◌, true, List, [], ◌∷◌, ◌++◌, length, take, drop}
+use Rattle.std.proofs.Common.{refl, sym, ap, ◌∙◌, arith, length-append, length-drop, length-take, length-take-le}
+use Rattle.std.proofs.Common.{take-append-drop, slice_range, IsUtf8, IsCharBoundary}
 use Rattle.std.proofs.{Math.Seq.{drop-append_seam}, lemmas.List.{append_cancel_left, drop-append-le}}
-use Rattle.std.proofs.lemmas.Str.{
-    IsCharBoundary-start, IsCharBoundary-from_rest, IsUtf8-drop, IsUtf8-between, IsUtf8-take
-}
+use Rattle.std.proofs.lemmas.Str.{IsCharBoundary-start, IsCharBoundary-from_rest, IsUtf8-drop, IsUtf8-between}
+use Rattle.std.proofs.lemmas.Str.{IsUtf8-take}
 use Rattle.std.proofs.lemmas.Grind.{common_steps}
 use Rattle.rustc_lexer.specs.{Edition, Token, Answers.{first_in}, Classes.{IsText}}
 use Rattle.rustc_lexer.specs.Joined as the
@@ -44,7 +41,7 @@ module _ {first : List ℕ → Token} (law : IsGrammar first) where
       tokens-cons law (left ++ right) whole (omega (arith, length-append left right))
       ∙ (ap (λ (t : Token). t ∷ tokens_by first (drop t.len (left ++ right))) same
       ∙ ap (λ xs. first left ∷ tokens_by first xs)
-          (drop-append-le (first left).len left right (law.boundary left is some).0)) in
+      (drop-append-le (first left).len left right (law.boundary left is some).0)) in
       rw (its, tokens-cons law left is some) (λ e. cc, λ e. ap (λ (ts : List Token). first left ∷ ts) e)
 
   pub touch_first : (left right : List ℕ) → IsText left → IsText (left ++ right) → 0 < length left → Touch left right
@@ -61,8 +58,13 @@ module _ {first : List ℕ → Token} (law : IsGrammar first) where
   sure_stays left more from zero is whole few at two = refl
   sure_stays left more from (suc k) is whole few at two =
       let positive : 0 < from =
-          omega (arith, at, rises law left is 0 (omega arith), bound_mono (tokens_by first left) 1 (suc k)
-          (omega arith)) in
+      omega (
+        arith,
+        at,
+        rises law left is 0 (omega arith),
+        bound_mono (tokens_by first left) 1 (suc k)
+            (omega arith),
+      ) in
       stays_at law left is more (suc k) whole few (rw at (two positive))
 
   -- so a text touches another exactly if what it has past one does
@@ -72,11 +74,11 @@ module _ {first : List ℕ → Token} (law : IsGrammar first) where
       let k : ℕ = at.number in
       let cut : IsCutAt first left (tokens_by first left) k = at_bound law k left is in
       let its_cut : IsCutAt first (left ++ more) (tokens_by first (left ++ more)) k =
-          at_bound law k (left ++ more) whole in
+      at_bound law k (left ++ more) whole in
       let stays : take k (tokens_by first (left ++ more)) ≡ take k (tokens_by first left) =
-          sure_stays left more from k is whole at.few at.offset_is at.two in
+      sure_stays left more from k is whole at.few at.offset_is at.two in
       let same : bound (tokens_by first (left ++ more)) k ≡ from =
-          bound-same k (tokens_by first (left ++ more)) (tokens_by first left) stays ∙ at.offset_is in
+      bound-same k (tokens_by first (left ++ more)) (tokens_by first left) stays ∙ at.offset_is in
       let inside : from ≤ length left = omega (arith, cut.inside, at.offset_is) in
       let rest : drop k (tokens_by first left) ≡ tokens_by first (drop from left) = rw at.offset_is at cut.rest in
       let its_rest : drop k (tokens_by first (left ++ more)) ≡ tokens_by first (drop from left ++ more) =
@@ -84,10 +86,10 @@ module _ {first : List ℕ → Token} (law : IsGrammar first) where
         inside,
         front_cancels (take k (tokens_by first left)) _ _ (tokens_by first more)
             (sym (take-append-drop k (tokens_by first (left ++ more)))
-                ∙ (ap (λ (ts : List Token). ts ++ drop k (tokens_by first (left ++ more))) stays
+            ∙ (ap (λ (ts : List Token). ts ++ drop k (tokens_by first (left ++ more))) stays
             ∙ ap (λ (ts : List Token). take k (tokens_by first left) ++ ts) its_rest))
             (sym (take-append-drop k (tokens_by first left))
-                ∙ ap (λ (ts : List Token). take k (tokens_by first left) ++ ts) rest),
+            ∙ ap (λ (ts : List Token). take k (tokens_by first left) ++ ts) rest),
       )
 
 -- a separator that keeps texts apart touches the second
@@ -98,14 +100,14 @@ separated_past edition text at len is cut e =
     let left : List Token = tokens_by (first_in edition) (take at text) in
     let last : bound left (length left) ≡ length (take at text) = bound-last (edition_grammar edition)
     (take at text) record
-        { utf8 = IsUtf8-take text at is.utf8 cut; fits = omega (arith, length-take at text, is.fits) } in
+    { utf8 = IsUtf8-take text at is.utf8 cut; fits = omega (arith, length-take at text, is.fits) } in
     let whole = rw (take-append-drop len (drop at text), take-append-drop at text) at e in
     let here : bound (tokens_by (first_in edition) text) (length left) ≡ at =
-        ap (λ (ts : List Token). bound ts (length left)) whole
+    ap (λ (ts : List Token). bound ts (length left)) whole
     ∙ (bound-append left _ ∙ (last ∙ length-take-le at text cut.0)) in
     rw (take-append-drop len (drop at text)) (sym (ap (λ (k : ℕ). tokens_by (first_in edition) (drop k text)) here)
     ∙ (sym (at_bound (edition_grammar edition) (length left) text is).rest
-        ∙ (ap (drop (length left)) whole ∙ drop-append_seam left _)))
+    ∙ (ap (drop (length left)) whole ∙ drop-append_seam left _)))
 
 -- no text touches each
 pub touch_none : (edition : Edition) (text : List ℕ) → MayTouch edition (take 0 text) (drop 0 text)
@@ -128,8 +130,10 @@ module _ (edition : Edition) (text : List ℕ) (at : ℕ) (is : IsText text) (cu
   left = slice_range text offset at
 
   left_is : IsText left
-  left_is = record { utf8 = IsUtf8-between text offset at is.utf8 so.inside so.boundary cut;
-      fits = grind (arith, common_steps) }
+  left_is = record {
+    utf8 = IsUtf8-between text offset at is.utf8 so.inside so.boundary cut;
+    fits = grind (arith, common_steps);
+  }
 
   whole : left ++ drop at text ≡ drop offset text
   whole = sym (drop_split text offset at so.inside)
@@ -150,28 +154,28 @@ module _ (edition : Edition) (text : List ℕ) (at : ℕ) (is : IsText text) (cu
     pub seam_more : alone ≡ together → IsSeamFrom edition text at (offset + alone.len)
     seam_more same =
         let at_end : IsCharBoundary left alone.len =
-            rw e ((edition_grammar edition).boundary left left_is (omega (arith, long))) in
+        rw e ((edition_grammar edition).boundary left left_is (omega (arith, long))) in
         let past : drop alone.len left ≡ slice_range text (offset + alone.len) at =
-            grind (arith, common_steps, drop_of-take) in
+        grind (arith, common_steps, drop_of-take) in
         let step : MayTouch edition left (drop at text) ↔ MayTouch edition (drop alone.len left) (drop at text) =
         rw e (touch_past (edition_grammar edition) left (drop at text) left_is (rw whole whole_is) (omega (arith, long))
-            (rw whole (sym f ∙ sym same ∙ e))) in
+        (rw whole (sym f ∙ sym same ∙ e))) in
         let its : MayTouch edition left (drop at text)
-            ↔ MayTouch edition (slice_range text (offset + alone.len) at) (drop at text) = rw past at step in
+        ↔ MayTouch edition (slice_range text (offset + alone.len) at) (drop at text) = rw past at step in
         record {
           inside = omega (arith, at_end.0, long);
           boundary = IsCharBoundary-from_rest text offset alone.len (omega (arith, cut.0))
               (rw (same, f) ((edition_grammar edition).boundary (drop offset text) whole_is
-                  (omega (arith, cut.0, length-drop offset text))));
+              (omega (arith, cut.0, length-drop offset text))));
           touch = (λ t. its.0 (so.touch.0 t), λ t. so.touch.1 (its.1 t));
         }
 
     pub seam_differs : (alone ≡ together → ⊥) → MayTouch edition (take at text) (drop at text) → ⊥
     seam_differs differ touch =
         differ
-            (e
-            ∙ (sym (touch_first (edition_grammar edition) left (drop at text) left_is (rw whole whole_is)
-            (omega (arith, long))
+        (e
+        ∙ (sym (touch_first (edition_grammar edition) left (drop at text) left_is (rw whole whole_is)
+        (omega (arith, long))
         (so.touch.0 touch)) ∙ (ap (first_in edition) whole ∙ sym f)))
 
 -- ---- the first separator that parts a text and a piece

@@ -1,10 +1,8 @@
 -- A text whose tokens are closed keeps them before white space, and white space keeps its token before any other
 -- character.
 use Rattle.std.proofs.lemmas.Grind.{common_steps}
-use Rattle.std.proofs.Common.{
-    ◌⊎◌, inl, inr, ◌≡◌, ℕ, ◌+◌, ◌^◌, ◌<◌, Bool, true, false, true≢false, List, [], ◌∷◌, ◌++◌, length, refl, sym, ap,
-    ◌∙◌, subst, arith, append_assoc, length-append, chars, IsUtf8
-}
+use Rattle.std.proofs.Common.{◌⊎◌, inl, inr, ◌≡◌, ℕ, ◌+◌, ◌^◌, ◌<◌, Bool, true, false, true≢false, List, [], ◌∷◌, ◌++◌}
+use Rattle.std.proofs.Common.{length, refl, sym, ap, ◌∙◌, subst, arith, append_assoc, length-append, chars, IsUtf8}
 use Rattle.std.proofs.Math.Seq.{drop-append_seam, take-append_seam}
 use Rattle.std.specs.List.{list_all}
 use Rattle.std.proofs.lemmas.{List.{append-nil}, Str.{IsUtf8-append, chars-append, chars-encodes}}
@@ -12,17 +10,14 @@ use lib.Utf8.{encode, scalars}
 use Rattle.std.specs.Str.{encode_utf8_all}
 use Rattle.rustc_lexer.specs.{Edition, Token, TokenKind, Whitespace}
 use Rattle.rustc_lexer.specs.Classes.{AreAll, IsText, NextIs, NextIsNot, bytes, is_whitespace}
-use Rattle.rustc_lexer.specs.Joined.{
-    AreWellFormed, IsSeparated, MayTouch, RunsOn, is_malformed, AreInseparable, WhiteSpaceSeparates, last_takes_in,
-    takes_in
-}
+use Rattle.rustc_lexer.specs.Joined.{AreWellFormed, IsSeparated, MayTouch, RunsOn, is_malformed, AreInseparable}
+use Rattle.rustc_lexer.specs.Joined.{WhiteSpaceSeparates, last_takes_in, takes_in}
 use Rattle.rustc_lexer.specs.Partition.{tokens_by}
 use Rattle.rustc_lexer.specs.Language as the
 use Rattle.rustc_lexer.specs.Language.{IsTokenBefore}
 use Rattle.rustc_lexer.specs.LanguageText as grammar
-use Rattle.rustc_lexer.specs.LanguageText.{
-    AreTokens, IsTokenIn, Mode, kept, lexed_since, mode_after, mode_edition, part, year
-}
+use Rattle.rustc_lexer.specs.LanguageText.{AreTokens, IsTokenIn, Mode, kept, lexed_since, mode_after, mode_edition}
+use Rattle.rustc_lexer.specs.LanguageText.{part, year}
 use Rattle.rustc_lexer.specs.{laws.Choice.{by_symbol}, means.Scan.{next_is}}
 use Rattle.std.proofs.lemmas.Bool.{and_parts, not-true}
 use Rattle.rustc_lexer.specs.laws.{Cuts.{tokens-nil}, LanguageFront.{empty-text}, LanguageIn.{oldest}}
@@ -93,21 +88,21 @@ changes (one {kind} {c} {w} p none) after (inr e) =
     rw (append-nil w) (white-first c w after (space-text-in p (kind-space kind e.0)))
 changes (one {c = c} {w = w} p (one {c = d} {w = v} {next = next} q rest)) after (inr e) =
     subst (Changes (c ∷ w ++ (d ∷ v ++ next))) (sym (append_assoc (c ∷ w) (d ∷ v ++ next) after))
-        (changes-past (c ∷ w) (changes (one q rest) after (inr e)))
+    (changes-past (c ∷ w) (changes (one q rest) after (inr e)))
 
 stays : {edition : Edition} {kind : TokenKind} {c : ℕ} {w next : List ℕ} {tokens : List Token}
     → IsTokenIn edition next kind (c ∷ w)
     → Are edition next tokens → is_malformed kind ≡ false → (after : List ℕ)
-        → Parts (record { kind = kind; len = bytes (c ∷ w) } ∷ tokens) after
+    → Parts (record { kind = kind; len = bytes (c ∷ w) } ∷ tokens) after
     → IsTokenIn edition (next ++ after) kind (c ∷ w)
 stays {kind = kind} p none good after (inl e) =
     in-apart p (omega arith) good after (changed refl e.0) (kind-goes kind after e.1)
 stays {edition} {kind} {c} {w} p none good after (inr e) = let is = kind-space kind e.0 in
     subst (λ (k : TokenKind). IsTokenIn edition after k (c ∷ w)) (sym is)
-        (kept (oldest edition) (the.whitespace (space-text-in p is) e.1))
+    (kept (oldest edition) (the.whitespace (space-text-in p is) e.1))
 stays {kind = kind} p (one {c = d} {w = v} {next = next} q rest) good after e =
     in-apart p (omega arith) good ((d ∷ v ++ next) ++ after) (changes (one q rest) after e)
-        (goes-behind kind d (v ++ next) ((v ++ next) ++ after))
+    (goes-behind kind d (v ++ next) ((v ++ next) ++ after))
 
 one-more : {edition : Edition} {kind : TokenKind} {c : ℕ} {w : List ℕ} (next after : List ℕ) {us : List Token}
     → IsTokenIn edition (next ++ after) kind (c ∷ w) → Are edition (next ++ after) us
@@ -191,19 +186,32 @@ module _ (edition : Edition) (text piece : List ℕ) (is : IsText text) (utf8 : 
       let its : IsUtf8 (d ∷ []) = (d ∷ [], (scalar, encoded)) in
       let shown : chars (d ∷ []) ≡ d ∷ [] = ap chars (sym encoded) ∙ chars-encodes (d ∷ []) scalar in
       let past : chars (d ∷ piece) ≡ d ∷ chars piece = chars-append (d ∷ []) piece its
-          ∙ ap (λ (cs : List ℕ). cs ++ chars piece) shown in
+      ∙ ap (λ (cs : List ℕ). cs ++ chars piece) shown in
       let longer : IsUtf8 (d ∷ piece) = IsUtf8-append (d ∷ []) piece its utf8 in
       let left : Tokens edition (text ++ (d ∷ piece)) ≡ Tokens edition text ++ Tokens edition (d ∷ piece) =
-      touches edition text (d ∷ piece) is record { utf8 = IsUtf8-append text (d ∷ piece) is.utf8 longer;
-          fits = omega (arith, length-append text (d ∷ piece)) }
-      closed (inl (ap (next_is is_whitespace) past ∙ white, ap (next_is (last_takes_in (Tokens edition text))) past
-          ∙ out)) in
+      touches edition text (d ∷ piece) is record {
+        utf8 = IsUtf8-append text (d ∷ piece) is.utf8 longer;
+        fits = omega (arith, length-append text (d ∷ piece));
+      }
+      closed (inl (
+        ap (next_is is_whitespace) past ∙ white,
+        ap (next_is (last_takes_in (Tokens edition text))) past
+            ∙ out,
+      )) in
       let right : Tokens edition (d ∷ piece) ≡ Tokens edition (d ∷ []) ++ Tokens edition piece =
       space-touches edition (d ∷ []) piece record { utf8 = longer; fits = omega arith } record
-          { utf8 = its; fits = omega arith } (omega arith) (subst (AreAll is_whitespace) (sym shown) (rw white refl))
-          stop in
+      { utf8 = its; fits = omega arith } (omega arith) (subst (AreAll is_whitespace) (sym shown) (rw white refl))
+      stop in
       left ∙ ap (λ (us : List Token). Tokens edition text ++ us) right
 
   pub runs-on : AreInseparable edition text piece → RunsOn (Tokens edition text) (chars piece)
-  runs-on apart = grind (arith, common_steps, touches, IsUtf8-append, length-append, parts, newline-encoded,
-      space-encoded)
+  runs-on apart = grind (
+    arith,
+    common_steps,
+    touches,
+    IsUtf8-append,
+    length-append,
+    parts,
+    newline-encoded,
+    space-encoded,
+  )

@@ -1,26 +1,21 @@
 -- A text that grows at its end: what comes past a bound that is sure decides whether its tokens stay, and that bound
 -- moves on.
-use Rattle.std.proofs.Common.{
-    ◌≡◌, ℕ, zero, suc, ◌+◌, ◌-◌, ◌^◌, ◌<◌, ◌≤◌, true, List, ◌++◌, codes, length, take, drop, refl, sym, ap, ◌∙◌, subst,
-    arith, length-append, length-drop, length-take, length-take-le, take-append-drop, drop-drop, take_all, chars,
-    IsUtf8, IsCharBoundary
-}
+use Rattle.std.proofs.Common.{◌≡◌, ℕ, zero, suc, ◌+◌, ◌-◌, ◌^◌, ◌<◌, ◌≤◌, true, List, ◌++◌, codes, length, take, drop}
+use Rattle.std.proofs.Common.{refl, sym, ap, ◌∙◌, subst, arith, length-append, length-drop, length-take, length-take-le}
+use Rattle.std.proofs.Common.{take-append-drop, drop-drop, take_all, chars, IsUtf8, IsCharBoundary}
 use Rattle.std.proofs.lemmas.{Grind.{common_steps}, List.{drop-append-le, take_rest}}
-use Rattle.std.proofs.lemmas.Str.{
-    IsCharBoundary-from_drop, IsUtf8-append, IsUtf8-between, IsUtf8-drop, IsUtf8-take, chars-append
-}
+use Rattle.std.proofs.lemmas.Str.{IsCharBoundary-from_drop, IsUtf8-append, IsUtf8-between, IsUtf8-drop, IsUtf8-take}
+use Rattle.std.proofs.lemmas.Str.{chars-append}
 use Rattle.rustc_lexer.specs.{Edition, Token, Answers.{first_in}, Classes.{IsText}}
 use Rattle.rustc_lexer.specs.Joined as the
 use Rattle.rustc_lexer.specs.Joined.{IsJoined, MayTouch, TailDecides}
 use Rattle.rustc_lexer.specs.{Locality.{AgreePast, IsGrammar, IsSettled, has_two}, Partition.{bound, tokens_by}}
 use Rattle.rustc_lexer.specs.laws.{Cuts.{IsCutAt, at_bound, tokens_local}, Edition.{edition_grammar}}
 use Rattle.rustc_lexer.specs.means.Joined.{IsSure}
-use Rattle.rustc_lexer.proofs.lemmas.edits.FrontAndBack.{
-    bound-same, drop_of-take, has_two-agree, has_two-before, has_two-count, has_two-intro, has_two-same
-}
-use Rattle.rustc_lexer.proofs.lemmas.{
-    edits.Bounds.{bound-last}, edits.KeptFront.{bound-shift}, heads.ByTokens.{bound-append}
-}
+use Rattle.rustc_lexer.proofs.lemmas.edits.FrontAndBack.{bound-same, drop_of-take, has_two-agree, has_two-before}
+use Rattle.rustc_lexer.proofs.lemmas.edits.FrontAndBack.{has_two-count, has_two-intro, has_two-same}
+use Rattle.rustc_lexer.proofs.lemmas.{edits.Bounds.{bound-last}, edits.KeptFront.{bound-shift}}
+use Rattle.rustc_lexer.proofs.lemmas.heads.ByTokens.{bound-append}
 use Rattle.rustc_lexer.proofs.lemmas.joined.Joined.{IsSeamFrom, sure_touch, sure_stays}
 
 pub sure_start : (edition : Edition) (text : List ℕ) → IsSure (first_in edition) text 0
@@ -38,14 +33,14 @@ module _ (edition : Edition) where
   sure_place text from is at =
       let cut : IsCutAt first text (tokens_by first text) at.number = at_bound law at.number text is in
       subst (IsCharBoundary text) at.offset_is
-          (IsCharBoundary-from_drop text (bound (tokens_by first text) at.number) cut.inside cut.past.utf8)
+      (IsCharBoundary-from_drop text (bound (tokens_by first text) at.number) cut.inside cut.past.utf8)
 
   -- two characters past an offset stay there
   two_more : (text more : List ℕ) (from : ℕ) → IsText text → IsCharBoundary text from
       → has_two text from (length text) ≡ true → has_two (text ++ more) from (length (text ++ more)) ≡ true
   two_more text more from is cut two =
       let enough : 2 ≤ length (chars (drop from text)) =
-          rw (take_rest text from) at (has_two-count text from (length text) two) in
+      rw (take_rest text from) at (has_two-count text from (length text) two) in
       has_two-intro (text ++ more) from (length (text ++ more)) (rw (
         take_rest (text ++ more) from,
         drop-append-le from text more cut.0,
@@ -59,8 +54,12 @@ module _ (edition : Edition) where
   sure_same {text} {other} at same two = record {
     number = at.number;
     few = (let few = at.few in
-        omega (arith, ap length same, length-take at.number (tokens_by first other),
-        length-take at.number (tokens_by first text)));
+        omega (
+          arith,
+          ap length same,
+          length-take at.number (tokens_by first other),
+          length-take at.number (tokens_by first text),
+        ));
     offset_is = bound-same at.number (tokens_by first other) (tokens_by first text) same ∙ at.offset_is;
     two = two;
   }
@@ -73,19 +72,19 @@ module _ (edition : Edition) where
       let left : List ℕ = take at text in
       let size : length left ≡ at = length-take-le at text cut.0 in
       let left_is : IsText left =
-          record { utf8 = IsUtf8-take text at is.utf8 cut; fits = omega (arith, size, cut.0, is.fits) } in
+      record { utf8 = IsUtf8-take text at is.utf8 cut; fits = omega (arith, size, cut.0, is.fits) } in
       let short : take at left ≡ take at text = take_all at left (omega (arith, size)) in
       let middle : IsUtf8 (take (at - from) (drop from text)) =
-          IsUtf8-between text from at is.utf8 (omega (arith, has_two-before text from at two))
-          (sure_place text from is here) cut in
+      IsUtf8-between text from at is.utf8 (omega (arith, has_two-before text from at two))
+      (sure_place text from is here) cut in
       let past : AgreePast (bound (tokens_by first text) k) text left =
-          subst (λ (p : ℕ). AgreePast p text left) (sym here.offset_is)
-          (has_two-agree text left from at middle short two) in
+      subst (λ (p : ℕ). AgreePast p text left) (sym here.offset_is)
+      (has_two-agree text left from at middle short two) in
       let same : take k (tokens_by first left) ≡ take k (tokens_by first text) =
-          tokens_local law k text left is left_is here.few past in
+      tokens_local law k text left is left_is here.few past in
       sure_same here same
-          (λ some. subst (λ (n : ℕ). has_two left from n ≡ true) (sym size)
-          (has_two-same left text from at short ∙ two))
+      (λ some. subst (λ (n : ℕ). has_two left from n ≡ true) (sym size)
+      (has_two-same left text from at short ∙ two))
 
   -- the bound of the end of a text is one of the text
   pub sure_on : (text : List ℕ) (from more : ℕ) → IsText text → IsSure first text from
@@ -96,7 +95,7 @@ module _ (edition : Edition) where
       let tokens : List Token = tokens_by first text in
       let cut : IsCutAt first text tokens k = at_bound law k text is in
       let rest : drop k tokens ≡ tokens_by first (drop from text) =
-          cut.rest ∙ ap (λ (p : ℕ). tokens_by first (drop p text)) at.offset_is in
+      cut.rest ∙ ap (λ (p : ℕ). tokens_by first (drop p text)) at.offset_is in
       let few : j ≤ length (tokens_by first (drop from text)) = settled.at_bound.1 in
       let place : bound (drop k tokens) j ≡ more = ap (λ (ts : List Token). bound ts j) rest ∙ settled.at_bound.2 in
       record {
@@ -122,7 +121,7 @@ module _ (edition : Edition) where
   tail_decides text at is cut =
       let left : List ℕ = take at text in
       let left_is : IsText left =
-          record { utf8 = IsUtf8-take text at is.utf8 cut; fits = omega (arith, length-take at text, is.fits) } in
+      record { utf8 = IsUtf8-take text at is.utf8 cut; fits = omega (arith, length-take at text, is.fits) } in
       λ k few two. (sure_touch law left (drop at text) (bound (tokens_by first left) k) left_is
       (rw (take-append-drop at text) is) record { number = k; few = few; offset_is = refl; two = λ some. two }).1
 
@@ -131,16 +130,16 @@ module _ (edition : Edition) where
   near text sure at is cut here =
       let left : List ℕ = take at text in
       let left_is : IsText left =
-          record { utf8 = IsUtf8-take text at is.utf8 cut; fits = omega (arith, length-take at text, is.fits) } in
+      record { utf8 = IsUtf8-take text at is.utf8 cut; fits = omega (arith, length-take at text, is.fits) } in
       let split = sure_touch law left (drop at text) sure left_is (rw (take-append-drop at text) is) here in
       let few : sure ≤ at = omega (arith, split.0, length-take-le at text cut.0) in
       let past : drop sure text ≡ drop sure left ++ drop at text =
-          rw (take-append-drop at text) at (drop-append-le sure left (drop at text) split.0) in
+      rw (take-append-drop at text) at (drop-append-le sure left (drop at text) split.0) in
       record {
         inside = few;
         boundary = IsCharBoundary-from_drop text sure (omega (arith, cut.0))
             (rw past (IsUtf8-append (drop sure left) (drop at text)
-                (IsUtf8-drop left sure left_is.utf8 (sure_place left sure left_is here))
+            (IsUtf8-drop left sure left_is.utf8 (sure_place left sure left_is here))
             (IsUtf8-drop text at is.utf8 cut)));
         touch = rw (drop_of-take sure at text) at split.1;
       }

@@ -1,8 +1,7 @@
 -- What a cursor takes, which is what its iterator takes, longer by the bytes that are pending.
 use Rattle.std.proofs.lemmas.Grind.{common_steps}
-use Rattle.std.proofs.Common.{
-    ◌≡◌, ◌≢◌, ℕ, ◌+◌, ◌<◌, ◌≤◌, ◌^◌, ◌==◌, List, [], length, length-drop, drop, false, refl, sym, ap, subst, ◌∙◌, arith
-}
+use Rattle.std.proofs.Common.{◌≡◌, ◌≢◌, ℕ, ◌+◌, ◌<◌, ◌≤◌, ◌^◌, ◌==◌, List, [], length, length-drop, drop, false, refl}
+use Rattle.std.proofs.Common.{sym, ap, subst, ◌∙◌, arith}
 use Rattle.std.specs.{Prelude.{All}, Str.{IsCharBoundary}}
 use Rattle.std.proofs.lemmas.{Bool.{ne_eqb}, List.Elements.{All-head}, Str.{IsUtf8-drop}}
 use Rattle.rustc_lexer.specs.{FrontmatterAllowed, Token, TokenKind, Eof, LanguageText.{Mode, mode_in, newest}}

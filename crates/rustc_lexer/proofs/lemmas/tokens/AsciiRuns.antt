@@ -1,13 +1,10 @@
 -- A run of characters whose front is in ASCII, by its bytes.
-use Rattle.std.proofs.Common.{
-    ◌≡◌, ℕ, suc, ◌<◌, ◌≤◌, Bool, true, false, true≢false, List, [], ◌∷◌, ◌++◌, length, drop, nat_lt, refl, sym, ap, ◌∙◌,
-    arith, subst
-}
+use Rattle.std.proofs.Common.{◌≡◌, ℕ, suc, ◌<◌, ◌≤◌, Bool, true, false, true≢false, List, [], ◌∷◌, ◌++◌, length, drop}
+use Rattle.std.proofs.Common.{nat_lt, refl, sym, ap, ◌∙◌, arith, subst}
 use Rattle.std.specs.{Char.{encode_utf8}, List.{prefix_len}, Str.{chars, encode_utf8_all, IsUtf8, IsCharBoundary}}
 use Rattle.std.proofs.lemmas.Bool.{ltb-false, ltb-true}
-use Rattle.std.proofs.lemmas.Str.{
-    chars-nil, chars_past_char, encodes-chars, IsUtf8-past_char, byte_from_char, encode_ascii, IsCharBoundary-from_drop
-}
+use Rattle.std.proofs.lemmas.Str.{chars-nil, chars_past_char, encodes-chars, IsUtf8-past_char, byte_from_char}
+use Rattle.std.proofs.lemmas.Str.{encode_ascii, IsCharBoundary-from_drop}
 use Rattle.std.proofs.lemmas.{List.Sums.{prefix_len-le-length}, Grind.{common_steps}}
 use Rattle.rustc_lexer.specs.{means.{ByteRuns.{is_wide}, Scan.{past, next_is, run_len}}, laws.Choice.{by_either}}
 use Rattle.rustc_lexer.specs.laws.Past.{past-one}
@@ -120,8 +117,8 @@ module _ (p : ℕ → Bool) (small : (c : ℕ) → p c ≡ true → c < 128) whe
       first_byte (c ∷ cs) e f =
           let in_ascii : c < 128 = small c f in
           let same : d ≡ c =
-              byte_from_char (d ∷ ds) (encode_utf8_all cs) c (sym (encodes-chars (d ∷ ds) is) ∙ ap encode_utf8_all e)
-              in_ascii in
+          byte_from_char (d ∷ ds) (encode_utf8_all cs) c (sym (encodes-chars (d ∷ ds) is) ∙ ap encode_utf8_all e)
+          in_ascii in
           omega arith
 
       none : 128 ≤ d → (t : Bool) → next_is p (chars (d ∷ ds)) ≡ t → next_is p (chars (d ∷ ds)) ≡ false

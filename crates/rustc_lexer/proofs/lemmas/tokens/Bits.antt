@@ -1,15 +1,13 @@
 -- One bit of a word, through each operation on it.
-use Rattle.std.proofs.Common.{
-    ◌≡◌, ℕ, zero, suc, ◌+◌, ◌-◌, ◌*◌, ◌/◌, ◌%◌, ◌^◌, ◌<◌, ◌≤◌, min, max, length, map, Bool, true, false, true≢false,
-    not, ◌&&◌, ◌||◌, ◌==◌, List, get_or, refl, sym, ap, ap₂, ◌∙◌, arith, w64, bit_and, bit_or, inl, inr, nat_lt
-}
+use Rattle.std.proofs.Common.{◌≡◌, ℕ, zero, suc, ◌+◌, ◌-◌, ◌*◌, ◌/◌, ◌%◌, ◌^◌, ◌<◌, ◌≤◌, min, max, length, map, Bool}
+use Rattle.std.proofs.Common.{true, false, true≢false, not, ◌&&◌, ◌||◌, ◌==◌, List, get_or, refl, sym, ap, ap₂, ◌∙◌}
+use Rattle.std.proofs.Common.{arith, w64, bit_and, bit_or, inl, inr, nat_lt}
 use Rattle.std.specs.Int.{bit_at}
 use Rattle.std.proofs.lemmas.Bool.{agree_below_at, and_left, and_right, cases_lt, eqb-true, le-ltb, lt-ltb}
 use Rattle.std.proofs.lemmas.Nat.{pow_pos, and_le_l, and_le_r, or_lt, shr-shr}
-use Rattle.std.proofs.lemmas.Nat.Bits.{
-    bit_at_and, bit_at_or, bit_at_not, bit_at_lowest, bit_at-lt, bit_at-suc, bit_at-zero, bit_at_above, bit_at_cat_high,
-    bit_at_cat_low, bit_at-trailing_zeros
-}
+use Rattle.std.proofs.lemmas.Nat.Bits.{bit_at_and, bit_at_or, bit_at_not, bit_at_lowest, bit_at-lt, bit_at-suc}
+use Rattle.std.proofs.lemmas.Nat.Bits.{bit_at-zero, bit_at_above, bit_at_cat_high, bit_at_cat_low}
+use Rattle.std.proofs.lemmas.Nat.Bits.{bit_at-trailing_zeros}
 use Rattle.std.proofs.lemmas.Simd.{bit_mask_l, length-chunk, get_or-chunk, mask_l-mod}
 use Rattle.std.proofs.{lemmas.List.{get_or-map, get_or_past, length-map}, Math.Bool.{and-true, and_self}}
 use Rattle.std.proofs.{Math.Nat.{add-zero}, lemmas.Grind.{common_steps}}
@@ -127,10 +125,10 @@ module _ (w s : ℕ) (fits : w < 2 ^ 64) (fits_too : s < 2 ^ 64) where
       not ((bit w k && bit w (suc k)) || (bit s k && bit s (suc k)))
   run_edges-later k h =
       let small : together < 2 ^ 64 =
-          or_lt 64 (bit_and (w * 2 % 2 ^ 64) w) (bit_and (s * 2 % 2 ^ 64) s)
-          (omega (arith, and_le_r (w * 2 % 2 ^ 64) w)) (omega (arith, and_le_r (s * 2 % 2 ^ 64) s)) in
+      or_lt 64 (bit_and (w * 2 % 2 ^ 64) w) (bit_and (s * 2 % 2 ^ 64) s)
+      (omega (arith, and_le_r (w * 2 % 2 ^ 64) w)) (omega (arith, and_le_r (s * 2 % 2 ^ 64) s)) in
       high-stays (flip together) k h
-          ∙ (bit-flip together (suc k) small h ∙ ap not (bit-or _ _ (suc k) ∙ ap₂ (λ a b. a || b) (both w) (both s)))
+      ∙ (bit-flip together (suc k) small h ∙ ap not (bit-or _ _ (suc k) ∙ ap₂ (λ a b. a || b) (both w) (both s)))
     where
       both : (x : ℕ) → bit (bit_and (x * 2 % 2 ^ 64) x) (suc k) ≡ (bit x k && bit x (suc k))
       both x = bit-and (x * 2 % 2 ^ 64) x (suc k) ∙ ap (λ t. t && bit x (suc k))
@@ -187,17 +185,22 @@ at_pred (suc low) x some set least =
     let even : x % 2 ≡ 0 = sym (bit_at_lowest x) ∙ least 0 (omega arith) in
     let half : (x - 1) / 2 ≡ x / 2 - 1 = omega (arith, even, some) in
     bit_at-suc (x - 1) low
-        ∙ (ap (λ y. bit_at y low) half ∙ at_pred low (x / 2) (omega (arith, even, some)) (sym (bit_at-suc x low) ∙ set)
-        (λ k l. sym (bit_at-suc x k) ∙ least (suc k) (omega arith)))
+    ∙ (ap (λ y. bit_at y low) half ∙ at_pred low (x / 2) (omega (arith, even, some)) (sym (bit_at-suc x low) ∙ set)
+    (λ k l. sym (bit_at-suc x k) ∙ least (suc k) (omega arith)))
 
 above_pred : (low k x : ℕ) → 0 < x → bit_at x low ≡ 1 → ((k : ℕ) → k < low → bit_at x k ≡ 0) → low < k
     → bit_at (x - 1) k ≡ bit_at x k
 above_pred low zero x some set least above = absurd (omega arith)
 above_pred zero (suc k) x some set least above = grind (arith, common_steps, bit_at_lowest, bit_at-suc)
 above_pred (suc low) (suc k) x some set least above =
-    grind (arith, common_steps, bit_at_lowest, bit_at-suc,
-    above_pred low k (x / 2) (omega (arith, (sym (bit_at_lowest x) ∙ least 0 (omega arith)), some))
-    (sym (bit_at-suc x low) ∙ set) (λ j l. sym (bit_at-suc x j) ∙ least (suc j) (omega arith)) (omega arith))
+    grind (
+      arith,
+      common_steps,
+      bit_at_lowest,
+      bit_at-suc,
+      above_pred low k (x / 2) (omega (arith, (sym (bit_at_lowest x) ∙ least 0 (omega arith)), some))
+          (sym (bit_at-suc x low) ∙ set) (λ j l. sym (bit_at-suc x j) ∙ least (suc j) (omega arith)) (omega arith),
+    )
 
 module _ (x low : ℕ) (some : 0 < x) (lowest : IsLowest x low) where
   set_at : bit_at x low ≡ 1
@@ -219,6 +222,13 @@ module _ (x low : ℕ) (some : 0 < x) (lowest : IsLowest x low) where
       bit-and x (x - 1) k
       ∙ (ap (λ b. bit x k && b) (ap (λ n. n == 1) (above_pred low k x some set_at least_at l)) ∙ and_self (bit x k))
 
-pub ruleset bit_lemmas =
-    (run_edges-first, run_edges-later, after-gone, after-others, bit-above, bit-zero, past_lowest-gone,
-    past_lowest-others)
+pub ruleset bit_lemmas = (
+  run_edges-first,
+  run_edges-later,
+  after-gone,
+  after-others,
+  bit-above,
+  bit-zero,
+  past_lowest-gone,
+  past_lowest-others,
+)

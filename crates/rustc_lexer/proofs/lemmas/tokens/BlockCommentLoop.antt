@@ -1,14 +1,11 @@
 -- The loop over a block comment: from one star or slash to the next.
-use Rattle.std.proofs.Common.{
-    ◌≡◌, ◌≢◌, ℕ, suc, ◌+◌, ◌<◌, ◌==◌, Bool, true, false, List, [], ◌∷◌, ◌++◌, length, drop, refl, sym, ap, ◌∙◌, arith,
-    length-append, subst, Option, Some, None, not
-}
+use Rattle.std.proofs.Common.{◌≡◌, ◌≢◌, ℕ, suc, ◌+◌, ◌<◌, ◌==◌, Bool, true, false, List, [], ◌∷◌, ◌++◌, length, drop}
+use Rattle.std.proofs.Common.{refl, sym, ap, ◌∙◌, arith, length-append, subst, Option, Some, None, not}
 use Rattle.std.specs.Str.{chars, IsUtf8}
 use Rattle.std.proofs.lemmas.{Bool.{and_parts, or_cases, or_parts, eqb-true, not-true, not-false}, Grind.{common_steps}}
 use Rattle.rustc_lexer.specs.{DocStyle, TokenKind, BlockComment, means.Least.{more}}
-use Rattle.rustc_lexer.specs.means.BlockComment.{
-    at_closing, at_opening, block_doc_style, comment_end, block_comment, block_comment_to, out_of
-}
+use Rattle.rustc_lexer.specs.means.BlockComment.{at_closing, at_opening, block_doc_style, comment_end, block_comment}
+use Rattle.rustc_lexer.specs.means.BlockComment.{block_comment_to, out_of}
 use Rattle.rustc_lexer.specs.means.Scan.{begins, or_all, or_all_at, past, run_len, scanned}
 use Rattle.rustc_lexer.specs.laws.BlockComment.{out_of-plain}
 use Rattle.rustc_lexer.specs.laws.{Past.{past-zero, past-past, past-two, chars-past, IsUtf8-cut}, Choice.{by_either}}
@@ -52,7 +49,7 @@ step text rest tail w depth to n at reads len cut e = record {
     moved : (o : Option ℕ) → leaves o (chars tail) tail ≡ leaves (more n o) (w ++ chars tail) rest
     moved None =
         let sum : n + length (chars tail) ≡ length (w ++ chars tail) =
-            omega (arith, length-append w (chars tail), len) in
+        omega (arith, length-append w (chars tail), len) in
         ap (λ xs. (false, xs)) (further (length (chars tail)) ∙ ap (λ m. past m rest) sum)
     moved (Some m) = ap (λ xs. (true, xs)) (further m)
 
@@ -71,10 +68,10 @@ run_on text rest depth (c ∷ cs) some reads at = by_either (is_other c)
     let p = or_parts (c == 42) (c == 47) (not-true _ e) in
     let next : Commenting text (past 1 rest) depth =
     step text rest (past 1 rest) (c ∷ []) depth depth 1 at here refl refl
-        (out_of-plain depth c (chars (past 1 rest)) some (rw p.0 refl) (rw p.1 refl)) in
+    (out_of-plain depth c (chars (past 1 rest)) some (rw p.0 refl) (rw p.1 refl)) in
     let longer : 1 + run_len is_other cs ≡ run_len is_other (c ∷ cs) = rw e (omega arith) in
     subst (λ xs. Commenting text xs depth) (past-past (run_len is_other cs) 1 rest at.utf8
-        ∙ ap (λ n. past n rest) longer) (run_on text (past 1 rest) depth cs some left next))
+    ∙ ap (λ n. past n rest) longer) (run_on text (past 1 rest) depth cs some left next))
     (λ e.
     let none : run_len is_other (c ∷ cs) ≡ 0 = rw e refl in
     subst (λ xs. Commenting text xs depth) (sym (ap (λ n. past n rest) none ∙ past-zero rest at.utf8)) at)
@@ -109,8 +106,17 @@ module _ (text rest stop : List ℕ) (depth : ℕ) (some : 0 < depth) (at : Comm
     pair_reads : (a b : ℕ) (past_pair : List ℕ) → c ≡ a → begins (b ∷ []) (chars tail) ≡ true → past_pair ≡ past 1 tail
         → chars stop ≡ a ∷ b ∷ chars past_pair
     pair_reads a b past_pair e f g =
-        grind (arith, common_steps, at_stop, g, chars-past 1 tail (IsUtf8-cut 1 stop tail (at_stop).utf8 cut), reads, e,
-            begins-one b (chars tail) f, (ap chars g ∙ chars-past 1 tail (IsUtf8-cut 1 stop tail (at_stop).utf8 cut)))
+        grind (
+          arith,
+          common_steps,
+          at_stop,
+          g,
+          chars-past 1 tail (IsUtf8-cut 1 stop tail (at_stop).utf8 cut),
+          reads,
+          e,
+          begins-one b (chars tail) f,
+          (ap chars g ∙ chars-past 1 tail (IsUtf8-cut 1 stop tail (at_stop).utf8 cut)),
+        )
 
     past_both : (past_pair : List ℕ) → past_pair ≡ past 1 tail → past_pair ≡ past 2 stop
     past_both past_pair g = let stopped = at_stop in past-two stop tail past_pair stopped.utf8 cut g
@@ -120,14 +126,14 @@ module _ (text rest stop : List ℕ) (depth : ℕ) (some : 0 < depth) (at : Comm
     unfolding out_of
     closed_one past_pair less e f g h =
         step text stop past_pair (42 ∷ 47 ∷ []) depth less 2 at_stop (pair_reads 42 47 past_pair e f g) refl
-            (past_both past_pair g)
+        (past_both past_pair g)
         (ap (λ d. out_of d (42 ∷ 47 ∷ chars past_pair)) (sym h))
 
     pub opened_one : (past_pair : List ℕ) (deeper : ℕ) → c ≢ 42 → begins (42 ∷ []) (chars tail) ≡ true
         → past_pair ≡ past 1 tail → deeper ≡ suc depth → Commenting text past_pair deeper
     opened_one past_pair deeper ne f g h =
         step text stop past_pair (47 ∷ 42 ∷ []) depth deeper 2 at_stop (pair_reads 47 42 past_pair (is_slash ne) f g)
-            refl (past_both past_pair g)
+        refl (past_both past_pair g)
         (out_of-opening depth (chars past_pair) some ∙ ap (λ d. more 2 (out_of d (chars past_pair))) (sym h))
 
 pub closed : (text rest : List ℕ) (depth : ℕ) → Commenting text rest depth → depth ≡ 0
@@ -143,11 +149,13 @@ pub comment : (text rest : List ℕ) (style : Option DocStyle) (terminated : Boo
 comment text rest style terminated e f =
     ap (λ (d : Option DocStyle). (BlockComment d terminated, rest)) e
     ∙ (ap (λ (r : Bool × List ℕ). (BlockComment (block_doc_style (chars text)) r.0, r.1)) f
-        ∙ by_end (comment_end (chars text)))
+    ∙ by_end (comment_end (chars text)))
   where
     by_end : (o : Option ℕ)
-        → ◌≡◌ {A = TokenKind × List ℕ} (BlockComment (block_doc_style (chars text)) (or_all_at o (chars text)).0,
-            past (or_all_at o (chars text)).1 text)
-            ((block_comment_to o (chars text)).0, past (block_comment_to o (chars text)).1 text)
+        → ◌≡◌ {A = TokenKind × List ℕ} (
+          BlockComment (block_doc_style (chars text)) (or_all_at o (chars text)).0,
+          past (or_all_at o (chars text)).1 text,
+        )
+        ((block_comment_to o (chars text)).0, past (block_comment_to o (chars text)).1 text)
     by_end None = refl
     by_end (Some n) = refl

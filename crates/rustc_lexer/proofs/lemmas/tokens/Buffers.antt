@@ -1,16 +1,13 @@
 -- A buffer that is filled from the front with the tokens of a text.
-use Rattle.std.proofs.Common.{
-    All, get_or, ◌≡◌, ℕ, zero, suc, ◌+◌, ◌-◌, ◌<◌, ◌≤◌, List, [], ◌∷◌, ◌++◌, length, map, take, drop, min, inl, inr,
-    refl, sym, ap, ◌∙◌, arith, slice_set, length-drop
-}
+use Rattle.std.proofs.Common.{All, get_or, ◌≡◌, ℕ, zero, suc, ◌+◌, ◌-◌, ◌<◌, ◌≤◌, List, [], ◌∷◌, ◌++◌, length, map}
+use Rattle.std.proofs.Common.{take, drop, min, inl, inr, refl, sym, ap, ◌∙◌, arith, slice_set, length-drop}
 use Rattle.std.proofs.lemmas.Bool.{cases_lt}
 use Rattle.std.proofs.lemmas.List.{take-append-drop, take_more_set, drop-set-lt, drop-drop, length-set, map-append}
 use Rattle.std.proofs.lemmas.{List.Elements.{All-head, All-tail}, Str.{IsCharBoundary-from_drop}}
 use Rattle.std.proofs.{Math.Nat.{min-eq_left, min-eq_right, min-le_right}, lemmas.Grind.{common_steps}}
 use Rattle.rustc_lexer.specs.{Token, Edition, FrontmatterAllowed}
-use Rattle.rustc_lexer.specs.Tokens.{
-    IsFilledTo, state_past, bound, tokens_by, tokens_of, tokens_left, Partitions, TakesToken
-}
+use Rattle.rustc_lexer.specs.Tokens.{IsFilledTo, state_past, bound, tokens_by, tokens_of, tokens_left, Partitions}
+use Rattle.rustc_lexer.specs.Tokens.{TakesToken}
 use Rattle.rustc_lexer.specs.{means.Tokens.{IsFilled}, State.{State}, Classes.{IsText}, Locality.{IsGrammar}}
 use Rattle.rustc_lexer.specs.LanguageText.{Mode, part, mode_after, mode_edition, mode_in}
 use Rattle.rustc_lexer.specs.{means.{Edition.{first_token_in}, Taking.{take_next}}, laws.Edition.{edition_grammar}}
@@ -55,7 +52,7 @@ begun_more tokens count at end offset more begun k less = grind (arith, common_s
 
 pub written_to : {X : Type 0} (written : Token → X) (end : ℕ) (tokens : List Token) (buffer filled : List X) (count : ℕ)
     → IsWritten written tokens buffer filled count → ((k : ℕ) → k < count → bound tokens k < end)
-        → (count < length filled → end ≤ bound tokens count)
+    → (count < length filled → end ≤ bound tokens count)
     → IsFilledTo written end tokens buffer filled count
 written_to written end tokens buffer filled count is begun done = grind (arith, common_steps, whole_buffer)
 
@@ -67,8 +64,12 @@ module _ {first : List ℕ → Token} (law : IsGrammar first) (text : List ℕ) 
   cut = at_bound law count text is
 
   pub stands : IsOffset text at
-  stands = rw offset record { inside = cut.inside; boundary = IsCharBoundary-from_drop text _ cut.inside cut.past.utf8;
-      front = cut.front; past = cut.past }
+  stands = rw offset record {
+    inside = cut.inside;
+    boundary = IsCharBoundary-from_drop text _ cut.inside cut.past.utf8;
+    front = cut.front;
+    past = cut.past;
+  }
 
   pub next_token : at < length text → drop count (tokens_by first text) ≡ first (drop at text) ∷ tokens_by first
       (drop (first (drop at text)).len (drop at text))
@@ -170,7 +171,7 @@ pub filled_more : {X : Type 0} (written : Token → X) (edition : Edition) (text
     (buffer filled : List X) (count : ℕ) (s t : State) (token : Token) (x : X)
     → IsText text → end ≤ length text → IsFilling written edition text end buffer filled count s
     → length text - end < length s.rest → count < length filled → TakesToken s token t → x ≡ written token
-        → IsFilling written edition text end buffer (slice_set filled count x) (count + 1) t
+    → IsFilling written edition text end buffer (slice_set filled count x) (count + 1) t
 filled_more written edition text end buffer filled count s t token x is inside at more room takes e =
     let law = edition_grammar edition in
     let first : List ℕ → Token = first_token_in edition in
@@ -179,8 +180,8 @@ filled_more written edition text end buffer filled count s t token x is inside a
     let here : offset < length text = omega (arith, early, inside) in
     let past = (stands law text is count offset refl).past in
     let token_is : token ≡ first (drop offset text) =
-        token_taken edition (drop offset text) past s at.mode at.rest (omega (arith, here, length-drop offset text)) t
-        token takes in
+    token_taken edition (drop offset text) past s at.mode at.rest (omega (arith, here, length-drop offset text)) t
+    token takes in
     record {
       mode = takes.mode ∙ ap (λ (m : Mode). mode_after m token.kind) at.mode;
       rest = takes.rest

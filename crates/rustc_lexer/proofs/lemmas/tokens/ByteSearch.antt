@@ -1,13 +1,11 @@
 -- The run of a class that stops only at bytes of ASCII, by a search of the bytes.
-use Rattle.std.proofs.Common.{
-    ◌≡◌, ℕ, ◌+◌, ◌<◌, ◌≤◌, ◌==◌, ◌||◌, ◌&&◌, not, cond, Bool, true, false, true≢false, List, [], ◌∷◌, ◌++◌, append-nil,
-    length, drop, get_or, refl, sym, ap, ap₂, ◌∙◌, arith, inl, inr, drop-drop, map, bit_or, Some, None
-}
+use Rattle.std.proofs.Common.{◌≡◌, ℕ, ◌+◌, ◌<◌, ◌≤◌, ◌==◌, ◌||◌, ◌&&◌, not, cond, Bool, true, false, true≢false, List}
+use Rattle.std.proofs.Common.{[], ◌∷◌, ◌++◌, append-nil, length, drop, get_or, refl, sym, ap, ap₂, ◌∙◌, arith, inl, inr}
+use Rattle.std.proofs.Common.{drop-drop, map, bit_or, Some, None}
 use Rattle.std.specs.{Char.{encode_utf8}, List.{position_or_len, prefix_len}, Str.{chars, encode_utf8_all, IsUtf8}}
 use Rattle.std.proofs.Math.ListN.{drop_of_length-le}
-use Rattle.std.proofs.lemmas.Bool.{
-    cond-true, eq-eqb, eqb-true, false_from_ne_true, or_cases, not_from_true, not_from_false
-}
+use Rattle.std.proofs.lemmas.Bool.{cond-true, eq-eqb, eqb-true, false_from_ne_true, or_cases, not_from_true}
+use Rattle.std.proofs.lemmas.Bool.{not_from_false}
 use Rattle.std.proofs.{Math.Seq.{drop-append_seam}, lemmas.List.Folds.{prefix_len-append}}
 use Rattle.std.proofs.lemmas.List.Sums.{position_or_len_is, prefix_len_is}
 use Rattle.std.proofs.lemmas.{Str.{encode_ascii, inside_one, encodes-chars}, Grind.{common_steps}}
@@ -38,10 +36,10 @@ module _ (stops : ℕ → Bool) (small : (b : ℕ) → stops b ≡ true → b < 
       (position_or_len stops rest) rest
   char_past c rest f =
       let n : position_or_len stops (encode_utf8 c ++ rest) ≡ length (encode_utf8 c) + position_or_len stops rest =
-          prefix_len-append others
+      prefix_len-append others
       (encode_utf8 c) rest ∙ cond-true _ _ _ (eq-eqb _ _ (char_passes c f)) in
       ap (λ k. drop k (encode_utf8 c ++ rest)) n
-          ∙ (sym (drop-drop (position_or_len stops rest) (length (encode_utf8 c)) (encode_utf8 c ++ rest))
+      ∙ (sym (drop-drop (position_or_len stops rest) (length (encode_utf8 c)) (encode_utf8 c ++ rest))
       ∙ ap (drop (position_or_len stops rest)) (drop-append_seam (encode_utf8 c) rest))
 
   by_chars : (cs : List ℕ) → past_run others cs ≡ drop (position_or_len stops (encode_utf8_all cs)) (encode_utf8_all cs)
@@ -49,7 +47,7 @@ module _ (stops : ℕ → Bool) (small : (b : ℕ) → stops b ≡ true → b < 
   by_chars (c ∷ cs) = by_either (stops c)
       (λ f. past_run-out others c cs (not_from_true (stops c) f) ∙ rw (encode_ascii c (small c f), f) refl)
       (λ f. past_run-in others c cs (not_from_false (stops c) f)
-          ∙ (by_chars cs ∙ sym (char_past c (encode_utf8_all cs) f)))
+      ∙ (by_chars cs ∙ sym (char_past c (encode_utf8_all cs) f)))
 
   pub up_to : (text : List ℕ) (n : ℕ) → IsUtf8 text → position_or_len stops text ≡ n
       → past (run_len others (chars text)) text ≡ drop n text
@@ -77,8 +75,11 @@ begins_two a b text tail is at = grind (arith, common_steps, chars-past)
 
 pub byte2_small : (one two b : ℕ) → one < 128 → two < 128 → is_byte2 one two b ≡ true → b < 128
 byte2_small one two b l m e =
-    elim (or_cases (b == one) (b == two) e) [ inl f ↦ omega (arith, eqb-true b one f) | inr f ↦
-    omega (arith, eqb-true b two f) ]
+    elim (or_cases (b == one) (b == two) e) [
+      | inl f ↦ omega (arith, eqb-true b one f)
+      | inr f ↦
+          omega (arith, eqb-true b two f)
+    ]
 
 -- where a search of the bytes finds one, and where it finds none
 pub found_at : (stops : ℕ → Bool) (text bytes : List ℕ) (n : ℕ) → bytes ≡ text → IsFirstByte stops bytes (Some n)
@@ -91,10 +92,10 @@ pub found_nowhere : (stops : ℕ → Bool) (small : (b : ℕ) → stops b ≡ tr
     → bytes ≡ text → IsFirstByte stops bytes None → [] ≡ past (run_len (others stops small) (chars text)) text
 found_nowhere stops small text bytes is read h =
     let none : position_or_len stops bytes ≡ length bytes =
-        position_or_len_is stops bytes (length bytes) 0 (omega arith)
+    position_or_len_is stops bytes (length bytes) 0 (omega arith)
     (λ k l. false_from_ne_true _ (h k (omega arith) l)) (λ l. absurd (omega arith)) in
     sym (up_to stops small text (length bytes) is (ap (position_or_len stops) (sym read) ∙ none)
-        ∙ drop_of_length-le text (omega (arith, ap length read)))
+    ∙ drop_of_length-le text (omega (arith, ap length read)))
 
 -- ---- a look at the first n bytes
 
@@ -105,9 +106,12 @@ in_first stops bytes n found few le mask some =
     let room : 0 + n ≤ length bytes = omega arith in
     let low = mask_lowest stops bytes 0 n found room mask few some in
     let at : (k : ℕ) → k < n → bit found k ≡ stops (get_or bytes k 0) =
-        λ k l. mask_in stops bytes 0 n found room mask k k (omega arith) l in (
-      record { low = omega arith; high = omega arith;
-          before = λ k from to e. true≢false (sym e ∙ (sym (at k (omega arith)) ∙ low.1.least k to)) },
+    λ k l. mask_in stops bytes 0 n found room mask k k (omega arith) l in (
+      record {
+        low = omega arith;
+        high = omega arith;
+        before = λ k from to e. true≢false (sym e ∙ (sym (at k (omega arith)) ∙ low.1.least k to));
+      },
       sym
           (at _ low.0) ∙ low.1.set,
     )

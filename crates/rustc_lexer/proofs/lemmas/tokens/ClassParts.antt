@@ -12,9 +12,10 @@ pub continue_part : IsPart is_continue_byte is_id_continue
 continue_part = grind (arith, common_steps, small, lt-ltb, is_xid_continue-ascii)
 
 pub space_part : IsPart is_space_byte is_whitespace
-space_part = record
-    { small = λ b e. ltb-true b 128 (and_parts _ _ e).0;
-    same = λ b l. agree_below_at is_space_byte is_whitespace 128 b refl l }
+space_part = record {
+  small = λ b e. ltb-true b 128 (and_parts _ _ e).0;
+  same = λ b l. agree_below_at is_space_byte is_whitespace 128 b refl l;
+}
 
 -- the letters of ASCII begin an identifier
 pub ruleset start_lemmas = (is_xid_start-ascii)

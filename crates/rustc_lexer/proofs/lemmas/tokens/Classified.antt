@@ -37,7 +37,7 @@ module _ (allowed : FrontmatterAllowed) (edition : Edition) (text : List ℕ) (s
         → TakesToken s token (state 0 (drop past text) (mode_in allowed edition))
     takes_left bytes left past token is same e some never first o =
         takes_part allowed edition text new.at s never still past token record
-            { utf8 = subst IsUtf8 same is; fits = says.tells.fits }
+        { utf8 = subst IsUtf8 same is; fits = says.tells.fits }
         says.tells.bound some (first ∙ ap (first_token_in edition) e) o
 
 pub ruleset classified_lemmas = (takes_classified, still)

@@ -1,11 +1,8 @@
 -- What an edition has in place of some tokens.
-use Rattle.std.proofs.Common.{
-    ◌≡◌, ◌≢◌, ◌<◌, ℕ, suc, Bool, true, false, List, [], ◌∷◌, length, ◌⊎◌, refl, codes, ap, ◌∙◌, IsCharBoundary, arith
-}
-use Rattle.rustc_lexer.specs.{
-    Edition, Token, TokenKind, E2015, E2018, E2021, E2024, Pound, GuardedStrPrefix, RawLifetime, UnknownPrefix,
-    UnknownPrefixLifetime
-}
+use Rattle.std.proofs.Common.{◌≡◌, ◌≢◌, ◌<◌, ℕ, suc, Bool, true, false, List, [], ◌∷◌, length, ◌⊎◌, refl, codes, ap}
+use Rattle.std.proofs.Common.{◌∙◌, IsCharBoundary, arith}
+use Rattle.rustc_lexer.specs.{Edition, Token, TokenKind, E2015, E2018, E2021, E2024, Pound, GuardedStrPrefix}
+use Rattle.rustc_lexer.specs.{RawLifetime, UnknownPrefix, UnknownPrefixLifetime}
 use Rattle.rustc_lexer.specs.laws.{Edition.{edition_grammar}, Language.{lexeme-sound}, LanguageIn.{unhashed}}
 use Rattle.rustc_lexer.specs.{declared.lexemes.family.Family.TheVariants.{Hash}, Tables.{is_emoji}}
 use Rattle.unicode_ident.proofs.Computing.{unicode_ident}
@@ -49,7 +46,7 @@ kept_first : (cs : List ℕ) → ((first : ℕ) (s : List ℕ) → cs ≡ first 
 kept_first [] none = refl
 kept_first (c ∷ s) none =
     unhashed (lexeme-sound (c ∷ s)) (λ e. none c s refl (ap family_of e ∙ hash_family))
-        (bytes_of (suc (past_first c s).1) (c ∷ s))
+    (bytes_of (suc (past_first c s).1) (c ∷ s))
 
 -- where no hash stands in front
 pub first_newer : (edition : Edition) (text : List ℕ) → BeginsWithNoHash text → (edition ≡ E2024) ⊎ (edition ≡ E2021)

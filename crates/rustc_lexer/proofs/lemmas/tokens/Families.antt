@@ -1,7 +1,6 @@
 -- The families that characters choose: by the table in ASCII, and by the classes past it.
-use Rattle.std.proofs.Common.{
-    ◌≡◌, ℕ, ◌<◌, ◌≤◌, ◌==◌, not, true, false, true≢false, List, [], ◌∷◌, get_or, refl, sym, ap, ◌∙◌, arith
-}
+use Rattle.std.proofs.Common.{◌≡◌, ℕ, ◌<◌, ◌≤◌, ◌==◌, not, true, false, true≢false, List, [], ◌∷◌, get_or, refl, sym}
+use Rattle.std.proofs.Common.{ap, ◌∙◌, arith}
 use Rattle.std.specs.Str.{chars}
 use Rattle.std.proofs.lemmas.{Bool.{ne_eqb}, List.FromFn.{get_or-map-range_with_len}}
 use Rattle.unicode_ident.specs.Ident.{is_xid_start}

@@ -1,9 +1,7 @@
 -- What the clauses `count` and `state` of `Tokens::fill`, with those of `as_str` before it, tell of the iterator after
 -- it.
-use Rattle.std.proofs.Common.{
-    ◌≡◌, ℕ, zero, suc, ◌+◌, ◌<◌, ◌≤◌, [], length, drop, min, refl, sym, ap, subst, ◌∙◌, arith, length-drop,
-    pos_of_ne-zero
-}
+use Rattle.std.proofs.Common.{◌≡◌, ℕ, zero, suc, ◌+◌, ◌<◌, ◌≤◌, [], length, drop, min, refl, sym, ap, subst, ◌∙◌, arith}
+use Rattle.std.proofs.Common.{length-drop, pos_of_ne-zero}
 use Rattle.std.proofs.{lemmas.{List.{nil_from_length}, Str.{IsUtf8-drop}}, Math.Nat.{min-le_right}}
 use Rattle.rustc_lexer.specs.{Token, Classes.{IsText}, LanguageText.{Mode, mode_edition}, State.{State}}
 use Rattle.rustc_lexer.specs.Tokens.{advance, bound, state_past, tokens_left, tokens_of, TakesToken}
@@ -33,12 +31,14 @@ is_past s is none (suc count) few =
     (past_token at.rest at.mode token) token before.pending before.text some refl refl in
     let next_is : (advance at).1 ≡ past_token at.rest at.mode token = ap (λ (r : Token × State). r.1) first.advances in
     let takes : TakesToken at token (state_past (suc count) s) =
-        subst (λ (x : State). TakesToken at token x) (sym next_is) first in
+    subst (λ (x : State). TakesToken at token x) (sym next_is) first in
     let more : count + 1 ≡ suc count = omega arith in
     record {
       text = subst IsText (sym takes.rest)
-          (record { utf8 = IsUtf8-drop at.rest token.len before.text.utf8 takes.boundary;
-          fits = let fits = before.text.fits in omega (arith, length-drop token.len at.rest, fits) });
+          (record {
+            utf8 = IsUtf8-drop at.rest token.len before.text.utf8 takes.boundary;
+            fits = let fits = before.text.fits in omega (arith, length-drop token.len at.rest, fits);
+          });
       pending = ap (λ (x : State). x.pending) next_is;
       left = left_more s at (state_past (suc count) s) count token refl before.left takes
           ∙ ap (λ n. drop n (tokens_left s)) more;

@@ -34,8 +34,13 @@ module _ (edition : Edition) (text : List ℕ) (is : IsUtf8 text) where
       begins (fence 3) (drop n (chars text))
   unfolding past
   dashes n =
-      grind (arith, common_steps, starts-begins, past-drop n text is,
-          begins-encode (fence 3) (drop n (chars text)) refl)
+      grind (
+        arith,
+        common_steps,
+        starts-begins,
+        past-drop n text is,
+        begins-encode (fence 3) (drop n (chars text)) refl,
+      )
 
   by_first : (cs : List ℕ) (token : Token) → chars text ≡ cs → token ≡ first_token_in edition text
       → (token.kind ≡ Whitespace → starts_with (λ x y. x == y) (drop token.len text) (fence 3) ≡ false)
@@ -44,12 +49,12 @@ module _ (edition : Edition) (text : List ℕ) (is : IsUtf8 text) where
   by_first (c ∷ s) token e is_first no_space no_dash = by_either (is_whitespace c)
       (λ w.
       let at : token ≡ record { kind = Whitespace; len = bytes_of (spaces_len (chars text)) (chars text) } =
-          is_first ∙ token-space c s e w in
+      is_first ∙ token-space c s e w in
       let none = no_space (ap (λ (t : Token). t.kind) at) in
       let len : token.len ≡ bytes_of (spaces_len (chars text)) (chars text) = ap (λ (t : Token). t.len) at in
       let begins_none : begins (fence 3) (drop (spaces_len (chars text)) (chars text)) ≡ false =
-          sym (dashes (spaces_len (chars text)))
-          ∙ (ap (λ n. starts_with (λ x y. x == y) (drop n text) (fence 3)) (sym len) ∙ none) in
+      sym (dashes (spaces_len (chars text)))
+      ∙ (ap (λ n. starts_with (λ x y. x == y) (drop n text) (fence 3)) (sym len) ∙ none) in
       opens-none (c ∷ s) (ap (λ (cs : List ℕ). begins (fence 3) (drop (spaces_len cs) cs)) (sym e) ∙ begins_none))
       (λ w. by_either (is_dash c)
       (λ d.

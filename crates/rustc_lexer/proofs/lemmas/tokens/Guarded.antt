@@ -1,8 +1,6 @@
 -- Guarded strings: what is taken of a text.
-use Rattle.std.proofs.Common.{
-    ◌≡◌, ℕ, suc, ◌+◌, ◌-◌, Bool, true, false, if◌then◌else◌, List, [], ◌∷◌, length, drop, sym, ap, ◌∙◌, arith, subst,
-    Option, Some, None
-}
+use Rattle.std.proofs.Common.{◌≡◌, ℕ, suc, ◌+◌, ◌-◌, Bool, true, false, if◌then◌else◌, List, [], ◌∷◌, length, drop, sym}
+use Rattle.std.proofs.Common.{ap, ◌∙◌, arith, subst, Option, Some, None}
 use Rattle.std.specs.Str.{chars, IsUtf8, IsCharBoundary}
 use Rattle.std.proofs.lemmas.{Str.{IsCharBoundary-from_drop}, Grind.{common_steps}}
 use Rattle.rustc_lexer.specs.{GuardedStr, means.Guarded.{guarded_body, string_past, guarded_by, take_guarded}}
@@ -47,7 +45,7 @@ module _ (rest front : List ℕ) (n : ℕ) (is : IsUtf8 rest) (count : n ≡ has
     string_boundary =
         IsCharBoundary-from_drop rest (length rest - length left) (omega arith)
         (subst IsUtf8 (past-drop (suc n + body_read.1) rest is ∙ ap (λ (k : ℕ). drop k rest) taken_is)
-            (IsUtf8-past (suc n + body_read.1) rest is))
+        (IsUtf8-past (suc n + body_read.1) rest is))
 
     pub string_here : begins (34 ∷ []) (chars front) ≡ true → Some (closed, length rest - length left) ≡
         string_past n (chars rest)
@@ -73,5 +71,5 @@ module _ (pending : ℕ) (left : List ℕ) (mode : Mode) (s : State) (rest : Lis
 
   pub some_here : (closed : Bool) (t : ℕ) → Some (closed, t) ≡ string_past n (chars rest)
       → take_guarded s ≡
-          (Some record { n_hashes = n; terminated = closed; token_len = pending + t }, state 0 (drop t left) mode)
+      (Some record { n_hashes = n; terminated = closed; token_len = pending + t }, state 0 (drop t left) mode)
   some_here closed t read = grind (arith, common_steps, guarded-is (Some (closed, t)) read, here)

@@ -1,8 +1,6 @@
 -- A hash, by the byte after it.
-use Rattle.std.proofs.Common.{
-    ◌≡◌, ◌≢◌, ℕ, ◌<◌, ◌≤◌, Bool, drop, refl, subst, true, false, true≢false, List, [], ◌∷◌, ◌++◌, length, sym, ap, ◌∙◌,
-    arith
-}
+use Rattle.std.proofs.Common.{◌≡◌, ◌≢◌, ℕ, ◌<◌, ◌≤◌, Bool, drop, refl, subst, true, false, true≢false, List, [], ◌∷◌}
+use Rattle.std.proofs.Common.{◌++◌, length, sym, ap, ◌∙◌, arith}
 use Rattle.std.specs.Str.{encode_utf8_all, IsCharBoundary, IsUtf8}
 use Rattle.std.proofs.lemmas.Bool.{eqb-true, or_cases}
 use Rattle.std.proofs.lemmas.Str.{chars-nil, encode_ascii, encodes-chars, IsCharBoundary-from_drop}
@@ -33,8 +31,8 @@ no_hash text b rest is e other first cs read family =
     let code : first ≡ 35 = hash-code first family in
     let whole : b ∷ rest ≡ first ∷ encode_utf8_all cs =
     sym e ∙ (sym (encodes-chars text is)
-        ∙ (ap encode_utf8_all read ∙ ap (λ (xs : List ℕ). xs ++ encode_utf8_all cs)
-        (encode_ascii first (omega arith)))) in
+    ∙ (ap encode_utf8_all read ∙ ap (λ (xs : List ℕ). xs ++ encode_utf8_all cs)
+    (encode_ascii first (omega arith)))) in
     let same : first ≡ b = cc in
     other (ap family_of (sym same) ∙ family)
 
@@ -56,8 +54,12 @@ prefix_first text b (d ∷ ds) is e small family opens =
     decided : IsUtf8 (d ∷ ds) → (GuardedStrPrefix, ds) ≡ scanned (past_first b) (d ∷ ds)
     decided inner =
         by_family Hash b (d ∷ ds) _ family
-        (grind (arith, common_steps, next_byte opens_guarded opens_guarded-small (d ∷ ds) inner,
-            past-ascii d ds inner (opens_guarded-small d opens)))
+        (grind (
+          arith,
+          common_steps,
+          next_byte opens_guarded opens_guarded-small (d ∷ ds) inner,
+          past-ascii d ds inner (opens_guarded-small d opens),
+        ))
 
 pub pound_first : (text : List ℕ) (b : ℕ) (rest : List ℕ) → IsUtf8 text → text ≡ b ∷ rest → b < 128 → Hash ≡ family_of b
     → next_is opens_guarded rest ≡ false → IsFirstToken text record { kind = Pound; len = 1 }

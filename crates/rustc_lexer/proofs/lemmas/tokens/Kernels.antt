@@ -1,8 +1,6 @@
 -- A run of bytes that pass q, seen a vector at a time through the mask of those that fail it.
-use Rattle.std.proofs.Common.{
-    ◌≡◌, ℕ, zero, suc, ◌+◌, ◌<◌, ◌≤◌, Bool, true, false, List, map, length, length-drop, drop, get_or, refl, sym, ap,
-    ◌∙◌, arith
-}
+use Rattle.std.proofs.Common.{◌≡◌, ℕ, zero, suc, ◌+◌, ◌<◌, ◌≤◌, Bool, true, false, List, map, length, length-drop, drop}
+use Rattle.std.proofs.Common.{get_or, refl, sym, ap, ◌∙◌, arith}
 use Rattle.std.proofs.lemmas.List.{take_rest, Sums.{prefix_len-le-length, prefix_len-drop_yes, prefix_len-drop_no}}
 use Rattle.std.proofs.lemmas.Bool.{not-true, not-false}
 use Rattle.std.specs.List.{prefix_len}

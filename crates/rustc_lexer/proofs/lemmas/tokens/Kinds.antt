@@ -1,14 +1,11 @@
 -- What the grammar says of the text of a token by its kind, and of the suffix of a literal.
-use Rattle.std.proofs.Common.{
-    ◌≡◌, ◌↔◌, ◌≤◌, Bool, true, false, true≢false, List, ℕ, [], ◌∷◌, ◌++◌, codes, drop, take, length, refl, sym, ap, ap₂,
-    arith, ◌∙◌, chars, Ok, Option, Result, Some, None, IsSome
-}
+use Rattle.std.proofs.Common.{◌≡◌, ◌↔◌, ◌≤◌, Bool, true, false, true≢false, List, ℕ, [], ◌∷◌, ◌++◌, codes, drop, take}
+use Rattle.std.proofs.Common.{length, refl, sym, ap, ap₂, arith, ◌∙◌, chars, Ok, Option, Result, Some, None, IsSome}
 use Rattle.std.proofs.lemmas.{List.{append-nil}, Str.{chars-append, chars-encodes, encode_ascii, encodes-append}}
 use Rattle.std.proofs.lemmas.Grind.{common_steps}
 use Rattle.std.specs.Str.{encode_utf8_all}
-use Rattle.rustc_lexer.specs.{
-    Edition, LiteralKind, RawStrError, Token, TokenKind, Ident, RawIdent, UnknownPrefix, Literal, Eof
-}
+use Rattle.rustc_lexer.specs.{Edition, LiteralKind, RawStrError, Token, TokenKind, Ident, RawIdent, UnknownPrefix}
+use Rattle.rustc_lexer.specs.{Literal, Eof}
 use Rattle.rustc_lexer.specs.{Answers.{raw_check}, Classes.{bytes, is_ident, Chars, IsText, Utf8}}
 use Rattle.rustc_lexer.specs.Language as the
 use Rattle.rustc_lexer.specs.Language.{IsTokenBefore}
@@ -49,8 +46,14 @@ accepts p None is some = absurd (true≢false (sym some))
 checked : {next rest w : Chars} {o : Option ℕ} → IsRaw next o w → (o ≡ None → rest ≡ []) → (p : ℕ) (text : Utf8)
     → drop p (chars text) ≡ w ++ rest → (raw_check text p ≡ Ok tt) ↔ IsSome o
 checked {rest = rest} {o = o} is end p text e =
-    grind (arith, common_steps, (the_raw text p).only tt (Ok tt), raw-alike is rest (λ none over. end none), accepted,
-    accepts)
+    grind (
+      arith,
+      common_steps,
+      (the_raw text p).only tt (Ok tt),
+      raw-alike is rest (λ none over. end none),
+      accepted,
+      accepts,
+    )
 
 -- the text of a literal is as its kind says
 literal-text : {next w : Chars} {kind : LiteralKind} {may : Bool} → IsLiteralBefore next kind may w → (rest : Chars)
@@ -90,8 +93,12 @@ says (the.ident is stop end) = is
 says (the.unknown_prefix is end new) = is
 says (the.raw_ident {w} is stop) = (w, refl, is)
 says (the.literal {w = w} is) =
-    record { within = omega arith; ends = λ bad. refl; text = λ text e. literal-text is [] (λ f. refl) (bytes w) text
-    (e ∙ sym (append-nil w)) }
+    record {
+      within = omega arith;
+      ends = λ bad. refl;
+      text = λ text e. literal-text is [] (λ f. refl) (bytes w) text
+          (e ∙ sym (append-nil w));
+    }
 says (the.literal_with {w = w} {suffix = suffix} is suffix_is) =
     grind (arith, common_steps, bytes-append, suffixed, literal-text)
 says (the.symbol {c} is) = quiet (symbol_kind c) (c ∷ []) (by_symbol is_quiet symbols c refl refl)
@@ -121,12 +128,12 @@ has_text : (kind : TokenKind) (w : Chars) (text : Utf8) → Says kind w → text
 has_text Ident w text said e f = rw f said
 has_text RawIdent w text (word, is_raw, is) e f =
     let cut : text ≡ codes "r#" ++ encode_utf8_all word =
-        e ∙ (ap encode_utf8_all is_raw
-        ∙ (encodes-append (codes "r#") word ∙ ap (λ bs. bs ++ encode_utf8_all word) hash_r)) in
+    e ∙ (ap encode_utf8_all is_raw
+    ∙ (encodes-append (codes "r#") word ∙ ap (λ bs. bs ++ encode_utf8_all word) hash_r)) in
     let own : chars (encode_utf8_all word) ≡ word =
     ap (drop 2) (ap (λ cs. cs ++ chars (encode_utf8_all word)) (sym chars_r)
-        ∙ (sym (chars-append (codes "r#") (encode_utf8_all word) (codes "r#", (refl, hash_r)))
-        ∙ (ap chars (sym cut) ∙ (f ∙ is_raw)))) in
+    ∙ (sym (chars-append (codes "r#") (encode_utf8_all word) (codes "r#", (refl, hash_r)))
+    ∙ (ap chars (sym cut) ∙ (f ∙ is_raw)))) in
     (encode_utf8_all word, cut, ap is_ident own ∙ is)
 has_text (Literal kind suffix_start) w text said e f = said.text text f
 has_text Eof w text said e f = ap length (e ∙ ap encode_utf8_all said)

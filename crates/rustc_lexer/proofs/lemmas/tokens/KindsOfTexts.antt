@@ -17,9 +17,16 @@ token_at-said mode text is some =
 pub token_at-not_end : (mode : Mode) (text : List ℕ) → IsText text → 0 < length text → (token_at mode text).kind ≡ Eof
     → ⊥
 token_at-not_end mode text is some e =
-    grind (arith, common_steps, e, (token_at-said mode text is some).text, token_at-cuts mode text is some,
-        length-take ((token_at mode text).len) text, (token_at-cuts mode text is some).inside,
-        (token_at-cuts mode text is some).not_empty)
+    grind (
+      arith,
+      common_steps,
+      e,
+      (token_at-said mode text is some).text,
+      token_at-cuts mode text is some,
+      length-take ((token_at mode text).len) text,
+      (token_at-cuts mode text is some).inside,
+      (token_at-cuts mode text is some).not_empty,
+    )
 
 -- ---- all tokens of a text
 

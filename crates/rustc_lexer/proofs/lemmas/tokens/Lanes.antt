@@ -1,7 +1,6 @@
 -- A mask that is computed lane by lane is held to a test at each of the 256 bytes.
-use Rattle.std.proofs.Common.{
-    ◌≡◌, ℕ, leb, cond, ◌%◌, ◌^◌, ◌<◌, ◌≤◌, Bool, true, List, [], ◌∷◌, map, length, refl, ap, ap₂, ◌∙◌, arith, w8, Fits
-}
+use Rattle.std.proofs.Common.{◌≡◌, ℕ, leb, cond, ◌%◌, ◌^◌, ◌<◌, ◌≤◌, Bool, true, List, [], ◌∷◌, map, length, refl, ap}
+use Rattle.std.proofs.Common.{ap₂, ◌∙◌, arith, w8, Fits}
 use Rattle.std.proofs.lemmas.{Bool.{agree_below, agree_below_at}, Simd.{mask_l-mod}, List.{length-map}}
 use lib.Lanes.{mask_l, top, Each1}
 

@@ -28,16 +28,20 @@ module _ (text tail rest : List ℕ) (c : ℕ) (kind : TokenKind) (is : IsUtf8 t
       let cut : bytes_of (1 + taken) (chars text) ≡ length text - length rest = let b = bytes in omega arith in
       let front : bytes_of (1 + taken) (chars text) ≤ length text = let b = bytes in omega arith in
       subst (IsCharBoundary text) cut
-          (IsCharBoundary-from_drop text _ front
-          (subst (λ (xs : List ℕ). IsUtf8 xs) (past-drop (1 + taken) text is) (IsUtf8-past (1 + taken) text is)))
+      (IsCharBoundary-from_drop text _ front
+      (subst (λ (xs : List ℕ). IsUtf8 xs) (past-drop (1 + taken) text is) (IsUtf8-past (1 + taken) text is)))
 
   token-is : record { kind = kind; len = length text - length rest } ≡ first_token text
   unfolding first_token
   token-is = grind (arith, common_steps, bytes)
 
   pub made : IsFirstToken text record { kind = kind; len = length text - length rest }
-  made = record { token = token-is; inside = omega (arith, left-le); boundary = boundary;
-      suffix = subst (λ (t : Token). HasSuffixWithin t) (sym token-is) (first_token-suffix text) }
+  made = record {
+    token = token-is;
+    inside = omega (arith, left-le);
+    boundary = boundary;
+    suffix = subst (λ (t : Token). HasSuffixWithin t) (sym token-is) (first_token-suffix text);
+  }
 
 pub token-at_end : (text : List ℕ) → chars text ≡ [] → record { kind = Eof; len = 0 } ≡ first_token text
 unfolding first_token

@@ -1,15 +1,13 @@
 -- Characters and lifetimes, as the code reads them.
-use Rattle.std.proofs.Common.{
-    ◌≡◌, ℕ, zero, suc, ◌+◌, ◌-◌, ◌≤◌, ◌&&◌, ◌||◌, not, Bool, true, false, ltb, if◌then◌else◌, List, [], ◌∷◌, length,
-    take, drop, codes, sym, ap, ◌∙◌, arith, length-append, length-take-le, lt-ltb, le-ltb
-}
+use Rattle.std.proofs.Common.{◌≡◌, ℕ, zero, suc, ◌+◌, ◌-◌, ◌≤◌, ◌&&◌, ◌||◌, not, Bool, true, false, ltb, if◌then◌else◌}
+use Rattle.std.proofs.Common.{List, [], ◌∷◌, length, take, drop, codes, sym, ap, ◌∙◌, arith, length-append}
+use Rattle.std.proofs.Common.{length-take-le, lt-ltb, le-ltb}
 use Rattle.std.specs.{Char.{is_ascii_digit, encode_utf8, len_utf8}, List.{list_all}, Str.{chars, IsUtf8}}
 use Rattle.std.proofs.{lemmas.Str.{length-encode, length-le-encodes}, Math.Bool.{not-not}, lemmas.Grind.{common_steps}}
 use Rattle.rustc_lexer.specs.{TokenKind, Char, Literal, Lifetime, UnknownPrefixLifetime}
 use Rattle.rustc_lexer.specs.{Classes.{is_id_continue, is_word_continue}, Tables.{is_emoji}}
-use Rattle.rustc_lexer.specs.means.Lifetime.{
-    past_name, plain_lifetime, lifetime, is_character, is_character_at, lifetime_or_char
-}
+use Rattle.rustc_lexer.specs.means.Lifetime.{past_name, plain_lifetime, lifetime, is_character, is_character_at}
+use Rattle.rustc_lexer.specs.means.Lifetime.{lifetime_or_char}
 use Rattle.rustc_lexer.specs.{laws.Lifetime.{name_of, unquoted_name}, means.{Literal.{literal}, Quoted.{char_body}}}
 use Rattle.rustc_lexer.specs.{laws.Reach.{run_len_le}, means.Scan.{begins, bytes_of, past, run_len, scanned}}
 use Rattle.rustc_lexer.specs.laws.Past.{past-zero, past-past, chars-past, length-past, IsUtf8-past}
@@ -22,9 +20,9 @@ module _ (text tail : List ℕ) (c : ℕ) (is : IsUtf8 text) (reads : chars text
   pub first-length : len_utf8 c + length tail ≡ length text
   first-length =
       let one : bytes_of 1 (chars text) ≡ len_utf8 c =
-          ap (bytes_of 1) reads
-          ∙ (length-append (encode_utf8 c) [] ∙ let none : length (encode_utf8 c) + 0 ≡
-          len_utf8 c = omega (arith, length-encode c) in none) in
+      ap (bytes_of 1) reads
+      ∙ (length-append (encode_utf8 c) [] ∙ let none : length (encode_utf8 c) + 0 ≡
+      len_utf8 c = omega (arith, length-encode c) in none) in
       omega (arith, length-past 1 text is, ap length cut)
 
   pub pick-name : (r : TokenKind × List ℕ) → is_character c (chars tail) ≡ false → r ≡ scanned (lifetime c) tail
@@ -39,8 +37,8 @@ shorter-by zero text rest is le cut =
 shorter-by (suc n) text rest is le cut =
     let some : length (take (suc n) (chars text)) ≡ suc n = length-take-le (suc n) (chars text) le in
     lt-ltb (length rest) (length text)
-        (omega (arith, ap length cut, length-past (suc n) text is, length-le-encodes (take (suc n) (chars text))))
-        ∙ sym (lt-ltb 0 (suc n) (omega arith))
+    (omega (arith, ap length cut, length-past (suc n) text is, length-le-encodes (take (suc n) (chars text))))
+    ∙ sym (lt-ltb 0 (suc n) (omega arith))
 
 -- what follows a name
 past-unquoted_name : (c : ℕ) (name end : List ℕ) → IsUtf8 end → begins (codes "'") (chars end) ≡ false
@@ -65,10 +63,18 @@ module _ (c : ℕ) (rest part end : List ℕ) (is : IsUtf8 rest)
 
   emoji-is : ltb (length end) (length part) ≡ not (list_all is_id_continue (take whole (chars rest)))
   emoji-is =
-      grind (arith, common_steps, first, IsUtf8-past plain rest is,
-          shorter-by (run_len is_word_continue (chars part)) part end (rw first (IsUtf8-past plain rest is))
-          (run_len_le is_word_continue (chars part)) second, part-chars, word_more (chars rest), word_all (chars rest),
-          not-not (has_emoji (chars rest)))
+      grind (
+        arith,
+        common_steps,
+        first,
+        IsUtf8-past plain rest is,
+        shorter-by (run_len is_word_continue (chars part)) part end (rw first (IsUtf8-past plain rest is))
+            (run_len_le is_word_continue (chars part)) second,
+        part-chars,
+        word_more (chars rest),
+        word_all (chars rest),
+        not-not (has_emoji (chars rest)),
+      )
 
   plain_lifetime-is : scanned (plain_lifetime c) rest ≡ scanned (past_name c (take whole (chars rest))) end
   plain_lifetime-is = scanned-and_then name_of (past_name c) rest end (take whole (chars rest)) is
@@ -83,12 +89,20 @@ module _ (c : ℕ) (rest part end : List ℕ) (is : IsUtf8 rest)
   pub plain_lifetime-unquoted_name : (kind : TokenKind) (emoji : Bool) → begins (codes "'") (chars end) ≡ false
       → emoji ≡ ltb (length end) (length part)
       → kind ≡ (if begins (codes "#") (chars end) && not (is_ascii_digit c) then UnknownPrefixLifetime else Lifetime
-          (is_ascii_digit c || is_emoji c || emoji))
+      (is_ascii_digit c || is_emoji c || emoji))
       → (kind, end) ≡ scanned (plain_lifetime c) rest
   plain_lifetime-unquoted_name kind emoji t same e =
-      grind (arith, common_steps, end-is, IsUtf8-past whole rest is, e, same, emoji-is,
-          past-unquoted_name c (take whole (chars rest)) end (rw end-is (IsUtf8-past whole rest is)) t,
-          plain_lifetime-is)
+      grind (
+        arith,
+        common_steps,
+        end-is,
+        IsUtf8-past whole rest is,
+        e,
+        same,
+        emoji-is,
+        past-unquoted_name c (take whole (chars rest)) end (rw end-is (IsUtf8-past whole rest is)) t,
+        plain_lifetime-is,
+      )
 
 -- by its bytes, a character that a quote closes right away
 pub at_char : (text : List ℕ) (r : TokenKind × List ℕ) → is_character_at (chars text) ≡ true

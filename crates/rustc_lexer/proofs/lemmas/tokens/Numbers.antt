@@ -1,7 +1,6 @@
 -- Numbers, as the code reads them.
-use Rattle.std.proofs.Common.{
-    ◌≡◌, ◌<◌, ℕ, ◌+◌, Bool, true, false, List, [], ◌∷◌, take, drop, get_or, refl, sym, ◌∙◌, zero-add, arith
-}
+use Rattle.std.proofs.Common.{◌≡◌, ◌<◌, ℕ, ◌+◌, Bool, true, false, List, [], ◌∷◌, take, drop, get_or, refl, sym, ◌∙◌}
+use Rattle.std.proofs.Common.{zero-add, arith}
 use Rattle.std.specs.{Char.{is_ascii_digit, is_ascii_hexdigit}, List.{list_any}, Str.{chars, IsUtf8}}
 use Rattle.std.proofs.lemmas.{Bool.{eqb-true}, Grind.{common_steps}}
 use Rattle.unicode_ident.proofs.IdentLemmas.{is_xid_start-ascii}
@@ -50,11 +49,19 @@ module _ (is_digit : ℕ → Bool) (none : is_digit 95 ≡ false) where
 
   pub digits-is : (text middle rest : List ℕ) (some : Bool) → is_digit 0 ≡ false → IsUtf8 text
       → middle ≡ past (run_len is_underscore (chars text)) text → some ≡ is_digit (get_or (chars middle) 0 0)
-          → rest ≡ past (run_len (or_underscore is_digit) (chars middle)) middle
+      → rest ≡ past (run_len (or_underscore is_digit) (chars middle)) middle
       → (some, rest) ≡ scanned (digits is_digit) text
   digits-is text middle rest some w4 is e f g =
       grind (arith, common_steps, chars-past, next_is-first, list_any-past, run_len-past, past-past)
 
-pub ruleset number_lemmas =
-    (next_is-first, is_no_fraction-zero, dot_only, chars-past, past-past, past-zero, IsUtf8-past, scanned-and_then,
-    scanned-read_as)
+pub ruleset number_lemmas = (
+  next_is-first,
+  is_no_fraction-zero,
+  dot_only,
+  chars-past,
+  past-past,
+  past-zero,
+  IsUtf8-past,
+  scanned-and_then,
+  scanned-read_as,
+)

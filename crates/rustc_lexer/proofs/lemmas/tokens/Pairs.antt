@@ -1,8 +1,7 @@
 -- A pattern, of which four bytes are looked for at 16 offsets at a time.
-use Rattle.std.proofs.Common.{
-    ◌≡◌, ℕ, zero, suc, ◌+◌, ◌-◌, ◌<◌, ◌≤◌, ◌^◌, ◌==◌, ◌&&◌, Bool, true, false, true≢false, List, [], ◌∷◌, map, length,
-    drop, drop-drop, length-drop, get_or, refl, sym, ap, ap₂, ◌∙◌, subst, arith, bit_and, inl, inr
-}
+use Rattle.std.proofs.Common.{◌≡◌, ℕ, zero, suc, ◌+◌, ◌-◌, ◌<◌, ◌≤◌, ◌^◌, ◌==◌, ◌&&◌, Bool, true, false, true≢false}
+use Rattle.std.proofs.Common.{List, [], ◌∷◌, map, length, drop, drop-drop, length-drop, get_or, refl, sym, ap, ap₂, ◌∙◌}
+use Rattle.std.proofs.Common.{subst, arith, bit_and, inl, inr}
 use Rattle.std.proofs.lemmas.{Bool.{and_parts, cases_lt, false_from_ne_true}, List.{get_or-drop, length-map}}
 use Rattle.std.proofs.lemmas.{Simd.{length-chunk, mask_l-lt}, Nat.Bits.{bit_at_above}}
 use lib.Count.{count_trailing_zeros}
@@ -17,9 +16,9 @@ pub few : (p : ℕ → Bool) (bytes : List ℕ) (mask : ℕ) → 16 ≤ length b
     → mask < 2 ^ 16
 few p bytes mask inside e =
     let long : length (map p (chunk 0 16 bytes)) ≡ 16 = length-map (chunk 0 16 bytes) p
-        ∙ length-chunk 0 16 bytes (omega arith) in
+    ∙ length-chunk 0 16 bytes (omega arith) in
     subst (λ n. mask < 2 ^ n) long
-        (subst (λ m. m < 2 ^ length (map p (chunk 0 16 bytes))) (sym e) (mask_l-lt (map p (chunk 0 16 bytes))))
+    (subst (λ m. m < 2 ^ length (map p (chunk 0 16 bytes))) (sym e) (mask_l-lt (map p (chunk 0 16 bytes))))
 
 -- the pattern begins nowhere below `n`
 abbrev pub AreApart : List ℕ → List ℕ → ℕ → Type 0
@@ -34,8 +33,11 @@ pub record IsLooking (pattern bytes left : List ℕ) : Type 0 where
 pub look_start : (pattern bytes : List ℕ) → IsLooking pattern bytes bytes
 look_start pattern bytes =
     let none : length bytes - length bytes ≡ 0 = omega arith in
-    record { inside = omega arith; left_is = ap (λ n. drop n bytes) (sym none);
-        apart = λ k l. absurd (omega (arith, none, l)) }
+    record {
+      inside = omega arith;
+      left_is = ap (λ n. drop n bytes) (sym none);
+      apart = λ k l. absurd (omega (arith, none, l));
+    }
 
 pub near : (x : ℕ) → 0 < x → x < 2 ^ 16 → count_trailing_zeros 64 x < 16
 unfolding bit
@@ -54,7 +56,7 @@ begins-at (c ∷ cs) (d ∷ s) (suc i) e l = begins-at cs s i (and_parts (d == c
 abbrev pub four_at : ℕ → ℕ → ℕ → ℕ → ℕ → List ℕ → ℕ → Bool
 four_at first second third last span bytes k =
     ((is_byte first (get_or bytes k 0) && is_byte last (get_or bytes (span + k) 0)) && is_byte second
-        (get_or bytes (1 + k) 0)) && is_byte third (get_or bytes (2 + k) 0)
+    (get_or bytes (1 + k) 0)) && is_byte third (get_or bytes (2 + k) 0)
 
 -- where the pattern begins, they are
 pub candidate : (first second third last span c : ℕ) (more left : List ℕ) → first ≡ c → second ≡ get_or more 0 0
@@ -64,11 +66,11 @@ pub candidate : (first second third last span c : ℕ) (more left : List ℕ) �
 candidate first second third last span c more left e1 e2 e3 e4 e5 some found are k l begun =
     let byte : (i : ℕ) → i < length (c ∷ more) → is_byte (get_or (c ∷ more) i 0) (get_or left (k + i) 0) ≡ true =
     λ i m. ap (is_byte (get_or (c ∷ more) i 0)) (sym (get_or-drop k left i 0))
-        ∙ begins-at (c ∷ more) (drop k left) i begun m in
+    ∙ begins-at (c ∷ more) (drop k left) i begun m in
     let place : (i j b : ℕ) → i < length (c ∷ more) → k + i ≡ j → b ≡ get_or (c ∷ more) i 0
-        → is_byte b (get_or left j 0) ≡ true =
+    → is_byte b (get_or left j 0) ≡ true =
     λ i j b m sum same. subst (λ (n : ℕ). is_byte b (get_or left n 0) ≡ true) sum
-        (subst (λ (x : ℕ). is_byte x (get_or left (k + i) 0) ≡ true) (sym same) (byte i m)) in
+    (subst (λ (x : ℕ). is_byte x (get_or left (k + i) 0) ≡ true) (sym same) (byte i m)) in
     let one = place 0 k first (omega arith) (omega arith) e1 in
     let two = place 1 (1 + k) second (omega (arith, some)) (omega arith) e2 in
     let three = place 2 (2 + k) third (omega (arith, some)) (omega arith) e3 in
@@ -96,20 +98,20 @@ module _ (first second third last span : ℕ) (bytes : List ℕ) (firsts : ℕ) 
     pub no_last : bit_and firsts lasts ≡ 0 → (k : ℕ) → k < 16 → bit 0 k ≡ four_at first second third last span bytes k
     no_last e k l =
         let none : (is_byte first (get_or bytes k 0) && is_byte last (get_or bytes (span + k) 0)) ≡ false =
-            sym (both_are k l) ∙ (ap (λ m. bit m k) e ∙ bit-zero k) in
+        sym (both_are k l) ∙ (ap (λ m. bit m k) e ∙ bit-zero k) in
         bit-zero k ∙ sym (rw none refl)
 
     pub all_four : (seconds thirds : ℕ) (right next : List ℕ) → right ≡ drop 1 bytes → next ≡ drop 2 bytes
         → ((k : ℕ) → k < 16 → bit seconds k ≡ is_byte second (get_or right k 0))
-            → ((k : ℕ) → k < 16 → bit thirds k ≡ is_byte third (get_or next k 0))
+        → ((k : ℕ) → k < 16 → bit thirds k ≡ is_byte third (get_or next k 0))
         → (k : ℕ) → k < 16 → bit (bit_and (bit_and (bit_and firsts lasts) seconds) thirds) k ≡
-            four_at first second third last span bytes k
+        four_at first second third last span bytes k
     all_four seconds thirds right next right_is next_is seconds_are thirds_are k l =
         let both : ℕ = bit_and firsts lasts in
         bit-and (bit_and both seconds) thirds k
         ∙ ap₂ (λ a b. a && b)
         (bit-and both seconds k
-            ∙ ap₂ (λ a b. a && b) (both_are k l) (seconds_are k l ∙ ap (is_byte second) (seen 1 right k right_is)))
+        ∙ ap₂ (λ a b. a && b) (both_are k l) (seconds_are k l ∙ ap (is_byte second) (seen 1 right k right_is)))
         (thirds_are k l ∙ ap (is_byte third) (seen 2 next k next_is))
 
 -- the loop goes on, or ends
@@ -124,10 +126,10 @@ module _ (pattern bytes left : List ℕ) (at : IsLooking pattern bytes left) (fo
     | inr past ↦
         let sum : here + (k - here) ≡ k = omega arith in
         let same : drop (k - here) left ≡ drop k bytes = ap (drop (k - here)) at.left_is
-            ∙ (drop-drop (k - here) here bytes ∙ ap (λ n. drop n bytes) sum) in
+        ∙ (drop-drop (k - here) here bytes ∙ ap (λ n. drop n bytes) sum) in
         ap (begins pattern) (sym same)
-            ∙ false_from_ne_true _
-            (λ t. true≢false (sym (stands (k - here) (omega arith) t) ∙ none (k - here) (omega arith)))
+        ∙ false_from_ne_true _
+        (λ t. true≢false (sym (stands (k - here) (omega arith) t) ∙ none (k - here) (omega arith)))
   ]
 
   pub look_on : found ≡ 0 → (rest : List ℕ) → 16 ≤ length left → rest ≡ drop 16 left → IsLooking pattern bytes rest
@@ -155,5 +157,5 @@ apart_first pattern s zero le apart = more-zero (first pattern s)
 apart_first pattern [] (suc n) le apart = absurd (omega arith)
 apart_first pattern (c ∷ s) (suc n) le apart =
     offset-on (begins pattern) c s (apart 0 (omega arith))
-        ∙ (ap one_more (apart_first pattern s n (omega arith) (λ k l. apart (suc k) (omega arith)))
-        ∙ one_more-more n (first pattern (drop n s)))
+    ∙ (ap one_more (apart_first pattern s n (omega arith) (λ k l. apart (suc k) (omega arith)))
+    ∙ one_more-more n (first pattern (drop n s)))

@@ -1,7 +1,6 @@
 -- Where an iterator stands in its text, for its callers.
-use Rattle.std.proofs.Common.{
-    ◌≡◌, ℕ, ◌+◌, ◌-◌, ◌∙◌, List, length, take, drop, drop-drop, length-drop, ap, IsCharBoundary, arith
-}
+use Rattle.std.proofs.Common.{◌≡◌, ℕ, ◌+◌, ◌-◌, ◌∙◌, List, length, take, drop, drop-drop, length-drop, ap}
+use Rattle.std.proofs.Common.{IsCharBoundary, arith}
 use Rattle.std.proofs.lemmas.{Str.{IsCharBoundary-from_rest}, Grind.{common_steps}}
 use Rattle.rustc_lexer.specs.{Token, Document.{tokens_start}, laws.State.{StandsAt}, State.{State}, Tokens.{TakesToken}}
 

@@ -1,8 +1,6 @@
 -- Lexing from the left: the tokens so far are the first ones of the text.
-use Rattle.std.proofs.Common.{
-    ◌≡◌, ℕ, zero, suc, ◌+◌, ◌<◌, ◌≤◌, List, [], ◌∷◌, ◌++◌, length, take, drop, refl, sym, ap, ◌∙◌, arith, length-drop,
-    length-append, IsUtf8, IsCharBoundary, take_all
-}
+use Rattle.std.proofs.Common.{◌≡◌, ℕ, zero, suc, ◌+◌, ◌<◌, ◌≤◌, List, [], ◌∷◌, ◌++◌, length, take, drop, refl, sym, ap}
+use Rattle.std.proofs.Common.{◌∙◌, arith, length-drop, length-append, IsUtf8, IsCharBoundary, take_all}
 use Rattle.std.proofs.lemmas.{List.{drop_all}, Str.{IsCharBoundary-from_drop}, Grind.{common_steps}}
 use Rattle.rustc_lexer.specs.{Token, Classes.{IsText}, Locality.{Grammar, IsGrammar}, Tokens.{bound, tokens_by}}
 use Rattle.rustc_lexer.specs.laws.Cuts.{IsCutAt, at_bound, tokens-cons, tokens-nil}
@@ -49,8 +47,8 @@ lexed_more {first} law text items offset is at more =
     let spot : IsOffset text offset = lexed_offset law text items offset is at in
     let some : 0 < length (drop offset text) = omega (arith, length-drop offset text) in
     let here : drop n (tokens_by first text) ≡ x ∷ tokens_by first (drop x.len (drop offset text)) =
-        cut.rest ∙ (ap (λ p. tokens_by first (drop p text)) (sym at.offset_is)
-        ∙ tokens-cons law (drop offset text) spot.past some) in
+    cut.rest ∙ (ap (λ p. tokens_by first (drop p text)) (sym at.offset_is)
+    ∙ tokens-cons law (drop offset text) spot.past some) in
     let next : IsNext (tokens_by first text) n x = next-from_drop _ n x _ here in
     let long : length (items ++ x ∷ []) ≡ suc n = omega (arith, length-append items (x ∷ [])) in
     record {

@@ -1,8 +1,6 @@
 -- Tokens that are decided by their bytes.
-use Rattle.std.proofs.Common.{
-    ◌≡◌, ℕ, ◌+◌, ◌-◌, ◌<◌, ◌≤◌, ◌==◌, not, Bool, true, false, if◌then◌else◌, List, ◌∷◌, length, drop, codes, refl, sym,
-    ap, ◌∙◌, arith, subst, length-drop
-}
+use Rattle.std.proofs.Common.{◌≡◌, ℕ, ◌+◌, ◌-◌, ◌<◌, ◌≤◌, ◌==◌, not, Bool, true, false, if◌then◌else◌, List, ◌∷◌}
+use Rattle.std.proofs.Common.{length, drop, codes, refl, sym, ap, ◌∙◌, arith, subst, length-drop}
 use Rattle.std.specs.{List.{prefix_len}, Str.{chars, IsUtf8}}
 use Rattle.std.proofs.lemmas.Bool.{or_parts, or_cases, not-true, not-false, eqb-true, ltb-true, lt-leb}
 use Rattle.std.proofs.lemmas.{Str.{chars-nil}, List.Sums.{prefix_len-le-length}, Grind.{common_steps}}
@@ -61,7 +59,7 @@ word-plain b s h = grind (arith, common_steps, by_letter, is_plain s h)
 
 pub turned-emoji : (left : List ℕ) → IsUtf8 left → next_is turns_word left ≡ false
     → (next_is is_emoji (chars left) ≡ false)
-        × ((next_is ends_prefix (chars left) ≡ false) × (next_is is_wide left ≡ false))
+    × ((next_is ends_prefix (chars left) ≡ false) × (next_is is_wide left ≡ false))
 turned-emoji w0 is e = grind (arith, common_steps, chars-nil, or_parts, ltb-true, not-false, chars-ascii, emoji-ascii)
 
 -- ---- the tokens
@@ -83,7 +81,7 @@ pub first : (text : List ℕ) (b : ℕ) (rest : List ℕ) (kind : TokenKind) (n 
 first text b rest kind n is e small inside g =
     let whole : IsUtf8 (b ∷ rest) = subst (λ xs. IsUtf8 xs) e is in
     subst (λ xs. IsFirstToken xs record { kind = kind; len = 1 + n }) (sym e)
-        (taken b rest kind n whole small inside (g (IsUtf8-ascii b rest whole small)))
+    (taken b rest kind n whole small inside (g (IsUtf8-ascii b rest whole small)))
 
 -- a word and what no word goes on with
 pub word_first : (text : List ℕ) (b : ℕ) (rest : List ℕ) (end : ℕ) → IsUtf8 text → text ≡ b ∷ rest → b < 128
@@ -96,19 +94,19 @@ word_first text b rest end is e small family counted ends =
     decided inner =
         let left : List ℕ = drop end rest in
         let whole : IsUtf8 left =
-            subst (λ k. IsUtf8 (drop k rest)) (sym counted)
-            (skips is_continue_byte is_id_continue continue_part rest inner).utf8 in
+        subst (λ k. IsUtf8 (drop k rest)) (sym counted)
+        (skips is_continue_byte is_id_continue continue_part rest inner).utf8 in
         let next = turned-emoji left whole (not-true _ ends) in
         let offset : left ≡ past (run_len is_id_continue (chars rest)) rest =
-            stops_here is_continue_byte is_id_continue continue_part rest rest end inner refl counted left refl
-            next.1.1 in
+        stops_here is_continue_byte is_id_continue continue_part rest rest end inner refl counted left refl
+        next.1.1 in
         let no_end : next_is ends_prefix (drop (run_len is_id_continue (chars rest)) (chars rest)) ≡ false =
         sym (ap (next_is ends_prefix) (ap chars offset ∙ chars-past (run_len is_id_continue (chars rest)) rest inner))
-            ∙ next.1.0 in
+        ∙ next.1.0 in
         by_family Word b rest _ family (ap (λ (t : Bool). let k : TokenKind = if t then UnknownPrefix else Ident in
-            (k, left)) (sym next.1.0)
-            ∙ (ident_or_unknown_prefix-valid rest left inner offset next.0
-            ∙ sym (scanned-same (word b) ident_or_unknown_prefix rest (word-plain b (chars rest) no_end))))
+        (k, left)) (sym next.1.0)
+        ∙ (ident_or_unknown_prefix-valid rest left inner offset next.0
+        ∙ sym (scanned-same (word b) ident_or_unknown_prefix rest (word-plain b (chars rest) no_end))))
 
 pub space_first : (text : List ℕ) (b : ℕ) (rest : List ℕ) (end : ℕ) → IsUtf8 text → text ≡ b ∷ rest → b < 128
     → Space ≡ family_of b → end ≡ prefix_len is_space_byte rest → not (next_is is_space_lead (drop end rest)) ≡ true
@@ -146,4 +144,4 @@ pub ident_or_unknown_prefix_ends : (tail rest bytes : List ℕ) → IsUtf8 tail 
 ident_or_unknown_prefix_ends tail rest bytes is whole offset read ends =
     let next = turned-emoji rest whole (sym (ap (next_is turns_word) read) ∙ not-true _ ends) in
     ap (λ (t : Bool). let k : TokenKind = if t then UnknownPrefix else Ident in (k, rest)) (sym next.1.0)
-        ∙ ident_or_unknown_prefix-valid tail rest is offset next.0
+    ∙ ident_or_unknown_prefix-valid tail rest is offset next.0

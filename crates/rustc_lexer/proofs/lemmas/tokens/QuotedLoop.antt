@@ -1,8 +1,6 @@
 -- The loops over a quoted text.
-use Rattle.std.proofs.Common.{
-    ◌≡◌, ◌≢◌, ℕ, suc, ◌+◌, not, Bool, true, false, List, [], ◌∷◌, length, drop, refl, sym, ap, ◌∙◌, arith, ◌<◌, Option,
-    MatchOption, Bor
-}
+use Rattle.std.proofs.Common.{◌≡◌, ◌≢◌, ℕ, suc, ◌+◌, not, Bool, true, false, List, [], ◌∷◌, length, drop, refl, sym, ap}
+use Rattle.std.proofs.Common.{◌∙◌, arith, ◌<◌, Option, MatchOption, Bor}
 use Rattle.std.specs.Str.{chars, IsUtf8}
 use Rattle.memchr.specs.Find.{is_byte2}
 use Rattle.std.proofs.lemmas.{Bool.{eqb-true, ne_eqb, not-false, or_cases, or_parts}, Grind.{common_steps}}
@@ -25,9 +23,10 @@ past-suc n text is = let one : suc n ≡ 1 + n = omega arith in
 abbrev plain : ℕ → Bool
 plain c = not (is_byte2 34 92 c)
 
-quoted-plain : (s : List ℕ) → double_quoted_string s ≡
-    ((double_quoted_string (drop (run_len plain s) s)).0,
-        run_len plain s + (double_quoted_string (drop (run_len plain s) s)).1)
+quoted-plain : (s : List ℕ) → double_quoted_string s ≡ (
+  (double_quoted_string (drop (run_len plain s) s)).0,
+  run_len plain s + (double_quoted_string (drop (run_len plain s) s)).1,
+)
 quoted-plain [] = refl
 quoted-plain (c ∷ s) = grind (arith, common_steps, or_parts, quoted-plain s)
 
@@ -46,7 +45,7 @@ module _ (text tail : List ℕ) (c : ℕ) (is : IsUtf8 text) (reads : chars text
 
   pub lone-found : c ≢ 92 → (o : Option (Bor (List ℕ)))
       → MatchOption o (begins (39 ∷ []) (chars tail) ≡ false) (λ t. (begins (39 ∷ []) (chars tail) ≡ true)
-          × (t.now ≡ past 1 tail) × (length t.now < length tail))
+      × (t.now ≡ past 1 tail) × (length t.now < length tail))
       → MatchOption o (is_lone (chars text) ≡ false) (λ t. (is_lone (chars text) ≡ true) × (t.now ≡ past 2 text))
   lone-found w0 o w2 = grind (arith, common_steps, lone-is, past-two)
 

@@ -1,17 +1,15 @@
 -- The loop over the text of a raw string.
-use Rattle.std.proofs.Common.{
-    ◌≡◌, ℕ, suc, ◌+◌, ◌-◌, ◌≤◌, ◌<◌, ◌==◌, ◌&&◌, max, nat_le, Bool, true, false, if◌then◌else◌, List, [], ◌∷◌, length,
-    drop, refl, sym, ap, ◌∙◌, subst, arith, Option, Some, None, Result, Err, MatchOption
-}
+use Rattle.std.proofs.Common.{◌≡◌, ℕ, suc, ◌+◌, ◌-◌, ◌≤◌, ◌<◌, ◌==◌, ◌&&◌, max, nat_le, Bool, true, false}
+use Rattle.std.proofs.Common.{if◌then◌else◌, List, [], ◌∷◌, length, drop, refl, sym, ap, ◌∙◌, subst, arith, Option}
+use Rattle.std.proofs.Common.{Some, None, Result, Err, MatchOption}
 use Rattle.std.specs.Str.{chars, encode_utf8_all, IsUtf8, IsCharBoundary}
 use Rattle.std.proofs.lemmas.Bool.{eqb-true, eq-eqb, ne_eqb, le-leb, lt-leb, and_parts, not-true}
 use Rattle.std.proofs.{lemmas.Str.{IsCharBoundary-from_drop}, Math.Seq.{drop-length}, lemmas.Grind.{common_steps}}
 use Rattle.rustc_lexer.specs.{RawStrError, NoTerminator, means.Least.{one_more, more}}
 use Rattle.rustc_lexer.specs.laws.Least.{offset-here, offset-on, more-more, more-zero}
-use Rattle.rustc_lexer.specs.means.Raw.{
-    least_offset, is_hash, is_quote, is_no_quote, hash_run, closes, close, quote_hashes, most_hashes, quote_with,
-    quote_if, quote_end, hash_count, raw_closed, raw_text
-}
+use Rattle.rustc_lexer.specs.means.Raw.{least_offset, is_hash, is_quote, is_no_quote, hash_run, closes, close}
+use Rattle.rustc_lexer.specs.means.Raw.{quote_hashes, most_hashes, quote_with, quote_if, quote_end, hash_count}
+use Rattle.rustc_lexer.specs.means.Raw.{raw_closed, raw_text}
 use Rattle.rustc_lexer.specs.laws.LanguageRuns.{run-stops}
 use Rattle.rustc_lexer.specs.means.Scan.{begins, next_is, bytes_of, past, run_len, scanned}
 use Rattle.rustc_lexer.specs.laws.Scan.{bytes-run, length-run}
@@ -46,23 +44,26 @@ no_quote-nil s w1 w2 = grind (arith, common_steps)
 pub past_quote-is : {B : Type 0} (now : B → List ℕ) (rest mid : List ℕ) (o : Option B) → IsUtf8 rest
     → mid ≡ past (run_len is_no_quote (chars rest)) rest → length mid ≤ length rest
     → MatchOption o (begins (34 ∷ []) (chars mid) ≡ false) (λ tail. (begins (34 ∷ []) (chars mid) ≡ true)
-        × (now tail ≡ past 1 mid) × (length (now tail) < length mid))
+    × (now tail ≡ past 1 mid) × (length (now tail) < length mid))
     → MatchOption o (drop (run_len is_no_quote (chars rest)) (chars rest) ≡ [])
     (λ tail. (drop (run_len is_no_quote (chars rest)) (chars rest) ≡ 34 ∷ chars (now tail))
-        × (now tail ≡ past (suc (run_len is_no_quote (chars rest))) rest) × (length (now tail) < length rest))
+    × (now tail ≡ past (suc (run_len is_no_quote (chars rest))) rest) × (length (now tail) < length rest))
 past_quote-is now rest mid None is e le h =
     let reads : chars mid ≡ drop (run_len is_no_quote (chars rest)) (chars rest) =
-        ap chars e ∙ chars-past (run_len is_no_quote (chars rest)) rest is in
+    ap chars e ∙ chars-past (run_len is_no_quote (chars rest)) rest is in
     no_quote-nil (drop (run_len is_no_quote (chars rest)) (chars rest)) (sym (ap (begins (34 ∷ [])) reads) ∙ h)
-        (run-stops is_no_quote (chars rest))
+    (run-stops is_no_quote (chars rest))
 past_quote-is now rest mid (Some tail) is e le h =
     let n : ℕ = run_len is_no_quote (chars rest) in
     let reads : chars mid ≡ drop n (chars rest) = ap chars e ∙ chars-past n rest is in
     let here : now tail ≡ past (n + 1) rest = h.1 ∙ (ap (past 1) e ∙ past-past 1 n rest is) in
-    let one : n + 1 ≡ suc n = omega arith in
-    (quote_front (drop n (chars rest)) (chars (now tail)) (sym (ap (begins (34 ∷ [])) reads) ∙ h.0)
-        (ap chars h.1 ∙ (chars-past 1 mid (subst IsUtf8 (sym e) (IsUtf8-past n rest is)) ∙ ap (drop 1) reads)), here
-        ∙ ap (λ k. past k rest) one, omega arith)
+    let one : n + 1 ≡ suc n = omega arith in (
+      quote_front (drop n (chars rest)) (chars (now tail)) (sym (ap (begins (34 ∷ [])) reads) ∙ h.0)
+          (ap chars h.1 ∙ (chars-past 1 mid (subst IsUtf8 (sym e) (IsUtf8-past n rest is)) ∙ ap (drop 1) reads)),
+      here
+          ∙ ap (λ k. past k rest) one,
+      omega arith,
+    )
 
 -- past a run without quotes, a quote, and its hashes
 module _ (v w : List ℕ) (at_quote : drop (run_len is_no_quote v) v ≡ 34 ∷ w) where
@@ -78,8 +79,14 @@ module _ (v w : List ℕ) (at_quote : drop (run_len is_no_quote v) v ≡ 34 ∷ 
     pub offset-past : test (34 ∷ w) ≡ false → least_offset test v ≡ more (suc (run_len is_no_quote v) + hash_run w)
         (least_offset test (drop (hash_run w) w))
     offset-past e =
-        grind (arith, common_steps, to-quote, offset-on test 34 w e, skip-offset is_hash hash-no_quote test fails w,
-            more-quote (run_len is_no_quote v) (hash_run w) (least_offset test (drop (hash_run w) w)))
+        grind (
+          arith,
+          common_steps,
+          to-quote,
+          offset-on test 34 w e,
+          skip-offset is_hash hash-no_quote test fails w,
+          more-quote (run_len is_no_quote v) (hash_run w) (least_offset test (drop (hash_run w) w)),
+        )
 
   pub most-past : most_hashes v ≡ max (hash_run w) (most_hashes (drop (hash_run w) w))
   most-past = skip-most is_no_quote (λ c. not-true (is_quote c)) v
@@ -124,7 +131,7 @@ module _ (rest : List ℕ) (is : IsUtf8 rest) (n : ℕ) (few : n ≤ hash_run (c
 module _ (n before : ℕ) (text left tail next : List ℕ) (found : ℕ) (end : Option ℕ) (is : IsUtf8 text)
     (at : Searching n before text left found end)
     (quote : drop (run_len is_no_quote (chars left)) (chars left) ≡ 34 ∷ chars tail)
-        (tail_is : tail ≡ past (suc (run_len is_no_quote (chars left))) left)
+    (tail_is : tail ≡ past (suc (run_len is_no_quote (chars left))) left)
     (next_is : next ≡ past (run_len is_hash (chars tail)) tail) where
   tail_at : tail ≡ past (at.taken + suc (run_len is_no_quote (chars left))) text
   tail_at = tail_is
@@ -146,12 +153,18 @@ module _ (n before : ℕ) (text left tail next : List ℕ) (found : ℕ) (end : 
   offset_on : (test : List ℕ → Bool) → ((c : ℕ) (s : List ℕ) → is_quote c ≡ false → test (c ∷ s) ≡ false)
       → test (34 ∷ chars tail) ≡ false → least_offset test (chars text) ≡ more at.taken (least_offset test (chars left))
       → least_offset test (chars text) ≡
-          more (at.taken + (suc (run_len is_no_quote (chars left)) + hash_run (chars tail)))
-          (least_offset test (chars next))
+      more (at.taken + (suc (run_len is_no_quote (chars left)) + hash_run (chars tail)))
+      (least_offset test (chars next))
   offset_on test fails e f =
-      grind (arith, common_steps, f, offset-past (chars left) (chars tail) quote test fails e,
-          more-more at.taken (suc (run_len is_no_quote (chars left)) + hash_run (chars tail))
-          (least_offset test (drop (hash_run (chars tail)) (chars tail))), next_reads)
+      grind (
+        arith,
+        common_steps,
+        f,
+        offset-past (chars left) (chars tail) quote test fails e,
+        more-more at.taken (suc (run_len is_no_quote (chars left)) + hash_run (chars tail))
+            (least_offset test (drop (hash_run (chars tail)) (chars tail))),
+        next_reads,
+      )
 
   most_on : most_hashes (chars text) ≡ max found (max (hash_run (chars tail)) (most_hashes (chars next)))
   most_on = at.most
@@ -178,22 +191,22 @@ module _ (n before : ℕ) (text left tail next : List ℕ) (found : ℕ) (end : 
         let some : (h == 0) ≡ false = ne_eqb h 0 (λ f. omega arith) in
         let first : quote_with h (chars text) ≡ Some (at.taken + k) =
         at.more h (omega arith)
-            ∙ ap (more at.taken)
-            (offset-at (chars left) (chars tail) quote (λ s. quote_hashes s == h)
-            (λ c s f. counts-fails h c s (omega arith) f) (eq-eqb h h refl)) in
+        ∙ ap (more at.taken)
+        (offset-at (chars left) (chars tail) quote (λ s. quote_hashes s == h)
+        (λ c s f. counts-fails h c s (omega arith) f) (eq-eqb h h refl)) in
         let same : suc (at.taken + k) ≡ at.taken + suc k = omega arith in
         let bytes : bytes_of (at.taken + suc k) (chars text) + length tail ≡ length text =
-            ap (λ (xs : List ℕ). bytes_of (at.taken + suc k) (chars text) + length xs) tail_at
-            ∙ length-past (at.taken + suc k) text is in
+        ap (λ (xs : List ℕ). bytes_of (at.taken + suc k) (chars text) + length xs) tail_at
+        ∙ length-past (at.taken + suc k) text is in
         let ends : Some (before + (length text - length tail)) ≡
-            quote_end before (chars text) (quote_if h (chars text)) =
+        quote_end before (chars text) (quote_if h (chars text)) =
         ap (λ (m : ℕ). Some (before + m))
-            (let m : length text - length tail ≡ bytes_of (at.taken + suc k) (chars text) = omega arith in m)
+        (let m : length text - length tail ≡ bytes_of (at.taken + suc k) (chars text) = omega arith in m)
         ∙ (ap (λ (m : ℕ). Some (before + bytes_of m (chars text))) (sym same)
         ∙ ap (quote_end before (chars text))
-            (sym first ∙ ap (λ (b : Bool). if b then None else quote_with h (chars text)) (sym some))) in
+        (sym first ∙ ap (λ (b : Bool). if b then None else quote_with h (chars text)) (sym some))) in
         subst (λ (m : ℕ). Searching n before text next m (Some (before + (length text - length tail)))) (sym count)
-            (on h (Some (before + (length text - length tail))) (omega arith) (omega arith) (omega arith) ends)
+        (on h (Some (before + (length text - length tail))) (omega arith) (omega arith) (omega arith) ends)
 
   -- the quote closes
   module _ (enough : n ≤ length tail - length next) where
@@ -210,7 +223,7 @@ module _ (n before : ℕ) (text left tail next : List ℕ) (found : ℕ) (end : 
         let closes_here : close n (chars text) ≡ Some (at.taken + k) =
         at.closes_at ∙ ap (more at.taken)
         (offset-at (chars left) (chars tail) quote (closes n) (closes-fails n)
-            (le-leb n (hash_run (chars tail)) enough_hashes)) in
+        (le-leb n (hash_run (chars tail)) enough_hashes)) in
         let same : (at.taken + suc k) + n ≡ suc (at.taken + k) + n = omega arith in
         let left_is : cut ≡ past (suc (at.taken + k) + n) text =
         f ∙ (hash_cut tail tail_utf8 n enough_hashes
@@ -218,8 +231,8 @@ module _ (n before : ℕ) (text left tail next : List ℕ) (found : ℕ) (end : 
         ap (λ (r : Result ℕ RawStrError). (r, cut)) e
         ∙ (ap (λ (xs : List ℕ). (hash_count n, xs)) left_is
         ∙ ap (λ (o : Option ℕ).
-            ((raw_closed n before (chars text) o).0, past (raw_closed n before (chars text) o).1 text))
-            (sym closes_here))
+        ((raw_closed n before (chars text) o).0, past (raw_closed n before (chars text) o).1 text))
+        (sym closes_here))
 
 past-all : (text : List ℕ) → past (length (chars text)) text ≡ []
 unfolding past
@@ -230,5 +243,13 @@ pub never_closed : (n before : ℕ) (text left : List ℕ) (found : ℕ) (end : 
     → Searching n before text left found end → drop (run_len is_no_quote (chars left)) (chars left) ≡ []
     → (Err (NoTerminator n found end), []) ≡ scanned (raw_text n before) text
 never_closed n before text left found end at none =
-    grind (arith, common_steps, at.closes_at, skip-offset is_no_quote (λ c. not-true (is_quote c)) (closes n)
-        (closes-fails n) (chars left), none, skip-most is_no_quote (λ c. not-true (is_quote c)) (chars left), past-all)
+    grind (
+      arith,
+      common_steps,
+      at.closes_at,
+      skip-offset is_no_quote (λ c. not-true (is_quote c)) (closes n)
+          (closes-fails n) (chars left),
+      none,
+      skip-most is_no_quote (λ c. not-true (is_quote c)) (chars left),
+      past-all,
+    )

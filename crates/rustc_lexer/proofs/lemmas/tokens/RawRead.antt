@@ -1,8 +1,6 @@
 -- What a raw string is read as, from what its parts are.
-use Rattle.std.proofs.Common.{
-    ◌≡◌, ℕ, suc, ◌+◌, ◌-◌, ◌≤◌, ◌==◌, ◌↔◌, IsTrue, slice_index, true, List, [], ◌∷◌, length, take, drop, sym, ap, ◌∙◌,
-    arith, length-take, length-drop, Result
-}
+use Rattle.std.proofs.Common.{◌≡◌, ℕ, suc, ◌+◌, ◌-◌, ◌≤◌, ◌==◌, ◌↔◌, IsTrue, slice_index, true, List, [], ◌∷◌, length}
+use Rattle.std.proofs.Common.{take, drop, sym, ap, ◌∙◌, arith, length-take, length-drop, Result}
 use Rattle.std.specs.Str.{chars, encode_utf8_all, IsUtf8}
 use Rattle.std.proofs.{Math.{Seq.{drop-nil}, Bool.{and-true}}, lemmas.Str.{encodes-chars, length-le-encodes}}
 use Rattle.std.proofs.lemmas.Grind.{common_steps}
@@ -20,9 +18,9 @@ module _ (prefix : ℕ) (text from body : List ℕ) (is : IsUtf8 text) (from_is 
   opening =
       let utf8 : IsUtf8 from = IsUtf8-cut (hash_run (chars text)) text from is from_is in
       let reads : chars from ≡ 34 ∷ chars body =
-          quote_front (chars from) (chars body) opens (ap chars body_is ∙ chars-past 1 from utf8) in
+      quote_front (chars from) (chars body) opens (ap chars body_is ∙ chars-past 1 from utf8) in
       let starter = scanned-after (hash_run (chars text)) (raw_starter prefix (hash_run (chars text))) text from is
-          from_is in
+      from_is in
       grind (arith, common_steps, past-past, utf8, starter, reads)
 
   pub past_opening : (read : Result ℕ RawStrError) (left : List ℕ)
@@ -39,8 +37,15 @@ module _ (prefix : ℕ) (text from body : List ℕ) (is : IsUtf8 text) (from_is 
 module _ (text rest : List ℕ) (p : ℕ) (is : IsUtf8 text) (rest_is : rest ≡ past p text) where
   pub prefix_fits : StartsRaw text p → p + length rest ≤ length text
   prefix_fits starts =
-      grind (arith, common_steps, length-le-encodes (take p (chars text)), length-take p (chars text),
-      length-past p text is, rest_is, length-drop)
+      grind (
+        arith,
+        common_steps,
+        length-le-encodes (take p (chars text)),
+        length-take p (chars text),
+        length-past p text is,
+        rest_is,
+        length-drop,
+      )
 
   -- the test of the letter
   pub starts_is : (q : ℕ) → q ≡ suc p → IsTrue (slice_index (chars rest) 0 == 114) ↔ StartsRaw text q

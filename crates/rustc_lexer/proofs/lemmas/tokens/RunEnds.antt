@@ -1,14 +1,11 @@
 -- The ends of runs, what is known past them, and the tokens that are classified by them.
-use Rattle.std.proofs.Common.{
-    ◌≡◌, ℕ, zero, suc, ◌+◌, ◌-◌, ◌/◌, nat_lt, ◌^◌, bit_and, ◌<◌, ◌≤◌, Bool, true, false, true≢false, not, ◌&&◌, ◌||◌,
-    List, ◌∷◌, length, drop, get_or, refl, sym, ap, ap₂, subst, ◌∙◌, arith, length-drop, inl, inr, Option, Some, None,
-    is_some
-}
+use Rattle.std.proofs.Common.{◌≡◌, ℕ, zero, suc, ◌+◌, ◌-◌, ◌/◌, nat_lt, ◌^◌, bit_and, ◌<◌, ◌≤◌, Bool, true, false}
+use Rattle.std.proofs.Common.{true≢false, not, ◌&&◌, ◌||◌, List, ◌∷◌, length, drop, get_or, refl, sym, ap, ap₂, subst}
+use Rattle.std.proofs.Common.{◌∙◌, arith, length-drop, inl, inr, Option, Some, None, is_some}
 use Rattle.std.specs.{List.{prefix_len}, Str.{IsCharBoundary, IsUtf8}}
 use Rattle.std.proofs.{lemmas.Str.{IsCharBoundary-from_rest, IsUtf8-drop}, Math.Seq.{drop-cons}}
-use Rattle.std.proofs.lemmas.Bool.{
-    agree_below_at, and_parts, or_parts, cases_lt, not-true, not-false, le-ltb, lt-ltb, ltb-true
-}
+use Rattle.std.proofs.lemmas.Bool.{agree_below_at, and_parts, or_parts, cases_lt, not-true, not-false, le-ltb, lt-ltb}
+use Rattle.std.proofs.lemmas.Bool.{ltb-true}
 use Rattle.std.proofs.lemmas.{Nat.{and_le_r, shr_le}, List.{get_or-drop}, Option.{none-some, same_Some}}
 use Rattle.std.proofs.lemmas.List.{FromFn.{get_or-map-range_with_len}, Sums.{prefix_len_is}}
 use Rattle.std.proofs.{Math.Bool.{and-true, not-not}, lemmas.Grind.{common_steps}}
@@ -16,9 +13,8 @@ use Rattle.unicode_ident.proofs.Computing.{unicode_ident}
 use Rattle.rustc_lexer.specs.{Edition, TokenKind, Ident, Whitespace, declared.lexemes.family.TheConstants.{CLASSIFIED}}
 use Rattle.rustc_lexer.specs.declared.lexemes.family.Family.{Family, TheVariants.{Space, Word, Symbol}}
 use Rattle.rustc_lexer.specs.means.Edition.{changed, first_token_in}
-use Rattle.rustc_lexer.specs.means.Ends.{
-    bit, goes_on, is_end, AreEndsPast, IsEnds, IsLowest, classified, classified_in, StaysWithin
-}
+use Rattle.rustc_lexer.specs.means.Ends.{bit, goes_on, is_end, AreEndsPast, IsEnds, IsLowest, classified, classified_in}
+use Rattle.rustc_lexer.specs.means.Ends.{StaysWithin}
 use Rattle.rustc_lexer.specs.{means.ByteRuns.{is_continue_byte, is_space_byte}, Tables.{is_emoji}}
 use Rattle.rustc_lexer.specs.means.{Lexeme.{family_of, symbol_kind}, Quick.{is_space_lead, turns_word, IsFirstToken}}
 use Rattle.rustc_lexer.specs.means.Scan.{next_is}
@@ -33,10 +29,10 @@ no_ends text j set = absurd (true≢false (sym set ∙ bit-zero j))
 module _ (text : List ℕ) (n a b edges : ℕ) (few : n ≤ 64) (inside : n ≤ length text) (small : a < 2 ^ 64)
     (small_too : b < 2 ^ 64)
     (of_words : (k : ℕ) → k < n → bit a k ≡ not (is_continue_byte (get_or text k 0))) (of_spaces : (k : ℕ) → k < n
-        → bit b k ≡ not (is_space_byte (get_or text k 0)))
+    → bit b k ≡ not (is_space_byte (get_or text k 0)))
     (first : bit edges 0 ≡ false) (later : (k : ℕ) → suc k < 64
-        → bit edges (suc k) ≡
-        not ((bit (flip a) k && bit (flip a) (suc k)) || (bit (flip b) k && bit (flip b) (suc k)))) where
+    → bit edges (suc k) ≡
+    not ((bit (flip a) k && bit (flip a) (suc k)) || (bit (flip b) k && bit (flip b) (suc k)))) where
   is_at : (k : ℕ) → k < n → bit edges k ≡ is_end text k
   is_at k w1 = grind (arith, common_steps, bit-flip, not-not)
 
@@ -49,11 +45,13 @@ module _ (text : List ℕ) (n a b edges : ℕ) (few : n ≤ 64) (inside : n ≤ 
   pub are_ends : IsEnds text kept
   are_ends j set =
       let near : j < 64 =
-          within kept j (omega (arith, and_le_r edges ((2 ^ 64 - 1) / 2 ^ (64 - n)), shr_le (2 ^ 64 - 1) (64 - n)))
-          set in
-      let less : j < n = ltb-true j n (and_parts (bit edges j) (nat_lt j n) (sym (bit-kept j near) ∙ set)).1 in
-      (omega arith, λ k le. bit-kept k (omega arith)
-          ∙ (rw (lt-ltb k n (omega arith)) (and-true (bit edges k)) ∙ is_at k (omega arith)))
+      within kept j (omega (arith, and_le_r edges ((2 ^ 64 - 1) / 2 ^ (64 - n)), shr_le (2 ^ 64 - 1) (64 - n)))
+      set in
+      let less : j < n = ltb-true j n (and_parts (bit edges j) (nat_lt j n) (sym (bit-kept j near) ∙ set)).1 in (
+        omega arith,
+        λ k le. bit-kept k (omega arith)
+            ∙ (rw (lt-ltb k n (omega arith)) (and-true (bit edges k)) ∙ is_at k (omega arith)),
+      )
 
 -- ---- what is known past an end
 
@@ -85,7 +83,7 @@ module _ (text : List ℕ) (at block ends low n : ℕ) (behind : block ≤ at)
       (get_or (drop (suc at) text) k 0))
   edge-is k le = (known low lowest.set).2 (suc (at - block + k)) (omega arith) (omega arith)
       ∙ ap₂ (λ a b. not (goes_on a b)) (byte-is (at - block + k) k (omega arith))
-          (byte-is (suc (at - block + k)) (suc k) (omega arith))
+      (byte-is (suc (at - block + k)) (suc k) (omega arith))
 
   runs_to : RunsTo (get_or text at 0) (drop (suc at) text) n
   runs_to = record {
@@ -108,8 +106,11 @@ module _ (p : ℕ → Bool) (goes : (a b : ℕ) → p a ≡ true → goes_on a b
       (λ l. sym (goes _ _ (in_run n (omega arith))) ∙ run.end))
 
 never_both : (b : ℕ) → (is_continue_byte b && is_space_byte b) ≡ false
-never_both b = elim (cases_lt b 128) [ inl small ↦ agree_below_at (λ x. is_continue_byte x && is_space_byte x)
-    (λ _. false) 128 b refl small | inr wide ↦ rw (le-ltb b 128 wide) refl ]
+never_both b = elim (cases_lt b 128) [
+  | inl small ↦ agree_below_at (λ x. is_continue_byte x && is_space_byte x)
+      (λ _. false) 128 b refl small
+  | inr wide ↦ rw (le-ltb b 128 wide) refl
+]
 
 first_of_two : (c s d t : Bool) → (c && s) ≡ false → c ≡ true → ((c && d) || (s && t)) ≡ d
 first_of_two w0 w1 w2 w3 w4 w5 = grind (arith, common_steps)
@@ -162,7 +163,7 @@ module _ (text : List ℕ) (is : IsUtf8 text) (b : ℕ) (rest : List ℕ) (e : t
   as_word family stays =
       word_first text b rest n is e small family (run_is is_continue_byte
       (λ x y. first_of_two (is_continue_byte x) (is_space_byte x) (is_continue_byte y) (is_space_byte y) (never_both x))
-          b rest n run
+      b rest n run
       (run_of_family b Word small family)) (stops turns_word stays)
 
   as_space : Space ≡ family_of b → is_space_lead (get_or rest n 0) ≡ false
@@ -170,7 +171,7 @@ module _ (text : List ℕ) (is : IsUtf8 text) (b : ℕ) (rest : List ℕ) (e : t
   as_space family stays =
       space_first text b rest n is e small family (run_is is_space_byte
       (λ x y. second_of_two (is_continue_byte x) (is_space_byte x) (is_continue_byte y) (is_space_byte y)
-          (never_both x)) b rest n run
+      (never_both x)) b rest n run
       (run_of_family b Space small family)) (stops is_space_lead stays)
 
   as_symbol : Symbol ≡ family_of b → IsFirstToken text record { kind = symbol_kind b; len = 1 + n }
@@ -258,7 +259,7 @@ module _ (text : List ℕ) (at block ends low : ℕ) (kind : TokenKind) (next : 
       subst (λ k. IsFirstToken (drop at text) record { kind = kind; len = k }) whole
       (as_classified (drop at text) (IsUtf8-drop text at next.utf8 next.bound) (get_or text at 0) (drop (suc at) text)
       (drop-cons text at 0 (omega (arith, classified_after, classified_inside))) n
-          (runs_to text at block ends low n next.behind next.known next.lowest e)
+      (runs_to text at block ends low n next.behind next.known next.lowest e)
       (classified_small _ (ap is_some next.tells)) kind next.tells (subst (StaysWithin kind) byte next.stays))
 
   -- no edition has another token there

@@ -1,9 +1,8 @@
 -- A byte and what follows it, looked for at the places of that byte.
 use Rattle.std.proofs.lemmas.Grind.{common_steps}
-use Rattle.std.proofs.Common.{
-    ◌≡◌, ℕ, zero, suc, ◌+◌, ◌-◌, ◌<◌, ◌≤◌, ◌==◌, Bool, true, false, List, [], ◌∷◌, ◌++◌, length, drop, get_or, refl,
-    sym, ap, ◌∙◌, arith, Option, Some, None, length-drop, drop-drop
-}
+use Rattle.std.proofs.Common.{◌≡◌, ℕ, zero, suc, ◌+◌, ◌-◌, ◌<◌, ◌≤◌, ◌==◌, Bool, true, false, List, [], ◌∷◌, ◌++◌}
+use Rattle.std.proofs.Common.{length, drop, get_or, refl, sym, ap, ◌∙◌, arith, Option, Some, None, length-drop}
+use Rattle.std.proofs.Common.{drop-drop}
 use Rattle.std.proofs.{Math.Seq.{drop-cons, drop-length}, lemmas.Bool.{eq-eqb, eqb-true, false_from_ne_true}}
 use Rattle.std.proofs.lemmas.{Bool.Decides.{Decides-eqb}, List.{get_or-drop}, Slice.Eq.{starts_is}}
 use Rattle.std.specs.List.{starts_with}
@@ -21,8 +20,8 @@ pub starts-begins : (tail pattern : List ℕ) (answer : Bool) → answer ≡ sta
 starts-begins tail pattern answer is = by_either (begins pattern tail)
     (λ e. (starts_is Decides-eqb tail pattern answer is).1 _ (begins-whole pattern tail e) ∙ sym e)
     (λ e. false_from_ne_true answer
-        (λ t. either-way (begins pattern tail) (ap (begins pattern) ((starts_is Decides-eqb tail pattern answer is).0 t)
-        ∙ begins-front pattern _) e) ∙ sym e)
+    (λ t. either-way (begins pattern tail) (ap (begins pattern) ((starts_is Decides-eqb tail pattern answer is).0 t)
+    ∙ begins-front pattern _) e) ∙ sym e)
 
 more-one : (k : ℕ) (o : Option ℕ) → more k (one_more o) ≡ more (k + 1) o
 more-one k o = grind (arith, common_steps)
@@ -44,8 +43,8 @@ module _ (d : ℕ) (ds : List ℕ) where
   over (c ∷ s) (suc k) le none = by_either (c == d)
       (λ e. absurd (none 0 (omega arith) e))
       (λ e. offset-on (begins (d ∷ ds)) c s (rw e refl)
-          ∙ (ap one_more (over s k (omega arith) (λ j l. none (suc j) (omega arith)))
-          ∙ one_more-more k (first (d ∷ ds) (drop k s))))
+      ∙ (ap one_more (over s k (omega arith) (λ j l. none (suc j) (omega arith)))
+      ∙ one_more-more k (first (d ∷ ds) (drop k s))))
 
   -- past what is skipped, the first place of the byte
   module _ (rest cut : List ℕ) (start : ℕ)
@@ -53,12 +52,12 @@ module _ (d : ℕ) (ds : List ℕ) where
     pub start_none : IsFirstByte (is_byte d) cut None → first (d ∷ ds) rest ≡ None
     start_none none =
         skipped ∙ (ap (λ (s : List ℕ). more start (first (d ∷ ds) s)) (sym e)
-            ∙ ap (more start) (over cut (length cut) (omega arith) (λ j l. none j (omega arith) l)
-            ∙ ap (λ (s : List ℕ). more (length cut) (first (d ∷ ds) s)) (drop-length cut)))
+        ∙ ap (more start) (over cut (length cut) (omega arith) (λ j l. none j (omega arith) l)
+        ∙ ap (λ (s : List ℕ). more (length cut) (first (d ∷ ds) s)) (drop-length cut)))
 
     pub start_some : start ≤ length rest → (step : ℕ) → IsFirstByte (is_byte d) cut (Some step)
         → (start + step < length rest) × (get_or rest (start + step) 0 ≡ d)
-            × (first (d ∷ ds) rest ≡ more (start + step) (first (d ∷ ds) (drop (start + step) rest)))
+        × (first (d ∷ ds) rest ≡ more (start + step) (first (d ∷ ds) (drop (start + step) rest)))
     start_some inside step here =
         let h = here.0.high in (
           omega (arith, ap length e, length-drop start rest),
@@ -66,10 +65,10 @@ module _ (d : ℕ) (ds : List ℕ) where
               ∙ (ap (λ (s : List ℕ). get_or s step 0) (sym e) ∙ eqb-true (get_or cut step 0) d here.1),
           skipped
               ∙ (ap (λ (s : List ℕ). more start (first (d ∷ ds) s)) (sym e)
-                  ∙ (ap (more start) (over cut step (omega arith) (λ j l. here.0.before j (omega arith) l))
+              ∙ (ap (more start) (over cut step (omega arith) (λ j l. here.0.before j (omega arith) l))
               ∙ (more-more start step (first (d ∷ ds) (drop step cut))
-                  ∙ ap (λ (s : List ℕ). more (start + step) (first (d ∷ ds) s))
-                  (ap (drop step) e ∙ drop-drop step start rest)))),
+              ∙ ap (λ (s : List ℕ). more (start + step) (first (d ∷ ds) s))
+              (ap (drop step) e ∙ drop-drop step start rest)))),
         )
 
   module _ (rest cut : List ℕ) (from : ℕ) (at : IsPast (d ∷ ds) rest from) (e : cut ≡ drop from rest) where

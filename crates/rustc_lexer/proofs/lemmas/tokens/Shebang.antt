@@ -1,13 +1,11 @@
 -- Shebang lines: the front of a text, and its first line.
-use Rattle.std.proofs.Common.{
-    ◌≡◌, ◌≢◌, ℕ, zero, suc, ◌+◌, ◌-◌, ◌<◌, ◌≤◌, Bool, true, false, if◌then◌else◌, List, [], ◌∷◌, length, take, drop,
-    get_or, codes, length-append, length-take-le, take-append-drop, refl, sym, ap, ◌∙◌, arith, Option, Some, None
-}
+use Rattle.std.proofs.Common.{◌≡◌, ◌≢◌, ℕ, zero, suc, ◌+◌, ◌-◌, ◌<◌, ◌≤◌, Bool, true, false, if◌then◌else◌, List, []}
+use Rattle.std.proofs.Common.{◌∷◌, length, take, drop, get_or, codes, length-append, length-take-le, take-append-drop}
+use Rattle.std.proofs.Common.{refl, sym, ap, ◌∙◌, arith, Option, Some, None}
 use Rattle.std.proofs.Common.{inl, inr, subst, ◌==◌, ◌++◌}
 use Rattle.std.specs.{Char.{encode_utf8, len_utf8}, Str.{IsCharBoundary, IsUtf8, chars, encode_utf8_all}}
-use Rattle.std.proofs.{
-    Math.Seq.{drop-cons, drop-length, get_or-append_seam}, lemmas.Bool.{cases_Bool, eqb-true, ne_eqb}
-}
+use Rattle.std.proofs.Math.Seq.{drop-cons, drop-length, get_or-append_seam}
+use Rattle.std.proofs.lemmas.Bool.{cases_Bool, eqb-true, ne_eqb}
 use Rattle.std.proofs.lemmas.{List.{get_or-take}, Grind.{common_steps}}
 use Rattle.std.proofs.lemmas.Str.{IsCharBoundary-past_char, IsCharBoundary-start, encodes-chars}
 use Rattle.rustc_lexer.specs.Document.{mark_len}
@@ -65,8 +63,12 @@ module _ (text : List ℕ) where
     without_return free =
         line_is k (omega arith) (to_newline (inline text k first) (ap (begins (codes "\n")) there) (λ u e.
         let long : k ≡ length u + 1 =
-            omega (arith, ap (λ (xs : List ℕ). length xs) e, length-take-le k text (omega arith),
-            length-append u (13 ∷ [])) in
+        omega (
+          arith,
+          ap (λ (xs : List ℕ). length xs) e,
+          length-take-le k text (omega arith),
+          length-append u (13 ∷ []),
+        ) in
         grind (arith, common_steps, get_or-take k text (k - 1) 0 (omega arith), get_or-append_seam u 13 [] 0, free)))
 
 -- a document can be cut after its byte order mark
@@ -78,9 +80,9 @@ mark_boundary text utf8 = by_chars (chars text) refl
     by_chars (c ∷ cs) e = elim (cases_Bool (c == 0xFEFF)) [
       | inl mark ↦
           let all : text ≡ encode_utf8 c ++ encode_utf8_all cs =
-              sym (encodes-chars text utf8) ∙ ap encode_utf8_all e in
+          sym (encodes-chars text utf8) ∙ ap encode_utf8_all e in
           rw (e, mark) (subst (λ (d : ℕ). IsCharBoundary text (0 + len_utf8 d)) (eqb-true c 0xFEFF mark)
-              (IsCharBoundary-past_char text (encode_utf8_all cs) 0 c (omega arith) utf8 all))
+          (IsCharBoundary-past_char text (encode_utf8_all cs) 0 c (omega arith) utf8 all))
       | inr other ↦ rw (e, other) (IsCharBoundary-start text utf8)
     ]
 

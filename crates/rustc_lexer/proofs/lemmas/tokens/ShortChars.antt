@@ -1,8 +1,6 @@
 -- A character that a quote closes right behind one character of ASCII, or behind a backslash and one.
-use Rattle.std.proofs.Common.{
-    ◌≡◌, ℕ, ◌+◌, ◌-◌, ◌≤◌, ◌<◌, ◌==◌, Bool, true, false, List, [], ◌∷◌, length, drop, codes, refl, sym, ap, ◌∙◌, arith,
-    subst, slice_index
-}
+use Rattle.std.proofs.Common.{◌≡◌, ℕ, ◌+◌, ◌-◌, ◌≤◌, ◌<◌, ◌==◌, Bool, true, false, List, [], ◌∷◌, length, drop, codes}
+use Rattle.std.proofs.Common.{refl, sym, ap, ◌∙◌, arith, subst, slice_index}
 use Rattle.std.specs.{Int.{from_bool}, Str.{chars, encode_utf8_all, IsUtf8, IsCharBoundary}}
 use Rattle.std.proofs.lemmas.{Bool.{eqb-true, lt-leb}, Str.{encodes-chars, IsCharBoundary-from_drop}}
 use Rattle.std.proofs.{Math.Bool.{or-true}, lemmas.Grind.{common_steps}}
@@ -33,13 +31,13 @@ lone b left is small other =
     let inner : IsUtf8 (39 ∷ left) = IsUtf8-ascii b (39 ∷ left) is small in
     let last : IsUtf8 left = IsUtf8-ascii 39 left inner (omega arith) in
     let reads : chars (b ∷ 39 ∷ left) ≡ b ∷ 39 ∷ chars left = chars-ascii b (39 ∷ left) is small
-        ∙ ap (λ cs. b ∷ cs) (chars-ascii 39 left inner (omega arith)) in
+    ∙ ap (λ cs. b ∷ cs) (chars-ascii 39 left inner (omega arith)) in
     record {
       utf8 = last;
       character = rw reads refl;
       read = closed (b ∷ 39 ∷ left) left _ 2 reads
           (past-two (b ∷ 39 ∷ left) (39 ∷ left) left is (past-ascii b (39 ∷ left) is small)
-              (past-ascii 39 left inner (omega arith))) (rw other refl);
+          (past-ascii 39 left inner (omega arith))) (rw other refl);
     }
 
 -- a backslash, one character and a quote
@@ -81,15 +79,15 @@ module _ (text bytes : List ℕ) (offset : ℕ) (is : IsUtf8 text) (same : bytes
           subst (λ n. ShortChar (b ∷ c ∷ d ∷ ds) (drop (n + 1) (b ∷ c ∷ d ∷ ds))) (sym at)
           (subst (λ x. ShortChar (x ∷ c ∷ d ∷ ds) ds) (sym slash)
           (subst (λ x. ShortChar (92 ∷ c ∷ x ∷ ds) ds) (sym closes)
-              (escaped c ds (subst (λ x. IsUtf8 (92 ∷ c ∷ x ∷ ds)) closes
-              (subst (λ x. IsUtf8 (x ∷ c ∷ d ∷ ds)) slash u)) first))))
+          (escaped c ds (subst (λ x. IsUtf8 (92 ∷ c ∷ x ∷ ds)) closes
+          (subst (λ x. IsUtf8 (x ∷ c ∷ d ∷ ds)) slash u)) first))))
           (λ e.
           let at : offset ≡ 1 = p ∙ ap (λ (t : Bool). 1 + from_bool t) e in
           let first : b < 128 = subst (λ n. slice_index (b ∷ c ∷ d ∷ ds) (n - 1) < 128) at m in
           let closes : c ≡ 39 = subst (λ n. slice_index (b ∷ c ∷ d ∷ ds) n ≡ 39) at q in
           subst (λ n. ShortChar (b ∷ c ∷ d ∷ ds) (drop (n + 1) (b ∷ c ∷ d ∷ ds))) (sym at)
           (subst (λ x. ShortChar (b ∷ x ∷ d ∷ ds) (d ∷ ds)) (sym closes)
-              (lone b (d ∷ ds) (subst (λ x. IsUtf8 (b ∷ x ∷ d ∷ ds)) closes u) first e)))
+          (lone b (d ∷ ds) (subst (λ x. IsUtf8 (b ∷ x ∷ d ∷ ds)) closes u) first e)))
 
   pub short_cut : offset + 1 ≤ length text → IsCharBoundary text (offset + 1)
   short_cut le = IsCharBoundary-from_drop text (offset + 1) le short_char.utf8

@@ -1,8 +1,7 @@
 -- Which of the first bytes are outside a class, looked for some lanes at a time.
 use Rattle.std.proofs.lemmas.Grind.{common_steps}
-use Rattle.std.proofs.Common.{
-    ◌≡◌, ℕ, ◌+◌, ◌-◌, ◌*◌, ◌%◌, ◌^◌, ◌<◌, ◌≤◌, Bool, true, List, length, map, get_or, ◌∙◌, arith, bit_or
-}
+use Rattle.std.proofs.Common.{◌≡◌, ℕ, ◌+◌, ◌-◌, ◌*◌, ◌%◌, ◌^◌, ◌<◌, ◌≤◌, Bool, true, List, length, map, get_or, ◌∙◌}
+use Rattle.std.proofs.Common.{arith, bit_or}
 use Rattle.std.proofs.lemmas.Bool.{cases_lt, or_cases, or_right}
 use lib.Lanes.{chunk, mask_l}
 use Rattle.rustc_lexer.specs.means.{ByteRuns.{outside}, Ends.{bit}}
@@ -24,8 +23,15 @@ module _ (p : ℕ → Bool) (bytes : List ℕ) where
         (omega arith) (omega arith)
 
     sound : (k : ℕ) → k < 64 → bit shown k ≡ true → stops_at k ≡ true
-    sound k l set = grind (arith, common_steps, cases_lt, bit-shl_below, shown_in, bit-shl_on,
-        mask_past (outside p) bytes at w mask inside e)
+    sound k l set = grind (
+      arith,
+      common_steps,
+      cases_lt,
+      bit-shl_below,
+      shown_in,
+      bit-shl_on,
+      mask_past (outside p) bytes at w mask inside e,
+    )
 
   -- after looks at the bytes before `at`, and at those from `last` on
   pub record Looked (len at last stops : ℕ) : Type 0 where

@@ -1,8 +1,6 @@
 -- Taking the tokens of a whole text, one by one.
-use Rattle.std.proofs.Common.{
-    ◌≡◌, ℕ, ◌+◌, ◌<◌, ◌≤◌, subst, List, [], length, length-drop, drop, drop-drop, arith, refl, sym, ap, ◌∙◌, Some,
-    IsCharBoundary
-}
+use Rattle.std.proofs.Common.{◌≡◌, ℕ, ◌+◌, ◌<◌, ◌≤◌, subst, List, [], length, length-drop, drop, drop-drop, arith, refl}
+use Rattle.std.proofs.Common.{sym, ap, ◌∙◌, Some, IsCharBoundary}
 use Rattle.std.specs.{Prelude.{⊤}, Iterator.{at_most, MakesProgress}}
 use Rattle.std.proofs.lemmas.{Bool.{ne_eqb}, Str.{IsCharBoundary-from_take, IsUtf8-drop}, List.{drop_all}}
 use Rattle.std.proofs.lemmas.Grind.{common_steps}
@@ -46,10 +44,10 @@ module _ (mode : Mode) (text : List ℕ) (at : ℕ) (s : State) (view : state 0 
 
   pub takes_next : (past : ℕ) (next : Mode) (token : Token) → IsText text → IsCharBoundary text at → at < length text
       → token ≡ token_at mode (drop at text) → past ≡ at + token.len → next ≡ mode_after mode token.kind
-          → TakesToken s token (state 0 (drop past text) next)
+      → TakesToken s token (state 0 (drop past text) next)
   takes_next past next token is bound some e o m =
       let cut : drop past text ≡ drop token.len (drop at text) =
-          ap (λ n. drop n text) o ∙ sym (drop-drop token.len at text) in
+      ap (λ n. drop n text) o ∙ sym (drop-drop token.len at text) in
       subst (λ (x : State). TakesToken x token (state 0 (drop past text) next)) view
       (takes_first (state 0 (drop at text) mode) (state 0 (drop past text) next) token refl
       record { utf8 = IsUtf8-drop text at is.utf8 bound; fits = omega (arith, length-drop at text, is.fits) }
@@ -58,14 +56,14 @@ module _ (mode : Mode) (text : List ℕ) (at : ℕ) (s : State) (view : state 0 
 -- a token of a part, which leaves how the iterator reads as it is
 pub takes_part : (allowed : FrontmatterAllowed) (edition : Edition) (text : List ℕ) (at : ℕ) (s : State) → allowed ≡ No
     → state 0 (drop at text) (mode_in allowed edition) ≡ s → (past : ℕ) (token : Token) → IsText text
-        → IsCharBoundary text at → at < length text
+    → IsCharBoundary text at → at < length text
     → token ≡ first_token_in edition (drop at text) → past ≡ at + token.len
-        → TakesToken s token (state 0 (drop past text) (mode_in allowed edition))
+    → TakesToken s token (state 0 (drop past text) (mode_in allowed edition))
 takes_part allowed edition text at s never view past token is bound some e o =
     let part_of : mode_in allowed edition ≡ part edition = ap (λ (a : FrontmatterAllowed). mode_in a edition) never in
     takes_next (mode_in allowed edition) text at s view past (mode_in allowed edition) token is bound some
     (e ∙ sym (ap (λ (m : Mode). token_at m (drop at text)) part_of)) o
-        (subst (λ (m : Mode). m ≡ mode_after m token.kind) (sym part_of) refl)
+    (subst (λ (m : Mode). m ≡ mode_after m token.kind) (sym part_of) refl)
 
 -- an iterator that took a token is nearer its end
 pub goes : (s t : State) (token : Token) → TakesToken s token t

@@ -13,5 +13,9 @@ returns c = made _ _ _ _ _ c.utf8.text c.in-Some.ensures.0 c.in-Some.ensures.1 c
 
 pub returns-in_default : goal.returns-in_default
 returns-in_default c =
-    record { token = token-at_end _ c.in_default.ensures; inside = omega arith;
-    boundary = IsCharBoundary-start _ c.utf8.text; suffix = omega arith }
+    record {
+      token = token-at_end _ c.in_default.ensures;
+      inside = omega arith;
+      boundary = IsCharBoundary-start _ c.utf8.text;
+      suffix = omega arith;
+    }

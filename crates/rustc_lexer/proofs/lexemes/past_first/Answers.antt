@@ -7,5 +7,8 @@ use Rattle.rustc_lexer.proofs.lexemes.past_first.Goals as goal
 pub returns-in-Hash : goal.returns-in-Hash
 returns-in-Hash c =
     let read = ap (λ k. (k, c.args.tail.now)) c.symbol_kind.ensures ∙ sym (scanned-gives _ _ c.utf8.tail) in
-    elim c.in-Hash.is [ inl e ↦ absurd (c.requires.no_hash (sym c.family_of.ensures ∙ e)) | inr e ↦
-        by_family Symbol _ _ _ (sym e ∙ c.family_of.ensures) read ]
+    elim c.in-Hash.is [
+      | inl e ↦ absurd (c.requires.no_hash (sym c.family_of.ensures ∙ e))
+      | inr e ↦
+          by_family Symbol _ _ _ (sym e ∙ c.family_of.ensures) read
+    ]

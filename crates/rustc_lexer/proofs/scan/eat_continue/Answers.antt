@@ -11,8 +11,8 @@ range_from-left-requires c =
 pub returns-then-begins_wide-clause-past : goal.returns-then-begins_wide-clause-past
 returns-then-begins_wide-clause-past c =
     goes_on is_continue_byte is_id_continue continue_part _ _ _ c.utf8.rest c.as_bytes.ensures.value
-        c.short_run_end.ensures.value _ c.range_from-left.ensures.value _
-        (c.eat_while.ensures.past is_id_continue (λ d b e. e))
+    c.short_run_end.ensures.value _ c.range_from-left.ensures.value _
+    (c.eat_while.ensures.past is_id_continue (λ d b e. e))
 
 pub returns-else-begins_wide-clause-past : goal.returns-else-begins_wide-clause-past
 returns-else-begins_wide-clause-past c = grind (arith, common_steps, rules, stops_here, continue_part)

@@ -12,7 +12,7 @@ chars-preserved g c = grind (arith, common_steps, IsUtf8-cut, run_on)
 pub returns-then-not-test-clause-past : goal.returns-then-not-test-clause-past
 returns-then-not-test-clause-past g c = λ class tests. sym (run_ends class _ c.chars.invariant.0
     (ap (next_is class) c.in-Some.ensures.0 ∙ (sym (tests _ _ c.test.ensures) ∙ c.if-not-test.true)))
-        ∙ c.chars.invariant.2 class tests
+    ∙ c.chars.invariant.2 class tests
 
 pub returns-clause-past : goal.returns-clause-past
 returns-clause-past g c =

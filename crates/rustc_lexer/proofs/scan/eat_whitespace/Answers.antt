@@ -15,4 +15,4 @@ returns-then-ends_space-clause-past c = grind (arith, common_steps, rules, space
 pub returns-else-ends_space-clause-past : goal.returns-else-ends_space-clause-past
 returns-else-ends_space-clause-past c =
     goes_on is_space_byte is_whitespace space_part _ _ _ c.utf8.rest c.as_bytes.ensures.value c.run_end.ensures.value _
-        c.range_from-left.ensures.value _ (c.eat_while.ensures.past is_whitespace (λ d b e. e))
+    c.range_from-left.ensures.value _ (c.eat_while.ensures.past is_whitespace (λ d b e. e))

@@ -9,9 +9,9 @@ returns-then-not-may_make c =
     let text : List ℕ = c.in-Ok.text.now in
     let is : IsText text = rw c.in-Ok.ensures.0 c.in-Ok.ensures.1 in
     let not : ¬ (IsChange text (change_of c.args.edit.now)) =
-        λ fine. true≢false (sym (c.may_make.ensures.1 (rw c.change_of-change.ensures fine)) ∙ c.if-not-may_make.true) in
+    λ fine. true≢false (sym (c.may_make.ensures.1 (rw c.change_of-change.ensures fine)) ∙ c.if-not-may_make.true) in
     rw (← c.in-Ok.ensures.0, c.number-then-not-may_make.ensures)
-        (refused_edit text is c.args.edit.now c.args.head.now c.args.body_edit.now c.args.head_kept.now not)
+    (refused_edit text is c.args.edit.now c.args.head.now c.args.body_edit.now c.args.head_kept.now not)
 
 pub returns-then-not-may_make-2 : goal.returns-then-not-may_make-2
 returns-then-not-may_make-2 c =
@@ -19,13 +19,13 @@ returns-then-not-may_make-2 c =
     let is : IsText text = rw c.in-Ok.ensures.0 c.in-Ok.ensures.1 in
     let body = c.change_to-body.result in
     let all : Changes c.args.head.now c.args.edit.now c.find-now.result body.keeps_head body.change =
-        rw (sym c.head_of.ensures.head, sym c.change_of-change.ensures) c.change_to-body.ensures.body in
+    rw (sym c.head_of.ensures.head, sym c.change_of-change.ensures) c.change_to-body.ensures.body in
     let not : ¬ (IsChange c.range_from.result.now body.change) =
-        λ may. true≢false (sym (c.may_make-2.ensures.1 may) ∙ c.if-not-may_make-2.true) in
+    λ may. true≢false (sym (c.may_make-2.ensures.1 may) ∙ c.if-not-may_make-2.true) in
     rw (← c.in-Ok.ensures.0, c.number-then-not-may_make-2.ensures)
-        (refused_body text is c.args.edit.now c.args.head.now c.args.body_edit.now c.args.head_kept.now
-        c.find-now.result body.keeps_head body.change c.find-now.ensures.head all
-        (rw c.range_from.ensures.value at not))
+    (refused_body text is c.args.edit.now c.args.head.now c.args.body_edit.now c.args.head_kept.now
+    c.find-now.result body.keeps_head body.change c.find-now.ensures.head all
+    (rw c.range_from.ensures.value at not))
 
 pub returns : goal.returns
 returns c =
@@ -33,9 +33,9 @@ returns c =
     let is : IsText text = rw c.in-Ok.ensures.0 c.in-Ok.ensures.1 in
     let body = c.change_to-body.result in
     let all : Changes c.args.head.now c.args.edit.now c.find-now.result body.keeps_head body.change =
-        rw (sym c.head_of.ensures.head, sym c.change_of-change.ensures) c.change_to-body.ensures.body in
+    rw (sym c.head_of.ensures.head, sym c.change_of-change.ensures) c.change_to-body.ensures.body in
     let fine = rw c.change_of-change.ensures at (c.may_make.ensures.0 c.if-not-may_make.false) in
     let may = rw c.range_from.ensures.value at (c.may_make-2.ensures.0 c.if-not-may_make-2.false) in
     rw (← c.in-Ok.ensures.0, c.numbers_of_head.ensures, c.edit_of.ensures, c.from.ensures)
-        (found text is c.args.edit.now c.args.head.now c.args.body_edit.now c.args.head_kept.now c.find-now.result
-        body.keeps_head body.change c.find-now.ensures.head all fine may)
+    (found text is c.args.edit.now c.args.head.now c.args.body_edit.now c.args.head_kept.now c.find-now.result
+    body.keeps_head body.change c.find-now.ensures.head all fine may)

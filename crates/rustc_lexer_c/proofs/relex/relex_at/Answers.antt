@@ -38,7 +38,7 @@ returns-clause-some c =
     let later = c.if-relexing-eq-STAGE_BEGIN.false in
     let state = c.in-Some.ensures.some.1 in
     if_some c.resume.result c.resume.ensures.some (λ r is.
-        let at = ap (λ (m : RelexModel). m.at) is ∙ state in (
+    let at = ap (λ (m : RelexModel). m.at) is ∙ state in (
       ap (λ (m : RelexModel). m.text) is,
       ap (λ (m : RelexModel). m.lengths) is,
       ap (λ (m : RelexModel). m.change) is,

@@ -1,10 +1,8 @@
 use Rattle.std.proofs.Common.{◌≡◌, ◌<◌, List, ℕ, ◌++◌, length, map, take, drop, subst, true, ◌∙◌, Some}
 use Rattle.std.proofs.lemmas.List.{length-map}
 use Rattle.rustc_lexer.specs.{declared.relex.relexing.Change.{Change}, Classes.{IsText}, Relexing.{known}}
-use Rattle.rustc_lexer.specs.{
-    Relexing.{IsMadeOf, IsUnderWay, TakesSteps, is_over}, Answers.{grammar_of}, LanguageCalls.{edition_of_year},
-    Locality.{Grammar}, Tokens.{tokens_by}
-}
+use Rattle.rustc_lexer.specs.{Relexing.{IsMadeOf, IsUnderWay, TakesSteps, is_over}, Answers.{grammar_of}}
+use Rattle.rustc_lexer.specs.{LanguageCalls.{edition_of_year}, Locality.{Grammar}, Tokens.{tokens_by}}
 use Rattle.rustc_lexer_c.specs.{declared.token.CToken.{CToken}, Numbers.{token_numbers}, Relex.{change_of}}
 use Rattle.rustc_lexer_c.proofs.RelexLemmas.{none_some, relexed}
 use Rattle.rustc_lexer_c.proofs.relex.rustc_lexer_relex_unchecked.Goals as goal
@@ -24,16 +22,16 @@ returns c =
     let lens_are : now.lengths ≡ lens = f.edited.1 ∙ some.1 in
     let many : length lens ≡ length c.args.old.now = length-map c.args.old.now _ in
     let Fills : Grammar → List ℕ → List ℕ → Change → Type 0 =
-        λ g t ls ch. TakesSteps g.first t ch.new_stop begin.at c.fill.result now.at
+    λ g t ls ch. TakesSteps g.first t ch.new_stop begin.at c.fill.result now.at
     × (c.fill.new.buffer ≡ map token_numbers (take c.fill.result (tokens_by g.first (drop begin.at.at t)))
-        ++ drop c.fill.result c.args.buffer.now)
+    ++ drop c.fill.result c.args.buffer.now)
     × ((before insert : List ℕ) → IsMadeOf g.first before ls ch insert t → IsUnderWay g.first before ch t begin.at
-        → IsUnderWay g.first before ch t now.at
-        × (tokens_by g.first (drop begin.at.at t) ≡ drop (known begin.at) (tokens_by g.first t)))
+    → IsUnderWay g.first before ch t now.at
+    × (tokens_by g.first (drop begin.at.at t) ≡ drop (known begin.at) (tokens_by g.first t)))
     × (c.fill.result < length c.args.buffer.now → is_over t now.at ≡ true) in
     let grammar : Grammar = grammar_of c.in-Some.edition in
     let begun = subst (λ (g : Grammar). Fills g begin.text begin.lengths begin.change) c.new_in.ensures.grammar
-        (f.steps, f.tokens, f.under_way, f.over) in
+    (f.steps, f.tokens, f.under_way, f.over) in
     let changed = subst (λ (ch : Change). Fills grammar begin.text begin.lengths ch) change_is begun in
     let old_are = subst (λ (ls : List ℕ). Fills grammar begin.text ls change) some.1 changed in
     let fills = subst (λ (t : List ℕ). Fills grammar t lens change) some.0 old_are in
@@ -44,6 +42,6 @@ returns c =
     let asked = rw c.change_of.ensures at c.in-Some-relex_at.ensures.none.1 in
     rw (← c.in-Ok.ensures.0, numbers)
     (relexed c.in-Some.edition text c.args.old.now c.args.edit.now c.args.relexing.now c.args.buffer.now
-        c.fill.new.buffer c.fill.result begin.at now.at
+    c.fill.new.buffer c.fill.result begin.at now.at
     is c.args.edition year_is (λ not. none_some (asked not)) f.buffer fills.0 fills.1 may fills.3 some.3 some.4 passes
-        fills.2)
+    fills.2)

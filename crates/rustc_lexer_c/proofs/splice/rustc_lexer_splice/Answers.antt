@@ -6,9 +6,9 @@ pub returns : goal.returns
 returns c =
     let inside : c.args.count.now ≤ length c.args.buffer.now = omega (arith, c.if-old-places.false) in
     let apart : c.args.kept_front + c.args.kept_back ≤ c.args.count.now =
-        omega (arith, c.if-kept_front-old.false, c.if-kept_back-old.false) in
+    omega (arith, c.if-kept_front-old.false, c.if-kept_back-old.false) in
     let room : c.args.kept_front + length c.args.lexed.now + c.args.kept_back ≤ length c.args.buffer.now =
-        omega (arith, inside, apart, c.if-lexed-places.false) in
+    omega (arith, inside, apart, c.if-lexed-places.false) in
     record {
       list = λ _. rw c.done.ensures.written
           (put_between c.args.buffer.now c.args.lexed.now c.args.kept_front c.args.kept_back c.args.count.now apart

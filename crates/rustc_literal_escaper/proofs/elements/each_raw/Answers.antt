@@ -13,12 +13,12 @@ pub returns-then-not-take-clause-runs : goal.returns-then-not-take-clause-runs
 returns-then-not-take-clause-runs g c =
     let ys : List ℕ = g.T.Text.left c.next_char.new.self in
     c.characters.invariant.2 _ _
-        (one_enough g.S.Sink.took true (g.T.Text.offset_of c.args.rest.now) c.take.result _ _ c.offset-start.result
-        c.offset.result _ ys ys c.in-Some.c c.raw_element.result
+    (one_enough g.S.Sink.took true (g.T.Text.offset_of c.args.rest.now) c.take.result _ _ c.offset-start.result
+    c.offset.result _ ys ys c.in-Some.c c.raw_element.result
     c.in-Some.ensures.left (raw_reads c.in-Some.c ys ∙ ap (λ (e : Element). one (e, ys)) (sym c.raw_element.ensures))
-        (at_same _ c.offset-start.ensures c.characters.invariant.1)
-        (at_same ys c.offset.ensures (c.in-Some.ensures.same ∙ c.characters.invariant.1)) c.take.ensures.took
-        (search rules))
+    (at_same _ c.offset-start.ensures c.characters.invariant.1)
+    (at_same ys c.offset.ensures (c.in-Some.ensures.same ∙ c.characters.invariant.1)) c.take.ensures.took
+    (search rules))
 
 pub characters-preserved : goal.characters-preserved
 characters-preserved g c =
@@ -29,8 +29,8 @@ characters-preserved g c =
           (one_more g.S.Sink.took true (g.T.Text.offset_of c.args.rest.now) c.take.result _ _ c.offset-start.result
           c.offset.result _ ys ys c.in-Some.c c.raw_element.result
           c.in-Some.ensures.left
-              (raw_reads c.in-Some.c ys ∙ ap (λ (e : Element). one (e, ys)) (sym c.raw_element.ensures))
-              (at_same _ c.offset-start.ensures c.characters.invariant.1)
-              (at_same ys c.offset.ensures (c.in-Some.ensures.same ∙ c.characters.invariant.1)) c.take.ensures.took
-              (search rules) last left runs),
+          (raw_reads c.in-Some.c ys ∙ ap (λ (e : Element). one (e, ys)) (sym c.raw_element.ensures))
+          (at_same _ c.offset-start.ensures c.characters.invariant.1)
+          (at_same ys c.offset.ensures (c.in-Some.ensures.same ∙ c.characters.invariant.1)) c.take.ensures.took
+          (search rules) last left runs),
     )

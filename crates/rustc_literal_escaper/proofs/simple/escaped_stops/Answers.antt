@@ -9,7 +9,7 @@ returns c =
     let long = c.fits-v.0 in
     masked _ (is_stop false) v _ (omega arith) c.fits-v.1
     (zip2_of_maps bit_or _ _ v
-        (zip2_of_maps bit_or _ _ v
-        (zip2_of_maps bit_or _ _ v
-        (zip2_of_maps least _ _ v (splat_is_map {Y = ℕ} v 32 _ long) (zip2_splat {Y = ℕ} _ v 32 _ long))
-        (zip2_splat {Y = ℕ} _ v 32 _ long)) (zip2_splat {Y = ℕ} _ v 32 _ long)) (zip2_splat {Y = ℕ} _ v 32 _ long)) refl
+    (zip2_of_maps bit_or _ _ v
+    (zip2_of_maps bit_or _ _ v
+    (zip2_of_maps least _ _ v (splat_is_map {Y = ℕ} v 32 _ long) (zip2_splat {Y = ℕ} _ v 32 _ long))
+    (zip2_splat {Y = ℕ} _ v 32 _ long)) (zip2_splat {Y = ℕ} _ v 32 _ long)) (zip2_splat {Y = ℕ} _ v 32 _ long)) refl

@@ -1,9 +1,8 @@
 use Rattle.std.proofs.Common.{◌≡◌, ◌≤◌, drop}
 use Rattle.std.specs.{Fmt.{WritesInCalls}, List.{between}}
 use Rattle.rustc_literal_escaper.specs.Items.{ArePlaced}
-use Rattle.marks.specs.{
-    Literal.{parts_from}, means.Literal.{IsCut, string_stretches, stretches_from}, Part.{with_marks}
-}
+use Rattle.marks.specs.{Literal.{parts_from}, means.Literal.{IsCut, string_stretches, stretches_from}}
+use Rattle.marks.specs.Part.{with_marks}
 use Rattle.marks.proofs.literal.Painter.write_string.Given as goal
 
 abbrev pub invariant-loop-range : goal.invariant-loop-range
@@ -18,7 +17,7 @@ invariant-loop-range g l = record {
       (parts_from l.self.shown (drop l.self.shown l.fn.self.text.now)
       (stretches_from l.mode l.begin l.self.at l.close l.range-iterator))) w
       → WritesInCalls g.W.Write.write_str_gives l.fn.output
-          (with_marks l.fn.self.format
-          (parts_from l.fn.self.shown (drop l.fn.self.shown l.fn.self.text.now)
-          (string_stretches l.mode l.begin l.close l.fn.self.text.now))) w;
+      (with_marks l.fn.self.format
+      (parts_from l.fn.self.shown (drop l.fn.self.shown l.fn.self.text.now)
+      (string_stretches l.mode l.begin l.close l.fn.self.text.now))) w;
 }

@@ -7,6 +7,6 @@ pub returns-then-not-is_ascii : goal.returns-then-not-is_ascii
 unfolding emoji_ranges
 returns-then-not-is_ascii c =
     let position = c.binary_search_by.ensures.position (side c.args.c)
-        (always_returns_same _ _ _ (λ a r f' called. search rules)) in
+    (always_returns_same _ _ _ (λ a r f' called. search rules)) in
     c.is_ok.ensures.value
-        ∙ past_ascii c.args.c _ _ c.is_ascii.ensures c.if-not-is_ascii.true c.binary_search_by.ensures.bound position
+    ∙ past_ascii c.args.c _ _ c.is_ascii.ensures c.if-not-is_ascii.true c.binary_search_by.ensures.bound position

@@ -1,8 +1,7 @@
 use Rattle.std.proofs.Common.{refl, sym, ap, ◌∙◌, arith}
 use Rattle.rustc_lexer.specs.{Token, State.{State}, laws.State.{state}}
-use Rattle.rustc_lexer.proofs.lemmas.tokens.Advance.{
-    advances, advances_alone, ends, none_left, still_cursor, suffix_within, whole_fits
-}
+use Rattle.rustc_lexer.proofs.lemmas.tokens.Advance.{advances, advances_alone, ends, none_left, still_cursor}
+use Rattle.rustc_lexer.proofs.lemmas.tokens.Advance.{suffix_within, whole_fits}
 use Rattle.rustc_lexer.proofs.cursor.Cursor.advance_token.Goals as goal
 
 pub returns-in_default : goal.returns-in_default
@@ -25,8 +24,12 @@ invariant_of-self-then-self-eq0 c = still_cursor _ _ c.self.invariant _ c.self.v
 pub returns-then-self-eq0 : goal.returns-then-self-eq0
 returns-then-self-eq0 c =
     let taken = advances_alone _ _ c.self.invariant _ c.self.view_is _ _ c.in-Some.ensures.steps c.if-self-eq0.true in
-    record { token = taken.token_is; state = taken.state_is; end = λ e. absurd (taken.no_end e);
-        past = λ other. taken.first }
+    record {
+      token = taken.token_is;
+      state = taken.state_is;
+      end = λ e. absurd (taken.no_end e);
+      past = λ other. taken.first;
+    }
 
 pub with_pending-requires : goal.with_pending-requires
 with_pending-requires c = record {
@@ -40,6 +43,9 @@ invariant_of-self-2 c = still_cursor _ _ c.self.invariant _ c.self.view_is _ _ c
 pub returns : goal.returns
 returns c =
     let taken = advances _ _ c.self.invariant _ c.self.view_is _ _ c.in-Some.ensures.steps in
-    rw c.with_pending.ensures record
-        { token = taken.token_is; state = taken.state_is; end = λ e. absurd (taken.no_end e);
-        past = λ other. taken.first }
+    rw c.with_pending.ensures record {
+      token = taken.token_is;
+      state = taken.state_is;
+      end = λ e. absurd (taken.no_end e);
+      past = λ other. taken.first;
+    }

@@ -6,7 +6,7 @@ use Rattle.rustc_lexer.proofs.cursor.Cursor.guarded_double_quoted_string.Goals a
 pub returns-in_default : goal.returns-in_default
 returns-in_default c =
     let taken = none_here _ _ _ _ _ c.self.view_is c.as_str-rest.ensures.rest _ c.count_hashes-n_hashes.ensures.count
-        c.in_default.ensures.read in
+    c.in_default.ensures.read in
     record {
       answer = sym (ap (λ (r : Option GuardedStr × State). r.0) taken);
       state = ap (λ (x : State). state (c.self.inside.pending + c.count_hashes-n_hashes.result) x.rest x.mode)
@@ -16,7 +16,7 @@ returns-in_default c =
 pub returns : goal.returns
 returns c =
     let taken = some_here _ _ _ _ _ c.self.view_is c.as_str-rest.ensures.rest _ c.count_hashes-n_hashes.ensures.count _
-        _ c.in-Some.ensures.read in
+    _ c.in-Some.ensures.read in
     record {
       answer = sym (ap (λ (r : Option GuardedStr × State). r.0) taken);
       state = ap (λ (x : State). state 0 x.rest x.mode) c.skip_bytes-2.ensures

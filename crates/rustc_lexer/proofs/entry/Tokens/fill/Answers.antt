@@ -18,5 +18,5 @@ places-preserved g c =
       written = one_written g.R.FromToken.written (tokens_left s) (tokens_left past) c.args.buffer.now c.places.buffer
           c.places.count token inv.written
           (next_is s at past c.places.count token inv.past inv.left takes) fits c.from_token.result
-              c.from_token.ensures;
+          c.from_token.ensures;
     }

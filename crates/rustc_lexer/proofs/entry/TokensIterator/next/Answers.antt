@@ -9,7 +9,7 @@ use Rattle.rustc_lexer.proofs.entry.TokensIterator.next.Goals as goal
 pub returns-in-Some : goal.returns-in-Some
 returns-in-Some c =
     let taken = takes_classified _ _ c.self.inside.text.now c.args.self.now _ _ c.self.view_is c.self.invariant
-        c.in-Some.token c.in-Some.ensures in
+    c.in-Some.token c.in-Some.ensures in
     record { steps = taken; goes = goes _ _ _ taken }
 
 pub returns-then-self-clause-steps : goal.returns-then-self-clause-steps
@@ -25,23 +25,23 @@ quick_token-requires-clause-utf8 c =
 pub choose_in-chosen-requires-clause-no_hash : goal.choose_in-chosen-requires-clause-no_hash
 choose_in-chosen-requires-clause-no_hash c =
     let rest = left_is c.self.inside.text.now c.as_bytes.result.now c.take.new.self.at c.as_bytes.ensures.value
-        ∙ sym c.as_str.ensures.rest in
+    ∙ sym c.as_str.ensures.rest in
     subst BeginsWithNoHash rest c.in_default-quick_token.ensures
 
 pub returns-then-not-matches : goal.returns-then-not-matches
 returns-then-not-matches c =
     let taken = takes_left _ _ c.self.inside.text.now c.args.self.now _ _ c.self.view_is c.in_default.ensures _ _
-        c.classify_next.new.self.at
+    c.classify_next.new.self.at
     c.in-Some-quick_token.quick c.as_bytes.ensures.utf8 c.as_bytes.ensures.value
-        (left_is _ _ _ c.as_bytes.ensures.value) (omega arith) c.in-No.is
+    (left_is _ _ _ c.as_bytes.ensures.value) (omega arith) c.in-No.is
     (c.in-Some-quick_token.ensures.token c.self.inside.edition (sym c.reserves_guards.ensures))
-        c.classify_next.ensures.at in
+    c.classify_next.ensures.at in
     record { steps = taken; goes = goes _ _ _ taken }
 
 pub returns-else-not-matches : goal.returns-else-not-matches
 returns-else-not-matches c =
     let taken = takes_left _ _ c.self.inside.text.now c.args.self.now _ _ c.self.view_is c.in_default.ensures _ _ _
-        c.in-Some-quick_token.quick
+    c.in-Some-quick_token.quick
     c.as_bytes.ensures.utf8 c.as_bytes.ensures.value (left_is _ _ _ c.as_bytes.ensures.value) (omega arith) c.in-No.is
     (c.in-Some-quick_token.ensures.token c.self.inside.edition (sym c.reserves_guards.ensures)) refl in
     record { steps = taken; goes = goes _ _ _ taken }
@@ -49,19 +49,21 @@ returns-else-not-matches c =
 pub returns-in-No : goal.returns-in-No
 returns-in-No c =
     let taken = takes_left _ _ c.self.inside.text.now c.args.self.now _ _ c.self.view_is c.in_default.ensures _ _ _
-        c.choose_in-chosen.result
+    c.choose_in-chosen.result
     c.as_bytes.ensures.utf8 c.as_bytes.ensures.value c.as_str.ensures.rest
-        (omega arith) c.in-No.is c.choose_in-chosen.ensures.token refl in
+    (omega arith) c.in-No.is c.choose_in-chosen.ensures.token refl in
     record { steps = taken; goes = goes _ _ _ taken }
 
 pub returns : goal.returns
 returns c =
     let taken = takes_next _ c.self.inside.text.now c.take.new.self.at c.args.self.now
     (still _ _ _ _ _ _ c.self.view_is c.in_default.ensures) _ _ c.token_at-token.result
-    record { utf8 = subst IsUtf8 c.as_bytes.ensures.value c.as_bytes.ensures.utf8;
-        fits = c.in_default.ensures.tells.fits }
+    record {
+      utf8 = subst IsUtf8 c.as_bytes.ensures.value c.as_bytes.ensures.utf8;
+      fits = c.in_default.ensures.tells.fits;
+    }
     c.in_default.ensures.tells.bound (omega arith)
     (c.token_at-token.ensures.token ∙ ap (token_at (mode_in c.self.inside.frontmatter_allowed c.self.inside.edition))
-        c.as_str-2.ensures.rest) refl
+    c.as_str-2.ensures.rest) refl
     (c.next_allowed-self-inside.ensures c.self.inside.edition) in
     record { steps = taken; goes = goes _ _ _ taken }

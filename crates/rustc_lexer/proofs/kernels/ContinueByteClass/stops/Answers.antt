@@ -11,8 +11,8 @@ returns c =
     let long = length-chunk 0 16 c.args.bytes.now (omega (arith, c.requires)) in
     masked _ (outside is_continue_byte) v _ (omega arith) (chunk-fits w8 0 16 c.args.bytes.now (search rules))
     (zip2_of_maps bit_and _ _ v
-        (zip2_of_maps bit_and _ _ v
-        (zip2_of_maps least _ _ v (splat_is_map {Y = ℕ} v 16 26 long)
-        (zip2_of_maps _ _ _ v (zip2_splat {Y = ℕ} _ v 16 32 long) (splat_is_map {Y = ℕ} v 16 97 long)))
-        (zip2_of_maps least _ _ v (splat_is_map {Y = ℕ} v 16 10 long) (zip2_splat {Y = ℕ} _ v 16 48 long)))
-        (zip2_splat {Y = ℕ} _ v 16 95 long)) refl
+    (zip2_of_maps bit_and _ _ v
+    (zip2_of_maps least _ _ v (splat_is_map {Y = ℕ} v 16 26 long)
+    (zip2_of_maps _ _ _ v (zip2_splat {Y = ℕ} _ v 16 32 long) (splat_is_map {Y = ℕ} v 16 97 long)))
+    (zip2_of_maps least _ _ v (splat_is_map {Y = ℕ} v 16 10 long) (zip2_splat {Y = ℕ} _ v 16 48 long)))
+    (zip2_splat {Y = ℕ} _ v 16 95 long)) refl

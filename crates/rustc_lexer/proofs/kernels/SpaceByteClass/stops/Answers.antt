@@ -11,4 +11,4 @@ returns c =
     let long = length-chunk 0 16 c.args.bytes.now (omega (arith, c.requires)) in
     masked _ (outside is_space_byte) v _ (omega arith) (chunk-fits w8 0 16 c.args.bytes.now (search rules))
     (zip2_of_maps bit_and _ _ v (zip2_splat {Y = ℕ} _ v 16 32 long)
-        (zip2_of_maps least _ _ v (splat_is_map {Y = ℕ} v 16 5 long) (zip2_splat {Y = ℕ} _ v 16 9 long))) refl
+    (zip2_of_maps least _ _ v (splat_is_map {Y = ℕ} v 16 5 long) (zip2_splat {Y = ℕ} _ v 16 9 long))) refl

@@ -18,10 +18,10 @@ returns-in-Some-strip c =
     c.block_comment.ensures
     ∙ sym (scanned-no (begins (codes "/")) (after 1 line_comment) other _ c.in_default.ensures
     ∙ (scanned-yes (begins (codes "*")) (after 1 block_comment) (gives Slash) _ c.in-Some-strip.ensures.0
-        ∙ scanned-after 1 block_comment _ _ c.utf8.rest c.in-Some-strip.ensures.1))
+    ∙ scanned-after 1 block_comment _ _ c.utf8.rest c.in-Some-strip.ensures.1))
 
 pub returns-in_default-strip : goal.returns-in_default-strip
 returns-in_default-strip c =
     sym (scanned-no (begins (codes "/")) (after 1 line_comment) other _ c.in_default.ensures
     ∙ (scanned-no (begins (codes "*")) (after 1 block_comment) (gives Slash) _ c.in_default-strip.ensures
-        ∙ scanned-gives Slash _ c.utf8.rest))
+    ∙ scanned-gives Slash _ c.utf8.rest))

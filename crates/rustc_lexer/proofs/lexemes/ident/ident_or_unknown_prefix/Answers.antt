@@ -15,12 +15,17 @@ returns-then-next_is c = grind (arith, common_steps, rules, ident_or_unknown_pre
 pub returns-then-next_is-2 : goal.returns-then-next_is-2
 returns-then-next_is-2 c =
     ap (λ (b : Bool). let k : TokenKind = if b then UnknownPrefix else Ident in
-        (k, c.eat_continue-rest.result.now))
-        (sym (sym (c.next_is-2.ensures ends_prefix (λ d b e. e)) ∙ c.if-next_is-2.true))
+    (k, c.eat_continue-rest.result.now))
+    (sym (sym (c.next_is-2.ensures ends_prefix (λ d b e. e)) ∙ c.if-next_is-2.true))
     ∙ ident_or_unknown_prefix-valid _ _ c.utf8.tail (c.eat_continue-rest.ensures.past)
-        (sym (c.next_is.ensures is_emoji (λ d b e. e)) ∙ c.if-next_is.false)
+    (sym (c.next_is.ensures is_emoji (λ d b e. e)) ∙ c.if-next_is.false)
 
 pub returns-else-next_is-2 : goal.returns-else-next_is-2
 returns-else-next_is-2 c =
-    grind (arith, common_steps, c.next_is-2.ensures ends_prefix (λ d b e. e), c.if-next_is-2.false,
-        ident_or_unknown_prefix-valid)
+    grind (
+      arith,
+      common_steps,
+      c.next_is-2.ensures ends_prefix (λ d b e. e),
+      c.if-next_is-2.false,
+      ident_or_unknown_prefix-valid,
+    )

@@ -1,39 +1,37 @@
 use Rattle.std.proofs.Common.{refl, sym, ◌∙◌, arith}
 use Rattle.rustc_lexer.proofs.lemmas.tokens.Editions.{first_by, guard_by}
-use Rattle.rustc_lexer.proofs.lemmas.tokens.Hashes.{
-    no_hash, no_hash-empty, no_hash-wide, prefix_first, hash_alone, hash_older
-}
+use Rattle.rustc_lexer.proofs.lemmas.tokens.Hashes.{no_hash, no_hash-empty, no_hash-wide, prefix_first, hash_alone}
+use Rattle.rustc_lexer.proofs.lemmas.tokens.Hashes.{hash_older}
 use Rattle.rustc_lexer.proofs.lemmas.tokens.Quick.{word_first, space_first, symbol_by}
 use Rattle.rustc_lexer.proofs.lexemes.quick.quick_token.Goals as goal
-use Rattle.rustc_lexer.proofs.lexemes.quick.quick_token.Goals.{
-    else-reserves_guards-via-then-reserves_guards+else-begins_guarded, else-reserves_guards-via-else-reserves_guards
-}
+use Rattle.rustc_lexer.proofs.lexemes.quick.quick_token.Goals.{else-reserves_guards-via-then-reserves_guards+else-begins_guarded}
+use Rattle.rustc_lexer.proofs.lexemes.quick.quick_token.Goals.{else-reserves_guards-via-else-reserves_guards}
 
 pub returns-then-ends_word : goal.returns-then-ends_word
 returns-then-ends_word c =
     first_by c.args.reserves_guards _ _
-        (word_first c.args.text.now _ _ _ c.requires.utf8 c.in_ok-first.ensures.cases.0 c.in_ok-family_of_byte.ensures.0
-        (sym c.in-Word.is ∙ c.in_ok-family_of_byte.ensures.1) c.run_end-end.ensures.value (sym c.if-ends_word.ensures))
-        refl
+    (word_first c.args.text.now _ _ _ c.requires.utf8 c.in_ok-first.ensures.cases.0 c.in_ok-family_of_byte.ensures.0
+    (sym c.in-Word.is ∙ c.in_ok-family_of_byte.ensures.1) c.run_end-end.ensures.value (sym c.if-ends_word.ensures))
+    refl
 
 pub returns-then-ends_space : goal.returns-then-ends_space
 returns-then-ends_space c =
     first_by c.args.reserves_guards _ _
-        (space_first c.args.text.now _ _ _ c.requires.utf8 c.in_ok-first.ensures.cases.0
-        c.in_ok-family_of_byte.ensures.0 (sym c.in-Space.is ∙ c.in_ok-family_of_byte.ensures.1)
-        c.short_run_end-end.ensures.value (sym c.if-ends_space.ensures)) refl
+    (space_first c.args.text.now _ _ _ c.requires.utf8 c.in_ok-first.ensures.cases.0
+    c.in_ok-family_of_byte.ensures.0 (sym c.in-Space.is ∙ c.in_ok-family_of_byte.ensures.1)
+    c.short_run_end-end.ensures.value (sym c.if-ends_space.ensures)) refl
 
 pub returns-in-Symbol : goal.returns-in-Symbol
 returns-in-Symbol c =
     symbol_by c.args.reserves_guards c.args.text.now _ _ _ c.requires.utf8 c.in_ok-first.ensures.cases.0
-        c.in_ok-family_of_byte.ensures.0 (sym c.in-Symbol.is ∙ c.in_ok-family_of_byte.ensures.1) c.symbol_kind.ensures
+    c.in_ok-family_of_byte.ensures.0 (sym c.in-Symbol.is ∙ c.in_ok-family_of_byte.ensures.1) c.symbol_kind.ensures
 
 pub returns-then-begins_guarded : goal.returns-then-begins_guarded
 returns-then-begins_guarded c =
     rw c.if-reserves_guards.true
-        (guard_by c.args.text.now
-        (prefix_first c.args.text.now _ _ c.requires.utf8 c.in_ok-first.ensures.cases.0 c.in_ok-family_of_byte.ensures.0
-        (sym c.in-Hash.is ∙ c.in_ok-family_of_byte.ensures.1) (sym c.if-begins_guarded.ensures)))
+    (guard_by c.args.text.now
+    (prefix_first c.args.text.now _ _ c.requires.utf8 c.in_ok-first.ensures.cases.0 c.in_ok-family_of_byte.ensures.0
+    (sym c.in-Hash.is ∙ c.in_ok-family_of_byte.ensures.1) (sym c.if-begins_guarded.ensures)))
 
 pub returns-else-reserves_guards : goal.returns-else-reserves_guards
 returns-else-reserves_guards c =
@@ -53,7 +51,7 @@ returns-in_err-first c = rw c.from_residual.ensures (no_hash-empty _ (omega (ari
 pub returns-in_err-family_of_byte : goal.returns-in_err-family_of_byte
 returns-in_err-family_of_byte c =
     rw c.from_residual-in_err-family_of_byte.ensures
-        (no_hash-wide _ _ _ c.requires.utf8 c.in_ok-first.ensures.cases.0 c.in_err-family_of_byte.ensures)
+    (no_hash-wide _ _ _ c.requires.utf8 c.in_ok-first.ensures.cases.0 c.in_err-family_of_byte.ensures)
 
 pub returns-else-ends_word : goal.returns-else-ends_word
 returns-else-ends_word c =

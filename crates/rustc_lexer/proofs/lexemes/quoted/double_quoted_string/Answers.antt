@@ -14,12 +14,12 @@ pub returns-in_default-split_first-clause-read : goal.returns-in_default-split_f
 returns-in_default-split_first-clause-read c =
     let at = stop-read _ _ c.quoted.invariant.0 c.eat_until_either-stop.ensures.past in
     let slash = at_backslash _ _ c.quoted.invariant.0 c.eat_until_either-stop.ensures.past _ _ c.in-Some.ensures.0
-        c.if-c-eq34.false in
+    c.if-c-eq34.false in
     grind (arith, common_steps, quoted_lemmas, at, slash)
 
 pub quoted-preserved : goal.quoted-preserved
 quoted-preserved c =
     let at = stop-read _ _ c.quoted.invariant.0 c.eat_until_either-stop.ensures.past in
     let slash = at_backslash _ _ c.quoted.invariant.0 c.eat_until_either-stop.ensures.past _ _ c.in-Some.ensures.0
-        c.if-c-eq34.false in
+    c.if-c-eq34.false in
     grind (arith, common_steps, rules, quoted_lemmas, at, slash)

@@ -1,7 +1,6 @@
 use Rattle.std.proofs.{lemmas.Grind.{common_steps}, Common.{rules, arith}}
-use Rattle.rustc_lexer.proofs.lemmas.tokens.Raw.{
-    search_start, search_on, search_more, may_cut, closed_here, never_closed
-}
+use Rattle.rustc_lexer.proofs.lemmas.tokens.Raw.{search_start, search_on, search_more, may_cut, closed_here}
+use Rattle.rustc_lexer.proofs.lemmas.tokens.Raw.{never_closed}
 use Rattle.rustc_lexer.proofs.lexemes.raw.raw_text.Goals as goal
 
 pub loop-tail-init : goal.loop-tail-init

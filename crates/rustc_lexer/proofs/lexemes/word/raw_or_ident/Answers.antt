@@ -15,10 +15,10 @@ raw-is tail rest b is r e f = ap (λ (x : Bool). x && next_is opens_raw (drop 1 
 pub returns-then-begins_raw : goal.returns-then-begins_raw
 returns-then-begins_raw c =
     let opens : begins_raw (chars c.args.tail.now) ≡ true =
-        raw-is _ _ true c.utf8.tail c.in-Some.ensures.0 c.in-Some.ensures.1 c.if-begins_raw.ensures in
+    raw-is _ _ true c.utf8.tail c.in-Some.ensures.0 c.in-Some.ensures.1 c.if-begins_raw.ensures in
     c.raw_literal.ensures
-        ∙ sym (scanned-yes begins_raw (after 1 (raw_literal c.args.prefix)) ident_or_unknown_prefix _ opens
-        ∙ scanned-after 1 (raw_literal c.args.prefix) _ _ c.utf8.tail c.in-Some.ensures.1)
+    ∙ sym (scanned-yes begins_raw (after 1 (raw_literal c.args.prefix)) ident_or_unknown_prefix _ opens
+    ∙ scanned-after 1 (raw_literal c.args.prefix) _ _ c.utf8.tail c.in-Some.ensures.1)
 
 pub returns-else-begins_raw : goal.returns-else-begins_raw
 returns-else-begins_raw c = grind (arith, common_steps, rules, raw-is, scanned-no)

@@ -19,16 +19,20 @@ halves-preserved c = record {
   in_old = omega arith;
   in_new = omega arith;
   back = c.halves.invariant.back;
-  longest = λ n is. omega
-      (arith, back_differs c.args.old.now c.args.new.now c.args.start c.halves.back
-      (c.halves.most - (c.halves.most - c.halves.back) / 2) n is (omega arith)
-      (λ same. grind (arith, common_steps, bytes_eq-Decides, same)));
+  longest = λ n is. omega (
+    arith,
+    back_differs c.args.old.now c.args.new.now c.args.start c.halves.back
+        (c.halves.most - (c.halves.most - c.halves.back) / 2) n is (omega arith)
+        (λ same. grind (arith, common_steps, bytes_eq-Decides, same)),
+  );
 }
 
 pub chars-preserved : goal.chars-preserved
 chars-preserved c = record {
   back = back_less _ _ _ _ _ c.chars.invariant.back (omega arith);
-  longest = λ n is at. omega
-      (arith, shorter (λ k. IsCharBoundary c.args.old.now (length c.args.old.now - k)) c.is_char_boundary.ensures.test
-      c.chars-test.true at (c.chars.invariant.longest n is at));
+  longest = λ n is at. omega (
+    arith,
+    shorter (λ k. IsCharBoundary c.args.old.now (length c.args.old.now - k)) c.is_char_boundary.ensures.test
+        c.chars-test.true at (c.chars.invariant.longest n is at),
+  );
 }

@@ -1,7 +1,5 @@
-use Rattle.std.proofs.Common.{
-    ◌≡◌, ◌∷◌, ◌++◌, List, ℕ, length, map, drop, take, refl, sym, ap, ◌∙◌, subst, arith, length-append, length-take-le,
-    []
-}
+use Rattle.std.proofs.Common.{◌≡◌, ◌∷◌, ◌++◌, List, ℕ, length, map, drop, take, refl, sym, ap, ◌∙◌, subst, arith}
+use Rattle.std.proofs.Common.{length-append, length-take-le, []}
 use Rattle.rustc_lexer.specs.{declared.{relex.{front.TokenStart.{TokenStart}, relexing.Relexing.{Relexing}}}, Token}
 use Rattle.rustc_lexer.specs.{Tokens.{tokens_by}, Offsets.{IsBound}, Relexing.{GoesOn}}
 use Rattle.rustc_lexer.proofs.lemmas.edits.{FrontAndBack.{IfErr-always}, ManyTokens.{front_of, more_lexed}}
@@ -14,9 +12,9 @@ returns-in_default-clause-lexed g c = λ before insert is near.
     let first = (g.S.Stepper.grammar c.args.stepper.now).first in
     let none = c.new-tokens.ensures.items in
     let last = c.in_default.ensures.under_way before insert is
-        (c.begin-at.ensures.under_way first before insert (g.S.Stepper.law c.args.stepper.now) is near) in
+    (c.begin-at.ensures.under_way first before insert (g.S.Stepper.law c.args.stepper.now) is near) in
     let lexed : c.next.new.self.lexed ≡ 0 = ap (λ (a : Relexing). a.lexed) c.in_default.ensures.step.0
-        ∙ c.begin-at.ensures.none in
+    ∙ c.begin-at.ensures.none in
     record {
       under_way = last.0;
       met = last.1;
@@ -36,7 +34,7 @@ returns-in_err-push-clause-few g c =
     let law = g.S.Stepper.law c.args.stepper.now in
     IfErr-always c.from_residual.result (λ before insert is near r counts.
     let next = c.in-Some.ensures.under_way before insert is
-        (c.begin-at.ensures.under_way (g.S.Stepper.grammar c.args.stepper.now).first before insert law is near) in
+    (c.begin-at.ensures.under_way (g.S.Stepper.grammar c.args.stepper.now).first before insert law is near) in
     omega (arith, c.in-Some.ensures.step.2, c.in-Some.ensures.step.1.lexed, few_lexed law is next.0 r counts))
 
 pub left-init : goal.left-init
@@ -46,7 +44,7 @@ left-init g c =
     let steps = c.in-Some.ensures.step.1 in
     let token = c.in-Some.token in
     let items : c.push.new.self.items ≡ token ∷ [] =
-        c.in_ok-push.ensures.items ∙ ap (λ (ts : List Token). ts ++ token ∷ []) c.new-tokens.ensures.items in
+    c.in_ok-push.ensures.items ∙ ap (λ (ts : List Token). ts ++ token ∷ []) c.new-tokens.ensures.items in
     let count = ap (λ (ts : List Token). length ts) items in
     record {
       may_go_on = c.in-Some.ensures.may_go_on;
@@ -55,10 +53,13 @@ left-init g c =
       lexed = omega (arith, steps.lexed, count, c.begin-at.ensures.none);
       under_way = λ before insert is near.
           let next = c.in-Some.ensures.under_way before insert is
-              (c.begin-at.ensures.under_way first before insert (g.S.Stepper.law c.args.stepper.now) is near) in
-          let none = ap (λ n. take n (drop c.begin-at.result.front.index new)) (sym c.begin-at.ensures.none) in
-          (next.0, items ∙ more_lexed new _ [] (token ∷ []) c.begin-at.result c.next.new.self 1 steps.front steps.lexed
-              none (sym next.1) refl, c.new-bounds.ensures new);
+          (c.begin-at.ensures.under_way first before insert (g.S.Stepper.law c.args.stepper.now) is near) in
+          let none = ap (λ n. take n (drop c.begin-at.result.front.index new)) (sym c.begin-at.ensures.none) in (
+            next.0,
+            items ∙ more_lexed new _ [] (token ∷ []) c.begin-at.result c.next.new.self 1 steps.front steps.lexed
+                none (sym next.1) refl,
+            c.new-bounds.ensures new,
+          );
     }
 
 pub left-smaller : goal.left-smaller
@@ -76,7 +77,7 @@ left-preserved g c =
     let steps = c.block-count.ensures.steps in
     let left : List Token = tokens_by (g.S.Stepper.grammar c.left.stepper).first (drop at.at text) in
     let written = front_of left c.left.buffer c.block-count.new.buffer count steps.inside
-        c.block-count.ensures.tokens in
+    c.block-count.ensures.tokens in
     let block : List Token = take count c.block-count.new.buffer in
     let long : length block ≡ count = length-take-le count c.block-count.new.buffer written.within in
     let items = c.in_ok-extend_from_slice.ensures.items in
@@ -84,15 +85,21 @@ left-preserved g c =
     record {
       may_go_on = c.block-count.ensures.may_go_on;
       grammar = c.block-count.ensures.grammar ∙ inv.grammar;
-      count = omega (arith, c.block-count.ensures.count, inv.count, size, long,
-          length-append c.left.tokens.items block);
+      count = omega (
+        arith,
+        c.block-count.ensures.count,
+        inv.count,
+        size,
+        long,
+        length-append c.left.tokens.items block,
+      );
       lexed = omega (arith, steps.lexed, inv.lexed, size, long, length-append c.left.tokens.items block);
       under_way = λ before insert is near.
           let so = inv.under_way before insert is near in
           let goes = subst
-              (λ (f : List ℕ → Token). GoesOn f (map (λ (t : Token). t.len) c.args.edited.now.old_tokens.now) text
-              c.args.edited.now.change at past) (same_first inv.grammar) c.block-count.ensures.under_way before insert
-              is so.0 in
+          (λ (f : List ℕ → Token). GoesOn f (map (λ (t : Token). t.len) c.args.edited.now.old_tokens.now) text
+          c.args.edited.now.change at past) (same_first inv.grammar) c.block-count.ensures.under_way before insert
+          is so.0 in
           let here = ap (λ (f : List ℕ → Token). tokens_by f (drop at.at text)) (same_first inv.grammar) ∙ goes.1 in (
             goes.0,
             items ∙ more_lexed (tokens_by first text) left c.left.tokens.items block at past count steps.front
@@ -113,11 +120,17 @@ returns-in_err-extend_from_slice-clause-few g c =
     IfErr-always c.from_residual-in_err-extend_from_slice.result (λ before insert is near r counts.
     let so = inv.under_way before insert is near in
     let goes = subst
-        (λ (f : List ℕ → Token). GoesOn f (map (λ (t : Token). t.len) c.args.edited.now.old_tokens.now) text
-        c.args.edited.now.change at past) (same_first inv.grammar) c.block-count.ensures.under_way before insert is
-        so.0 in
-    omega (arith, c.block-count.ensures.count, c.block-count.ensures.steps.lexed, inv.count, inv.lexed,
-        few_lexed law is goes.0 r counts))
+    (λ (f : List ℕ → Token). GoesOn f (map (λ (t : Token). t.len) c.args.edited.now.old_tokens.now) text
+    c.args.edited.now.change at past) (same_first inv.grammar) c.block-count.ensures.under_way before insert is
+    so.0 in
+    omega (
+      arith,
+      c.block-count.ensures.count,
+      c.block-count.ensures.steps.lexed,
+      inv.count,
+      inv.lexed,
+      few_lexed law is goes.0 r counts,
+    ))
 
 pub returns-clause-lexed : goal.returns-clause-lexed
 returns-clause-lexed g c = λ before insert is near.

@@ -12,8 +12,8 @@ invariant-left g l = record {
   under_way : ForEachOldText (g.S.Stepper.grammar l.fn.stepper).first l.fn.edited l.fn.near (λ before insert.
       IsUnderWay (g.S.Stepper.grammar l.fn.stepper).first before l.fn.edited.change l.fn.edited.text.now l.at
       × (l.tokens.items ≡
-          take l.at.lexed (drop l.at.front.index
-          (tokens_by (g.S.Stepper.grammar l.fn.stepper).first l.fn.edited.text.now)))
+      take l.at.lexed (drop l.at.front.index
+      (tokens_by (g.S.Stepper.grammar l.fn.stepper).first l.fn.edited.text.now)))
       × AreBounds (tokens_by (g.S.Stepper.grammar l.fn.stepper).first l.fn.edited.text.now) l.bounds);
 }
 

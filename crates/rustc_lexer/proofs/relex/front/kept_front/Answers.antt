@@ -1,8 +1,7 @@
 use Rattle.std.proofs.{Common.{◌≡◌, ◌≤◌, length, refl, sym, ◌∙◌, arith}, lemmas.Str.{IsCharBoundary-from_drop}}
 use Rattle.rustc_lexer.specs.Partition.{bound}
-use Rattle.rustc_lexer.proofs.lemmas.edits.{
-    KeptFront.{kept_is}, ByLengths.{as_many, next_stands, stand_alike, stood_before}
-}
+use Rattle.rustc_lexer.proofs.lemmas.edits.KeptFront.{kept_is}
+use Rattle.rustc_lexer.proofs.lemmas.edits.ByLengths.{as_many, next_stands, stand_alike, stood_before}
 use Rattle.rustc_lexer.proofs.relex.front.kept_front.Goals as goal
 use Rattle.rustc_lexer.proofs.relex.front.kept_front.Goals.{then-stand_before, else-stand_before}
 
@@ -14,9 +13,9 @@ loop-at-init g c = elim c.if-stand_before.branch [
     stood_before _ _ _ c.stand_before.ensures.late w.if-stand_before.true,
     λ old ts is near.
         let at = c.walk_back-back.ensures.bound 0 ts record
-            { lengths_are = is.lengths_are; number = near.0; offset = omega (arith, near.1) } in
+        { lengths_are = is.lengths_are; number = near.0; offset = omega (arith, near.1) } in
         let there : c.walk_back-back.result.offset ≡ bound ts c.walk_back-back.result.index =
-            omega (arith, at.offset) in (
+        omega (arith, at.offset) in (
           (at.number, there),
           λ some. sym (stand_alike old c.args.text.now c.walk_back-back.result.offset c.args.start c.stand_before.result
               is.utf8 c.utf8.text is.same c.requires.boundary.0
@@ -41,7 +40,7 @@ loop-at-preserved g c = (
   λ old ts is near.
       let next = next_stands g.T.Measured.bytes c.args.tokens.now is c.utf8.text c.requires.boundary.0 c.loop-at.at
       (c.loop-at.invariant.3 old ts is near).0 c.loop-at-test.true _ _ c.len.ensures c.index-tokens-at.is _
-          c.stand_before-in-loop-at.ensures.late
+      c.stand_before-in-loop-at.ensures.late
       c.stand_before-in-loop-at.ensures.two in
       (next.0, λ some. sym next.1 ∙ c.if-not-stand_before.false),
 )
@@ -50,16 +49,16 @@ pub returns-after-loop-at-clause-front : goal.returns-after-loop-at-clause-front
 returns-after-loop-at-clause-front g c = λ old ts is near.
     let at = c.loop-at.invariant.3 old ts is near in
     let all : length ts ≤ c.loop-at.at.index =
-        omega (arith, as_many g.T.Measured.bytes c.args.tokens.now ts is.lengths_are, c.loop-at-test.false) in
+    omega (arith, as_many g.T.Measured.bytes c.args.tokens.now ts is.lengths_are, c.loop-at-test.false) in
     let number = kept_is old ts c.args.start is.utf8 is.cuts c.loop-at.at.index at.0.0 (rw (sym at.0.1) at.1)
-        (λ few. absurd (omega (arith, few, all))) in
+    (λ few. absurd (omega (arith, few, all))) in
     (number, at.0, at.1)
 
 pub returns-then-not-stand_before-clause-front : goal.returns-then-not-stand_before-clause-front
 returns-then-not-stand_before-clause-front g c = λ old ts is near.
     let at = c.loop-at.invariant.3 old ts is near in
     let next = next_stands g.T.Measured.bytes c.args.tokens.now is c.utf8.text c.requires.boundary.0 c.loop-at.at at.0
-        c.loop-at-test.true _ _ c.len.ensures
+    c.loop-at-test.true _ _ c.len.ensures
     c.index-tokens-at.is _ c.stand_before-in-loop-at.ensures.late c.stand_before-in-loop-at.ensures.two in
     let number = kept_is old ts c.args.start is.utf8 is.cuts c.loop-at.at.index at.0.0 (rw (sym at.0.1) at.1)
     (λ few. rw (sym next.0.1) (sym next.1 ∙ c.if-not-stand_before.true)) in

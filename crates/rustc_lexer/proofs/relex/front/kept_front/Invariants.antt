@@ -7,7 +7,7 @@ invariant-loop-at g l = (l.at.index ≤ length l.tokens)
     × IsCharBoundary l.text l.at.offset
     × (l.at.offset ≤ l.start)
     × ((old : List ℕ) (ts : List Token) → IsFront old ts (map g.T.Measured.bytes l.tokens) l.text l.start
-        → IsBound ts l.fn.near
+    → IsBound ts l.fn.near
     → IsBound ts l.at × (0 < l.at.index → has_two old l.at.offset l.start ≡ true))
 
 abbrev pub decreases-loop-at : goal.decreases-loop-at

@@ -17,7 +17,8 @@ loop-at-preserved g c =
           let test : c.loop-at.at.offset < c.args.target = c.if-at-target.true in
           let offset : c.loop-at.at.offset ≡ bound ts number = so.0.1 in
           let long = as_long g.T.Measured.bytes c.args.tokens.now ts are number _ _ c.len.ensures c.index-tokens-at.is
-              few in
-          ((omega (arith, many), omega (arith, long, offset, bound-next ts number no_token fewer)),
-              below_more _ _ so.1 (omega arith)),
+          few in (
+            (omega (arith, many), omega (arith, long, offset, bound-next ts number no_token fewer)),
+            below_more _ _ so.1 (omega arith),
+          ),
     )

@@ -7,7 +7,7 @@ invariant-loop-at g l = (l.at.index ≤ length l.tokens)
     × (l.fn.from.index ≤ l.at.index)
     × (l.at.offset < 2 ^ 63)
     × ((ts : List Token) → HasLengths ts (map g.T.Measured.bytes l.tokens) → IsBound ts l.fn.from
-        → ((k : ℕ) → k < l.fn.from.index → bound ts k < l.target)
+    → ((k : ℕ) → k < l.fn.from.index → bound ts k < l.target)
     → IsBound ts l.at × ((k : ℕ) → k < l.at.index → bound ts k < l.target))
 
 abbrev pub decreases-loop-at : goal.decreases-loop-at

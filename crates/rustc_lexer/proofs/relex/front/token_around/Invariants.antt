@@ -5,7 +5,7 @@ use Rattle.rustc_lexer.proofs.relex.front.token_around.Given as goal
 abbrev pub invariant-ahead : goal.invariant-ahead
 invariant-ahead g l = (l.left ≤ l.offset)
     × ((first : ℕ) (ts : List Token) → ArePlaced (map g.T.Measured.bytes l.tokens) first ts l.fn.near
-        → ArePlaced (map g.T.Measured.bytes l.tokens) first ts (record { index = l.index; offset = l.offset - l.left }))
+    → ArePlaced (map g.T.Measured.bytes l.tokens) first ts (record { index = l.index; offset = l.offset - l.left }))
 
 abbrev pub decreases-ahead : goal.decreases-ahead
 decreases-ahead g l = length l.tokens - l.index

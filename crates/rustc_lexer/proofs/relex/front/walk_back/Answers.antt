@@ -4,8 +4,12 @@ use Rattle.rustc_lexer.proofs.relex.front.walk_back.Goals as goal
 
 pub returns-then-near-tokens-clause-bound : goal.returns-then-near-tokens-clause-bound
 returns-then-near-tokens-clause-bound g c = λ first ts is.
-    absurd (omega (arith, is.number, as_many g.T.Measured.bytes c.args.tokens.now ts is.lengths_are,
-        c.if-near-tokens.true))
+    absurd (omega (
+      arith,
+      is.number,
+      as_many g.T.Measured.bytes c.args.tokens.now ts is.lengths_are,
+      c.if-near-tokens.true,
+    ))
 
 pub loop-at-preserved : goal.loop-at-preserved
 loop-at-preserved g c = (

@@ -5,7 +5,7 @@ use Rattle.rustc_lexer.proofs.relex.front.walk_back.Given as goal
 abbrev pub invariant-loop-at : goal.invariant-loop-at
 invariant-loop-at g l = (l.at.index ≤ length l.tokens)
     × ((first : ℕ) (ts : List Token) → ArePlaced (map g.T.Measured.bytes l.tokens) first ts l.fn.near
-        → ArePlaced (map g.T.Measured.bytes l.tokens) first ts l.at)
+    → ArePlaced (map g.T.Measured.bytes l.tokens) first ts l.at)
 
 abbrev pub decreases-loop-at : goal.decreases-loop-at
 decreases-loop-at g l = l.at.index

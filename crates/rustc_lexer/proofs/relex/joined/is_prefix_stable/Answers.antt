@@ -16,20 +16,20 @@ overflow_sub-at c =
 pub is_seam-requires-clause-boundary : goal.is_seam-requires-clause-boundary
 is_seam-requires-clause-boundary c =
     let its = near c.args.edition c.args.text.now c.args.sure c.args.at record
-        { utf8 = c.utf8.text; fits = c.requires.fits } c.requires.boundary
+    { utf8 = c.utf8.text; fits = c.requires.fits } c.requires.boundary
     c.requires.sure in
     let sum : c.args.sure + (c.args.at - c.args.sure) ≡ c.args.at = omega (arith, its.inside) in
     rw c.range_from.ensures.value (IsCharBoundary-from_drop _ (c.args.at - c.args.sure)
     (omega (arith, length-drop c.args.sure c.args.text.now, c.requires.boundary.0))
     (rw (drop-drop (c.args.at - c.args.sure) c.args.sure c.args.text.now, sum)
-        (IsUtf8-drop _ c.args.at c.utf8.text c.requires.boundary)))
+    (IsUtf8-drop _ c.args.at c.utf8.text c.requires.boundary)))
 
 pub returns : goal.returns
 returns c =
     let its = near c.args.edition c.args.text.now c.args.sure c.args.at record
-        { utf8 = c.utf8.text; fits = c.requires.fits } c.requires.boundary
+    { utf8 = c.utf8.text; fits = c.requires.fits } c.requires.boundary
     c.requires.sure in
     let sum : c.args.sure + (c.args.at - c.args.sure) ≡ c.args.at = omega (arith, its.inside) in
     let answer = rw (c.range_from.ensures.value, drop-drop (c.args.at - c.args.sure) c.args.sure c.args.text.now, sum)
-        at c.is_seam.ensures.touch in
+    at c.is_seam.ensures.touch in
     (λ t. its.touch.1 (answer.0 t), λ touch. answer.1 (its.touch.0 touch))

@@ -13,17 +13,17 @@ returns-then-ne-clause-touch c = (
       { utf8 = c.utf8.text; fits = c.requires.fits } c.requires.boundary
       c.loop-offset.offset c.loop-offset.invariant c.loop-offset-test.true _ _
       (rw c.range.ensures.value at c.token_in-alone.ensures.token)
-          (rw c.range_from.ensures.value at c.token_in-together.ensures.token)
+      (rw c.range_from.ensures.value at c.token_in-together.ensures.token)
       (λ e. true≢false (sym c.if-ne.true ∙ (c.ne.ensures ∙ ap not (token_same _ _ e)))) touch),
 )
 
 pub loop-offset-smaller : goal.loop-offset-smaller
 loop-offset-smaller c =
     let rises = seam_rises c.args.edition c.args.text.now c.args.at record
-        { utf8 = c.utf8.text; fits = c.requires.fits } c.requires.boundary
+    { utf8 = c.utf8.text; fits = c.requires.fits } c.requires.boundary
     c.loop-offset.offset c.loop-offset.invariant c.loop-offset-test.true _ _
     (rw c.range.ensures.value at c.token_in-alone.ensures.token)
-        (rw c.range_from.ensures.value at c.token_in-together.ensures.token) in
+    (rw c.range_from.ensures.value at c.token_in-together.ensures.token) in
     omega (arith, c.requires.boundary.0)
 
 pub loop-offset-preserved : goal.loop-offset-preserved
@@ -32,7 +32,7 @@ loop-offset-preserved c =
     c.requires.boundary
     c.loop-offset.offset c.loop-offset.invariant c.loop-offset-test.true _ _
     (rw c.range.ensures.value at c.token_in-alone.ensures.token)
-        (rw c.range_from.ensures.value at c.token_in-together.ensures.token)
+    (rw c.range_from.ensures.value at c.token_in-together.ensures.token)
     (same_token _ _ (not-false _ (sym c.ne.ensures ∙ c.if-ne.false)))
 
 pub returns-clause-touch : goal.returns-clause-touch

@@ -17,7 +17,7 @@ pub overflow_add-result : goal.overflow_add-result
 overflow_add-result c =
     let is : IsText c.args.text.now = record { utf8 = c.utf8.text; fits = c.requires.fits } in
     let sure = sure_on c.args.edition c.args.text.now c.args.sure c.settled_in.result is c.requires.sure
-        (rw c.range_from.ensures.value at c.settled_in.ensures.settled) in
+    (rw c.range_from.ensures.value at c.settled_in.ensures.settled) in
     omega (arith, (sure_place c.args.edition c.args.text.now (c.args.sure + c.settled_in.result) is sure).0, is.fits)
 
 pub returns : goal.returns

@@ -2,10 +2,9 @@ use Rattle.std.proofs.Common.{◌≡◌, ◌-◌, take, List, length, drop, refl
 use Rattle.std.proofs.lemmas.List.{length-map, take_rest}
 use Rattle.rustc_lexer.specs.{declared.relex.relexing.Relexed.{Relexed}, Token, Kept.{layout_in}}
 use Rattle.rustc_lexer.specs.Partition.{tokens_by, tokens_in}
-use Rattle.rustc_lexer.proofs.lemmas.edits.DocumentEdits.{
-    bounds_move, counted_are, counted_few, counted_refused, made_here, made_read, near_behind, new_are, new_behind,
-    old_behind, left_back, refused
-}
+use Rattle.rustc_lexer.proofs.lemmas.edits.DocumentEdits.{bounds_move, counted_are, counted_few, counted_refused}
+use Rattle.rustc_lexer.proofs.lemmas.edits.DocumentEdits.{made_here, made_read, near_behind, new_are, new_behind}
+use Rattle.rustc_lexer.proofs.lemmas.edits.DocumentEdits.{old_behind, left_back, refused}
 use Rattle.rustc_lexer.proofs.lemmas.edits.{FrontAndBack.{edited}, WholeEdits.{few_by, relexed_as, steps_by}}
 use Rattle.rustc_lexer.proofs.lemmas.edits.{ByLengths.{made_change}, UnderWay.{few_lexed}}
 use Rattle.rustc_lexer.proofs.lemmas.tokens.Progress.{same_first}
@@ -18,7 +17,7 @@ relex-requires-clause-is_text g c =
     let text = c.as_str-made.ensures.value in
     let change_is = rw (c.between-head.ensures.before, c.between-head.ensures.after) at c.body_change.ensures in
     let made = made_read law p text c.find_head-now.ensures.head c.between-head.ensures.keeps c.count.ensures
-        c.range_from.ensures.value
+    c.range_from.ensures.value
     change_is c.as_slice.ensures.value in
     (edited made.edit_of).text_is
 
@@ -29,7 +28,7 @@ relex-requires-clause-change g c =
     let text = c.as_str-made.ensures.value in
     let change_is = rw (c.between-head.ensures.before, c.between-head.ensures.after) at c.body_change.ensures in
     let made = made_read law p text c.find_head-now.ensures.head c.between-head.ensures.keeps c.count.ensures
-        c.range_from.ensures.value
+    c.range_from.ensures.value
     change_is c.as_slice.ensures.value in
     made_change made.edit_of
 
@@ -40,7 +39,7 @@ checkpoints-checkpoints-requires-clause-movable g c =
     let text = c.as_str-made.ensures.value in
     let change_is = rw (c.between-head.ensures.before, c.between-head.ensures.after) at c.body_change.ensures in
     let made = made_read law p text c.find_head-now.ensures.head c.between-head.ensures.keeps c.count.ensures
-        c.range_from.ensures.value
+    c.range_from.ensures.value
     change_is c.as_slice.ensures.value in
     let now_is = rw text at c.find_head-now.ensures.head in
     let l = rw (change_is, c.range_from.ensures.value, text) at
@@ -54,7 +53,7 @@ document_counts-requires-clause-front g c =
     let text = c.as_str-made.ensures.value in
     let change_is = rw (c.between-head.ensures.before, c.between-head.ensures.after) at c.body_change.ensures in
     let made = made_read law p text c.find_head-now.ensures.head c.between-head.ensures.keeps c.count.ensures
-        c.range_from.ensures.value
+    c.range_from.ensures.value
     change_is c.as_slice.ensures.value in
     let now_is = rw text at c.find_head-now.ensures.head in
     let l = rw (change_is, c.range_from.ensures.value, text) at
@@ -68,7 +67,7 @@ returns-clause-renewed g c before insert p =
     let text = c.as_str-made.ensures.value in
     let change_is = rw (c.between-head.ensures.before, c.between-head.ensures.after) at c.body_change.ensures in
     let made = made_read law p text c.find_head-now.ensures.head c.between-head.ensures.keeps c.count.ensures
-        c.range_from.ensures.value
+    c.range_from.ensures.value
     change_is c.as_slice.ensures.value in
     let now_is = rw text at c.find_head-now.ensures.head in
     let l = rw (change_is, c.range_from.ensures.value, text) at
@@ -81,10 +80,10 @@ returns-clause-renewed g c before insert p =
     let read = take_rest slice n ∙ (ap₂ drop c.count.ensures c.as_slice.ensures.value ∙ old_behind law p) in
     let size : length (take (length slice - n) (drop n slice))
     ≡ length (tokens_by (g.S.Stepper.grammar c.args.kept.now.stepper).first (drop c.args.kept.now.head.body before)) =
-        ap (λ (ts : List Token). length ts) read in
+    ap (λ (ts : List Token). length ts) read in
     let many = length-map
-        (tokens_by (g.S.Stepper.grammar c.args.kept.now.stepper).first (drop c.args.kept.now.head.body before))
-        (λ (t : Token). t.len) ∙ sym size in
+    (tokens_by (g.S.Stepper.grammar c.args.kept.now.stepper).first (drop c.args.kept.now.head.body before))
+    (λ (t : Token). t.len) ∙ sym size in
     let found = (c.counts-counts.ensures.exact _ _ _ _ _ _ law here many l.under_way l.met).0 in
     let counts = rw size at c.counts-counts.ensures.counts in
     let moved = bounds_move law p now_is stays l put in
@@ -114,8 +113,13 @@ returns-clause-renewed g c before insert p =
       },
       record {
         count = rw (sym p.edit_of.made, all)
-            (omega (arith, steps, ap (λ (x : Relexed). x.lexed) c.counts-counts.ensures.counts, l.lexed,
-                c.in_ok-lexed.ensures.count));
+            (omega (
+              arith,
+              steps,
+              ap (λ (x : Relexed). x.lexed) c.counts-counts.ensures.counts,
+              l.lexed,
+              c.in_ok-lexed.ensures.count,
+            ));
         rose = c.relex.ensures.rose;
         few = search rules;
       },
@@ -127,15 +131,18 @@ returns-in_err-lexed-clause-renewed g c before insert p =
     let text = c.as_str-made.ensures.value in
     let change_is = rw (c.between-head.ensures.before, c.between-head.ensures.after) at c.body_change.ensures in
     let made = made_read law p text c.find_head-now.ensures.head c.between-head.ensures.keeps c.count.ensures
-        c.range_from.ensures.value
+    c.range_from.ensures.value
     change_is c.as_slice.ensures.value in
     let relexed = rw (change_is, c.range_from.ensures.value, text) at
     (c.in_err-lexed.ensures.few _ _ made (near_behind law p c.nearest-near.ensures)) in
     let few = few_by law p.edit_of p.kept.2 (rw text at c.find_head-now.ensures.head) c.between-head.ensures.keeps _ _
-        relexed in
-    let back = left_back c.from_residual.result (string_bytes c.args.kept.now.text) before c.from_residual.ensures.0 in
-    (rw (back, c.relex.ensures.grammar) p.kept, refused c.from_residual.result c.from_residual.ensures.0 p.kept.1 back
-        refl, counted_refused c.from_residual.result c.from_residual.ensures.0 c.relex.ensures.rose few)
+    relexed in
+    let back = left_back c.from_residual.result (string_bytes c.args.kept.now.text) before c.from_residual.ensures.0 in (
+      rw (back, c.relex.ensures.grammar) p.kept,
+      refused c.from_residual.result c.from_residual.ensures.0 p.kept.1 back
+          refl,
+      counted_refused c.from_residual.result c.from_residual.ensures.0 c.relex.ensures.rose few,
+    )
 
 pub returns-in_err-put_into-clause-renewed : goal.returns-in_err-put_into-clause-renewed
 returns-in_err-put_into-clause-renewed g c before insert p =
@@ -143,17 +150,21 @@ returns-in_err-put_into-clause-renewed g c before insert p =
     let text = c.as_str-made.ensures.value in
     let change_is = rw (c.between-head.ensures.before, c.between-head.ensures.after) at c.body_change.ensures in
     let made = made_read law p text c.find_head-now.ensures.head c.between-head.ensures.keeps c.count.ensures
-        c.range_from.ensures.value
+    c.range_from.ensures.value
     change_is c.as_slice.ensures.value in
     let now_is = rw text at c.find_head-now.ensures.head in
     let l = rw (change_is, c.range_from.ensures.value, text) at
     (c.in_ok-lexed.ensures.lexed _ _ made (near_behind law p c.nearest-near.ensures)) in
     let few = few_by law p.edit_of p.kept.2 now_is c.between-head.ensures.keeps _ _
-    (λ x counts. omega
-        (arith, l.lexed, c.in_ok-lexed.ensures.count,
-        few_lexed law (made_here law p now_is c.between-head.ensures.keeps) l.under_way x counts)) in
+    (λ x counts. omega (
+      arith,
+      l.lexed,
+      c.in_ok-lexed.ensures.count,
+      few_lexed law (made_here law p now_is c.between-head.ensures.keeps) l.under_way x counts,
+    )) in
     let r = c.from_residual-in_err-put_into in
-    let back = left_back r.result (string_bytes c.args.kept.now.text) before r.ensures.0 in
-    (rw (back, c.relex.ensures.grammar, c.in_err-put_into.ensures.same) p.kept,
-        refused r.result r.ensures.0 p.kept.1 back c.in_err-put_into.ensures.same,
-        counted_refused r.result r.ensures.0 c.relex.ensures.rose few)
+    let back = left_back r.result (string_bytes c.args.kept.now.text) before r.ensures.0 in (
+      rw (back, c.relex.ensures.grammar, c.in_err-put_into.ensures.same) p.kept,
+      refused r.result r.ensures.0 p.kept.1 back c.in_err-put_into.ensures.same,
+      counted_refused r.result r.ensures.0 c.relex.ensures.rose few,
+    )

@@ -14,7 +14,7 @@ pub loop-offset-preserved : goal.loop-offset-preserved
 loop-offset-preserved g c =
     let is : IsText c.args.text.now = record { utf8 = c.utf8.text; fits = c.requires.fits } in
     let token = stepped c.args.text.now c.loop-offset.offset c.step-token.ensures.token
-        (same_first c.loop-offset.invariant.1) c.range_from.ensures.value in (
+    (same_first c.loop-offset.invariant.1) c.range_from.ensures.value in (
       sure_next (g.S.Stepper.law c.args.stepper.now) c.args.text.now is c.loop-offset.offset _ _
           c.loop-offset.invariant.0 c.loop-offset-test.true token refl
           (sym c.two_stand.ensures ∙ c.if-not-two_stand.false),
@@ -29,7 +29,7 @@ returns-after-loop-offset g c = sure_stop (g.S.Stepper.law c.args.stepper.now) c
 pub returns-then-not-two_stand : goal.returns-then-not-two_stand
 returns-then-not-two_stand g c =
     let token = stepped c.args.text.now c.loop-offset.offset c.step-token.ensures.token
-        (same_first c.loop-offset.invariant.1) c.range_from.ensures.value in
+    (same_first c.loop-offset.invariant.1) c.range_from.ensures.value in
     sure_stop (g.S.Stepper.law c.args.stepper.now) c.args.text.now
     (record { utf8 = c.utf8.text; fits = c.requires.fits }) c.loop-offset.offset c.loop-offset.invariant.0
     (λ more. rw (sym token) (sym c.two_stand.ensures ∙ c.if-not-two_stand.true))

@@ -6,4 +6,4 @@ pub returns : goal.returns
 returns g c =
     rw (← c.self.view_is, c.each-self-inside.ensures.same, c.copy-rest.ensures)
     (takes_error _ (λ s. s.mode) (λ s. s.found) (λ s t i more took. took) refl
-        (rw c.copy-rest.ensures at c.each-self-inside.ensures.runs))
+    (rw c.copy-rest.ensures at c.each-self-inside.ensures.runs))

@@ -8,9 +8,9 @@ use Rattle.rustc_literal_escaper.proofs.faults.Faults.new.Goals as goal
 pub returns-then-not-in_double_quotes : goal.returns-then-not-in_double_quotes
 returns-then-not-in_double_quotes c =
     let single : is_single c.args.mode ≡ true =
-        grind (arith, c.in_double_quotes.ensures, c.if-not-in_double_quotes.true) in
+    grind (arith, c.in_double_quotes.ensures, c.if-not-in_double_quotes.true) in
     let error : c.single_error.result ≡ single_error (place (length c.args.src.now)) c.args.mode
-        (chars c.args.src.now) = rw c.new.ensures at c.single_error.ensures in
+    (chars c.args.src.now) = rw c.new.ensures at c.single_error.ensures in
     rw single (ap option_to_list error ∙ sym (errors_of-single c.args.mode c.args.src.now c.utf8.src single))
 
 pub returns : goal.returns
@@ -18,6 +18,11 @@ returns c =
     let mode = c.args.mode in
     let double : is_single mode ≡ false = grind (arith, c.in_double_quotes.ensures, c.if-not-in_double_quotes.false) in
     let passes = rw c.is_raw-raw.ensures at c.skip_simple.ensures.passes in
-    rw (double, errors_of-items mode c.args.src.now double, c.of_text.ensures, c.skip_simple.ensures.total,
-        c.is_raw-raw.ensures)
+    rw (
+      double,
+      errors_of-items mode c.args.src.now double,
+      c.of_text.ensures,
+      c.skip_simple.ensures.total,
+      c.is_raw-raw.ensures,
+    )
     (simple_same mode (is_raw mode) (length c.args.src.now) (chars c.args.src.now) _ passes)

@@ -11,5 +11,5 @@ invariant_of-self c =
 pub returns-clause-left : goal.returns-clause-left
 returns-clause-left c =
     subst (λ (v : ℕ × List ℕ). MatchOption c.next.result ((v.1 ≡ []) × (chars (chars_rest c.next.new.self) ≡ []))
-        (λ d. v.1 ≡ d ∷ chars (chars_rest c.next.new.self))) c.self.view_is
+    (λ d. v.1 ≡ d ∷ chars (chars_rest c.next.new.self))) c.self.view_is
     (next_left c.self.inside.ahead c.next.new.self c.next.result c.self.invariant.0 c.next.ensures.steps).2

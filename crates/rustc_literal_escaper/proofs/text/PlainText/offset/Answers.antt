@@ -7,5 +7,5 @@ use Rattle.rustc_literal_escaper.proofs.text.PlainText.offset.Goals as goal
 pub returns : goal.returns
 returns c =
     ap (λ (xs : List ℕ). c.self.inside.total - length xs)
-        (c.as_str.ensures ∙ sym (encodes-chars (chars_rest c.self.inside.ahead) c.self.invariant.0))
+    (c.as_str.ensures ∙ sym (encodes-chars (chars_rest c.self.inside.ahead) c.self.invariant.0))
     ∙ ap (λ (v : ℕ × List ℕ). place v.0 v.1) c.self.view_is

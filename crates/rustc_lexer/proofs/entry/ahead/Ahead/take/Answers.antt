@@ -3,14 +3,11 @@ use Rattle.std.specs.ControlFlow.{continue_value}
 use lib.Count.{count_trailing_zeros}
 use Rattle.rustc_lexer.specs.means.Ends.{IsLowest, StaysWithin, classified}
 use Rattle.rustc_lexer.proofs.lemmas.tokens.Bits.{lowest_is}
-use Rattle.rustc_lexer.proofs.lemmas.tokens.RunEnds.{
-    TellsNext, classified_after, classified_ahead, classified_bound, classified_first, classified_inside,
-    classified_stays
-}
+use Rattle.rustc_lexer.proofs.lemmas.tokens.RunEnds.{TellsNext, classified_after, classified_ahead, classified_bound}
+use Rattle.rustc_lexer.proofs.lemmas.tokens.RunEnds.{classified_first, classified_inside, classified_stays}
 use Rattle.rustc_lexer.proofs.entry.ahead.Ahead.take.Goals as goal
-use Rattle.rustc_lexer.proofs.entry.ahead.Ahead.take.Goals.{
-    then-is_some-via-then-is_some, then-is_some-via-else-is_some+then-not-may_continue
-}
+use Rattle.rustc_lexer.proofs.entry.ahead.Ahead.take.Goals.{then-is_some-via-then-is_some}
+use Rattle.rustc_lexer.proofs.entry.ahead.Ahead.take.Goals.{then-is_some-via-else-is_some+then-not-may_continue}
 
 pub bounds-as_bytes-end : goal.bounds-as_bytes-end
 bounds-as_bytes-end c =
@@ -36,9 +33,9 @@ returns-then-is_some c =
     let lowest : IsLowest ends low = lowest_is ends (omega (arith, c.if-ends-ne0.true)) (omega arith) in
     let is = c.branch-kind.ensures ∙ ap continue_value c.in_ok-kind.is in
     let byte : get_or c.as_bytes.result.now (block + low) 0 ≡ get_or text (block + low) 0 =
-        ap (λ (xs : List ℕ). get_or xs (block + low) 0) c.as_bytes.ensures.value in
+    ap (λ (xs : List ℕ). get_or xs (block + low) 0) c.as_bytes.ensures.value in
     let stays : StaysWithin c.in_ok-kind.kind (get_or c.as_bytes.result.now (block + low) 0) =
-        elim c.then-is_some.branch [
+    elim c.then-is_some.branch [
       | then-is_some-via-then-is_some w ↦ classified_stays c.in_ok-kind.kind _
           (ap is_some (sym c.classified_by-classified.ensures) ∙ sym w.if-is_some.ensures)
       | then-is_some-via-else-is_some+then-not-may_continue w ↦ w.may_continue.ensures w.if-not-may_continue.true
@@ -54,8 +51,8 @@ returns-then-is_some c =
       stays = subst (StaysWithin c.in_ok-kind.kind) byte stays;
     } in
     let ahead = classified_ahead text at block ends low c.in_ok-kind.kind next c.past_lowest-self.result
-        (λ k le. c.past_lowest-self.ensures.gone low k lowest le)
-        (λ k l. c.past_lowest-self.ensures.others low k lowest l) in
+    (λ k le. c.past_lowest-self.ensures.gone low k lowest le)
+    (λ k l. c.past_lowest-self.ensures.others low k lowest l) in
     let after = classified_after text at block ends low c.in_ok-kind.kind next in
     record {
       utf8 = c.utf8.text;

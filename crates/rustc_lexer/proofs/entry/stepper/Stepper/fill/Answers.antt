@@ -19,12 +19,12 @@ places-preserved g c =
     let more : c.places.at < length text = omega arith in
     let buffer : c.places.written < length c.places.buffer = omega arith in
     let token : c.step-token.result ≡ first (drop c.places.at text) =
-        stepped text c.places.at c.step-token.ensures.token (same_first inv.grammar) c.range_from.ensures.value in
+    stepped text c.places.at c.step-token.ensures.token (same_first inv.grammar) c.range_from.ensures.value in
     record {
       written = one_written g.R.FromToken.written (tokens_by first text) _ c.args.buffer.now c.places.buffer
           c.places.written (first (drop c.places.at text)) inv.written
           (next_token law text is c.places.written c.places.at inv.offset more) buffer c.from_token.result
-              (c.from_token.ensures ∙ ap g.R.FromToken.written token);
+          (c.from_token.ensures ∙ ap g.R.FromToken.written token);
       begun = begun_more (tokens_by first text) c.places.written c.places.at c.args.end inv.offset
           (omega arith) inv.begun;
       offset = ap (λ (t : Token). c.places.at + t.len) token

@@ -4,27 +4,26 @@ use Rattle.rustc_lexer.specs.{Edition, Token, Classes.{IsText}, Tokens.{bound, t
 use Rattle.rustc_lexer.specs.{laws.Edition.{edition_grammar}, means.Edition.{first_token_in}, State.{State}}
 use Rattle.rustc_lexer.proofs.lemmas.tokens.Buffers.{filled_more, IsFilling, some_left, stands, written_to}
 use Rattle.rustc_lexer.proofs.entry.stepper.StepsStepper.fill.Goals as goal
-use Rattle.rustc_lexer.proofs.entry.stepper.StepsStepper.fill.Goals.{
-    then-places-test+else-left-past_end, else-places-test,
-    then-places-test+then-left-past_end+in_default+in_default-next
-}
+use Rattle.rustc_lexer.proofs.entry.stepper.StepsStepper.fill.Goals.{then-places-test+else-left-past_end}
+use Rattle.rustc_lexer.proofs.entry.stepper.StepsStepper.fill.Goals.{else-places-test}
+use Rattle.rustc_lexer.proofs.entry.stepper.StepsStepper.fill.Goals.{then-places-test+then-left-past_end+in_default+in_default-next}
 
 pub places-preserved-in-Some : goal.places-preserved-in-Some
 places-preserved-in-Some g c =
     filled_more g.R.FromToken.written _ c.args.text.now c.args.end c.args.buffer.now c.places.buffer c.places.count _ _
-        c.in-Some.token _ record { utf8 = c.utf8.text; fits = c.requires.fits } c.requires.inside c.places.invariant
-        (omega arith) (omega arith) c.in-Some.ensures c.from_token.ensures
+    c.in-Some.token _ record { utf8 = c.utf8.text; fits = c.requires.fits } c.requires.inside c.places.invariant
+    (omega arith) (omega arith) c.in-Some.ensures c.from_token.ensures
 
 pub places-preserved : goal.places-preserved
 places-preserved g c =
     let same : State = c.next_classified.new.self in
     let here = subst
-        (λ (s : State). IsFilling g.R.FromToken.written c.args.self.now.edition c.args.text.now c.args.end
-        c.args.buffer.now c.places.buffer c.places.count s) (sym c.in_default.ensures) c.places.invariant in
+    (λ (s : State). IsFilling g.R.FromToken.written c.args.self.now.edition c.args.text.now c.args.end
+    c.args.buffer.now c.places.buffer c.places.count s) (sym c.in_default.ensures) c.places.invariant in
     filled_more g.R.FromToken.written _ c.args.text.now c.args.end c.args.buffer.now c.places.buffer c.places.count same
-        _ c.in-Some-next.token _ record { utf8 = c.utf8.text; fits = c.requires.fits } c.requires.inside here
-        (omega (arith, ap (λ (s : State). length s.rest) c.in_default.ensures))
-        (omega arith) c.in-Some-next.ensures.steps c.from_token-in-places.ensures
+    _ c.in-Some-next.token _ record { utf8 = c.utf8.text; fits = c.requires.fits } c.requires.inside here
+    (omega (arith, ap (λ (s : State). length s.rest) c.in_default.ensures))
+    (omega arith) c.in-Some-next.ensures.steps c.from_token-in-places.ensures
 
 pub returns-clause-filled : goal.returns-clause-filled
 returns-clause-filled g c =
@@ -43,14 +42,14 @@ returns-clause-filled g c =
       | else-places-test w ↦ λ more. absurd (omega arith)
       | then-places-test+then-left-past_end+in_default+in_default-next w ↦
           let some = some_left edition (drop at text) offset.past w.next_classified.new.self
-              (ap (λ (s : State). s.mode) w.in_default.ensures ∙ inv.mode)
-              (ap (λ (s : State). s.rest) w.in_default.ensures ∙ inv.rest)
-              (omega (arith, left, length-drop at text, w.left.ensures, w.if-left-past_end.true)) in
+          (ap (λ (s : State). s.mode) w.in_default.ensures ∙ inv.mode)
+          (ap (λ (s : State). s.rest) w.in_default.ensures ∙ inv.rest)
+          (omega (arith, left, length-drop at text, w.left.ensures, w.if-left-past_end.true)) in
           let none = ap (λ (ts : List Token). length ts) w.in_default-next.ensures.steps.0 in
           λ more. absurd (omega (arith, some, none))
     ] in
     written_to g.R.FromToken.written c.args.end (tokens_by first text) c.args.buffer.now c.places.buffer count
-        inv.written inv.begun done
+    inv.written inv.begun done
 
 pub returns-clause-bytes : goal.returns-clause-bytes
 returns-clause-bytes g c = grind (arith, common_steps, rules, stands, edition_grammar, else-places-test, length-drop)

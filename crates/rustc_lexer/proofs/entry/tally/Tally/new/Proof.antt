@@ -1,9 +1,9 @@
 -- `new` makes a value of no bytes, whose count is 0.
-use Rattle.rustc_lexer.proofs.lemmas.tokens.TallyWalk.{
-    [], ◌∷◌, refl, proved, Fml, ftrue, Val, vstruct, vcons, vnil, ‵, ◌⊛◌, ◌$◌, ◌∵◌, !, qed, done, keep, use0, suffices,
-    enter, no_more, and_then, returns, alloc_all, pass_all, free_all, look_at, get, sets, agg, makes_shadow, type_at,
-    nothing, Stays, says, ends_at
-}
+use Rattle.rustc_lexer.proofs.lemmas.tokens.TallyWalk.{[], ◌∷◌, refl, proved, Fml, ftrue, Val, vstruct, vcons, vnil, ‵}
+use Rattle.rustc_lexer.proofs.lemmas.tokens.TallyWalk.{◌⊛◌, ◌$◌, ◌∵◌, !, qed, done, keep, use0, suffices, enter}
+use Rattle.rustc_lexer.proofs.lemmas.tokens.TallyWalk.{no_more, and_then, returns, alloc_all, pass_all, free_all}
+use Rattle.rustc_lexer.proofs.lemmas.tokens.TallyWalk.{look_at, get, sets, agg, makes_shadow, type_at, nothing, Stays}
+use Rattle.rustc_lexer.proofs.lemmas.tokens.TallyWalk.{says, ends_at}
 use Rattle.rustc_lexer.specs.contracts.entry.tally.Tally.new as f
 use Rattle.rustc_lexer.proofs.entry.tally.Tally.new.Statement.{statement}
 use Rattle.rustc_lexer.proofs.entry.tally.Tally.new.Code as code
@@ -23,9 +23,9 @@ new_spec 𝓤 𝓛 𝓜 𝓡 wired =
     qed 𝓛 ((‵ ftrue ⊛ ‵ ftrue) ∷ ‵ ftrue ∷ []) ∵ keep ! [] $
     enter ! _ _ _ _ _ $ alloc_all ! (λ l. pass_all ! refl tt $
     sets ! (agg ! (no_more !)) refl (tt, tt) $ sets ! (agg ! (and_then ! (get ! refl) (no_more !))) refl
-        (tt, (tt, tt)) $
+    (tt, (tt, tt)) $
     returns ! (look_at ! 0 refl) $ free_all ! refl $
     use0 𝓛 (‵ O) (makes_shadow 𝓛 O ((λ vss. (tt, ((λ uss. (tt, tt)), tt))), tt)
-        (((vstruct vnil ∷ [], tt), (refl, ((tt, (refl, tt)), tt))), tt)) $
+    (((vstruct vnil ∷ [], tt), (refl, ((tt, (refl, tt)), tt))), tt)) $
     suffices ! _ (ends_at 𝓛 f.ended stayed c ((κs, qs, bounds, a, tt), tt) v r tt tt) $ says ! refl $
     nothing ! $ nothing ! $ done !))

@@ -7,4 +7,4 @@ abbrev pub invariant-loop-bound : goal.invariant-loop-bound
 invariant-loop-bound l = (l.last.index ≤ l.number)
     × ((tokens : List Token) → AreBounds tokens l.self → IsBound tokens l.last)
     × ((k : ℕ) (d : TokenStart) → k < l.bound-index → (get_or l.self.bounds k d).index ≤ l.number
-        → (get_or l.self.bounds k d).index ≤ l.last.index)
+    → (get_or l.self.bounds k d).index ≤ l.last.index)

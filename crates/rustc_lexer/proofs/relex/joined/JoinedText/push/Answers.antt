@@ -8,18 +8,18 @@ use Rattle.rustc_lexer.proofs.relex.joined.JoinedText.push.Goals as goal
 pub returns-then-not-append_separated-clause-closed : goal.returns-then-not-append_separated-clause-closed
 returns-then-not-append_separated-clause-closed c =
     let apart : AreInseparable c.self.inside.edition (string_bytes c.self.inside.text) c.args.piece.now =
-        subst (λ (text : List ℕ). AreInseparable c.self.inside.edition text c.args.piece.now) c.reserve.ensures.bytes
-        (c.append_separated.ensures.apart c.if-not-append_separated.true) in
+    subst (λ (text : List ℕ). AreInseparable c.self.inside.edition text c.args.piece.now) c.reserve.ensures.bytes
+    (c.append_separated.ensures.apart c.if-not-append_separated.true) in
     λ e. subst (λ (j : Joined). AreWellFormed (tokens_of (part j.edition) j.text)
-        → RunsOn (tokens_of (part j.edition) j.text) (chars c.args.piece.now)) c.self.view_is
+    → RunsOn (tokens_of (part j.edition) j.text) (chars c.args.piece.now)) c.self.view_is
     (λ closed. runs-on c.self.inside.edition (string_bytes c.self.inside.text) c.args.piece.now c.self.invariant.0
-        c.utf8.piece (omega arith) closed apart)
+    c.utf8.piece (omega arith) closed apart)
 
 pub sure_later-self-inside-requires : goal.sure_later-self-inside-requires
 sure_later-self-inside-requires c =
     let joined = rw c.reserve.ensures.bytes at (c.append_separated.ensures.joined c.if-not-append_separated.false) in
     let g = grown c.self.inside.edition c.self.inside.sure joined c.self.invariant.0 c.self.invariant.1 (omega arith)
-        (IsUtf8-string_bytes c.append_separated.new.text) in
+    (IsUtf8-string_bytes c.append_separated.new.text) in
     let value = c.as_str-text.ensures.value in
     record {
       fits = rw value g.0.fits;
@@ -31,7 +31,7 @@ pub invariant_of-self-2 : goal.invariant_of-self-2
 invariant_of-self-2 c =
     let g = grown c.self.inside.edition c.self.inside.sure (rw c.reserve.ensures.bytes at
     (c.append_separated.ensures.joined c.if-not-append_separated.false)) c.self.invariant.0 c.self.invariant.1
-        (omega arith)
+    (omega arith)
     (IsUtf8-string_bytes c.append_separated.new.text) in (
       g.0,
       subst (λ (xs : List ℕ). IsSure (first_in c.self.inside.edition) xs c.sure_later-self-inside.result)

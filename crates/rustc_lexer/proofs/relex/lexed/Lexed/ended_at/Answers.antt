@@ -13,21 +13,33 @@ returns-in-Some-clause-others g c =
 pub returns-in-None-clause-ended : goal.returns-in-None-clause-ended
 returns-in-None-clause-ended g c = λ k less.
     let past = none_past c.in-None.ensures.some refl
-        (omega (arith, c.if-offset-self.false, start_seen (g.S.Stepper.law c.self.inside.kept.stepper) g.E.Extent.whole
-        (string_bytes c.self.inside.kept.text) c.self.inside.kept.tokens.items c.self.inside.kept.head
-        c.self.inside.kept.checkpoints c.self.invariant c.args.self.now (ap (λ h. h.text) c.self.view_is)
-        (ap (λ h. h.tokens) c.self.view_is))) in
+    (omega (
+      arith,
+      c.if-offset-self.false,
+      start_seen (g.S.Stepper.law c.self.inside.kept.stepper) g.E.Extent.whole
+          (string_bytes c.self.inside.kept.text) c.self.inside.kept.tokens.items c.self.inside.kept.head
+          c.self.inside.kept.checkpoints c.self.invariant c.args.self.now (ap (λ h. h.text) c.self.view_is)
+          (ap (λ h. h.tokens) c.self.view_is),
+    )) in
     let most = bound_mono c.args.self.now.tokens (k + 1) (length c.args.self.now.tokens)
-        (omega (arith, less, c.len.ensures, ap (λ h. length h.tokens) c.self.view_is)) in
-    omega (arith, past, most, end_seen (g.S.Stepper.law c.self.inside.kept.stepper) g.E.Extent.whole
-        (string_bytes c.self.inside.kept.text) c.self.inside.kept.tokens.items c.self.inside.kept.head
-        c.self.inside.kept.checkpoints c.self.invariant c.args.self.now (ap (λ h. h.text) c.self.view_is)
-        (ap (λ h. h.tokens) c.self.view_is))
+    (omega (arith, less, c.len.ensures, ap (λ h. length h.tokens) c.self.view_is)) in
+    omega (
+      arith,
+      past,
+      most,
+      end_seen (g.S.Stepper.law c.self.inside.kept.stepper) g.E.Extent.whole
+          (string_bytes c.self.inside.kept.text) c.self.inside.kept.tokens.items c.self.inside.kept.head
+          c.self.inside.kept.checkpoints c.self.invariant c.args.self.now (ap (λ h. h.text) c.self.view_is)
+          (ap (λ h. h.tokens) c.self.view_is),
+    )
 
 pub returns-then-offset-self-clause-others : goal.returns-then-offset-self-clause-others
 returns-then-offset-self-clause-others g c =
-    λ k from few. omega
-    (arith, c.if-offset-self.true, start_seen (g.S.Stepper.law c.self.inside.kept.stepper) g.E.Extent.whole
-    (string_bytes c.self.inside.kept.text) c.self.inside.kept.tokens.items c.self.inside.kept.head
-    c.self.inside.kept.checkpoints c.self.invariant c.args.self.now (ap (λ h. h.text) c.self.view_is)
-    (ap (λ h. h.tokens) c.self.view_is))
+    λ k from few. omega (
+      arith,
+      c.if-offset-self.true,
+      start_seen (g.S.Stepper.law c.self.inside.kept.stepper) g.E.Extent.whole
+          (string_bytes c.self.inside.kept.text) c.self.inside.kept.tokens.items c.self.inside.kept.head
+          c.self.inside.kept.checkpoints c.self.invariant c.args.self.now (ap (λ h. h.text) c.self.view_is)
+          (ap (λ h. h.tokens) c.self.view_is),
+    )

@@ -8,9 +8,12 @@ overflow_cast-start g c = grind (arith, common_steps, fits_seen)
 
 pub overflow_cast-end : goal.overflow_cast-end
 overflow_cast-end g c =
-    omega (arith, ap length c.as_str-text.ensures.value,
-    (kept_cuts (g.S.Stepper.law c.self.inside.kept.stepper) (string_bytes c.self.inside.kept.text)
-    c.self.inside.kept.tokens.items c.self.inside.kept.head c.self.inside.kept.checkpoints c.self.invariant).0)
+    omega (
+      arith,
+      ap length c.as_str-text.ensures.value,
+      (kept_cuts (g.S.Stepper.law c.self.inside.kept.stepper) (string_bytes c.self.inside.kept.text)
+          c.self.inside.kept.tokens.items c.self.inside.kept.head c.self.inside.kept.checkpoints c.self.invariant).0,
+    )
 
 pub invariant_of-pieces : goal.invariant_of-pieces
 invariant_of-pieces g c =
@@ -18,24 +21,24 @@ invariant_of-pieces g c =
     let text = c.as_str-text.ensures.value ∙ ap (λ h. h.text) c.self.view_is in
     let tokens = c.as_slice.ensures.value ∙ ap (λ h. h.tokens) c.self.view_is in
     let all = cut_seen (g.S.Stepper.law c.self.inside.kept.stepper) g.E.Extent.whole
-        (string_bytes c.self.inside.kept.text) c.self.inside.kept.tokens.items c.self.inside.kept.head
-        c.self.inside.kept.checkpoints c.self.invariant c.args.self.now (ap (λ h. h.text) c.self.view_is)
-        (ap (λ h. h.tokens) c.self.view_is) in
+    (string_bytes c.self.inside.kept.text) c.self.inside.kept.tokens.items c.self.inside.kept.head
+    c.self.inside.kept.checkpoints c.self.invariant c.args.self.now (ap (λ h. h.text) c.self.view_is)
+    (ap (λ h. h.tokens) c.self.view_is) in
     rw (text, tokens)
-        (cut_part _ _ _ _ _ _ c.in_ok-at.at.index (length c.args.self.now.tokens) (omega (arith, is.number))
-        (omega arith) is.start all.2 all)
+    (cut_part _ _ _ _ _ _ c.in_ok-at.at.index (length c.args.self.now.tokens) (omega (arith, is.number))
+    (omega arith) is.start all.2 all)
 
 pub returns-clause-piece : goal.returns-clause-piece
 returns-clause-piece g c =
     let text = c.as_str-text.ensures.value ∙ ap (λ h. h.text) c.self.view_is in
     let tokens = c.as_slice.ensures.value ∙ ap (λ h. h.tokens) c.self.view_is in
     piece_is c.next.result c.args.self.now.text _ c.args.offset c.args.self.now.tokens c.in_ok-at.at _
-        c.in_ok-at.ensures.token (rw (text, tokens) at c.next.ensures.steps)
+    c.in_ok-at.ensures.token (rw (text, tokens) at c.next.ensures.steps)
 
 pub returns-clause-some : goal.returns-clause-some
 returns-clause-some g c =
     let text = c.as_str-text.ensures.value ∙ ap (λ h. h.text) c.self.view_is in
     let tokens = c.as_slice.ensures.value ∙ ap (λ h. h.tokens) c.self.view_is in
     let some = piece_some c.next.result c.args.self.now.text _ c.args.offset c.args.self.now.tokens c.in_ok-at.at _
-        c.in_ok-at.ensures.token (rw (text, tokens) at c.next.ensures.steps) in
+    c.in_ok-at.ensures.token (rw (text, tokens) at c.next.ensures.steps) in
     (λ answered. c.in_ok-at.ensures.some.0 refl, λ inside. some)

@@ -6,15 +6,21 @@ use Rattle.rustc_lexer.proofs.relex.lexed.Lexed.pieces.Goals as goal
 
 pub overflow_cast-start : goal.overflow_cast-start
 overflow_cast-start g c =
-    omega (arith, offset_fits (g.S.Stepper.law c.self.inside.kept.stepper) (string_bytes c.self.inside.kept.text)
-    c.self.inside.kept.tokens.items c.self.inside.kept.head c.self.inside.kept.checkpoints c.self.invariant 0
-    (omega arith))
+    omega (
+      arith,
+      offset_fits (g.S.Stepper.law c.self.inside.kept.stepper) (string_bytes c.self.inside.kept.text)
+          c.self.inside.kept.tokens.items c.self.inside.kept.head c.self.inside.kept.checkpoints c.self.invariant 0
+          (omega arith),
+    )
 
 pub overflow_cast-end : goal.overflow_cast-end
 overflow_cast-end g c =
-    omega (arith, ap length c.as_str-text.ensures.value,
-    (kept_cuts (g.S.Stepper.law c.self.inside.kept.stepper) (string_bytes c.self.inside.kept.text)
-    c.self.inside.kept.tokens.items c.self.inside.kept.head c.self.inside.kept.checkpoints c.self.invariant).0)
+    omega (
+      arith,
+      ap length c.as_str-text.ensures.value,
+      (kept_cuts (g.S.Stepper.law c.self.inside.kept.stepper) (string_bytes c.self.inside.kept.text)
+          c.self.inside.kept.tokens.items c.self.inside.kept.head c.self.inside.kept.checkpoints c.self.invariant).0,
+    )
 
 pub invariant_of-result : goal.invariant_of-result
 invariant_of-result g c =

@@ -12,11 +12,11 @@ invariant_of-result g c =
     let text = c.as_str.ensures.value ∙ ap (λ h. h.text) c.self.view_is in
     let tokens = c.as_slice.ensures.value ∙ ap (λ h. h.tokens) c.self.view_is in
     rw (text, tokens)
-        (cut_part _ _ _ _ _ _ c.args.from c.args.to c.requires.from_le_to c.requires.to_inside c.offset_of-start.ensures
-        c.offset_of-end.ensures
-        (cut_seen (g.S.Stepper.law c.self.inside.kept.stepper) g.E.Extent.whole (string_bytes c.self.inside.kept.text)
-        c.self.inside.kept.tokens.items c.self.inside.kept.head c.self.inside.kept.checkpoints c.self.invariant
-        c.args.self.now (ap (λ h. h.text) c.self.view_is) (ap (λ h. h.tokens) c.self.view_is)))
+    (cut_part _ _ _ _ _ _ c.args.from c.args.to c.requires.from_le_to c.requires.to_inside c.offset_of-start.ensures
+    c.offset_of-end.ensures
+    (cut_seen (g.S.Stepper.law c.self.inside.kept.stepper) g.E.Extent.whole (string_bytes c.self.inside.kept.text)
+    c.self.inside.kept.tokens.items c.self.inside.kept.head c.self.inside.kept.checkpoints c.self.invariant
+    c.args.self.now (ap (λ h. h.text) c.self.view_is) (ap (λ h. h.tokens) c.self.view_is)))
 
 pub returns : goal.returns
 returns g c = grind (arith, common_steps, rules, pieces-part, length-drop, length-pieces, length-take-le)

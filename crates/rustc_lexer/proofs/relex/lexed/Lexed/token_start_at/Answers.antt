@@ -8,19 +8,19 @@ returns g c =
     let read = c.as_slice.ensures.value ∙ ap (λ h. h.tokens) c.self.view_is in
     let near = c.bound_near-near.ensures in
     let placed : ArePlaced (map (λ (t : Token). t.len) c.args.self.now.tokens)
-        (start_in g.E.Extent.whole c.args.self.now.text) c.args.self.now.tokens c.bound_near-near.result =
+    (start_in g.E.Extent.whole c.args.self.now.text) c.args.self.now.tokens c.bound_near-near.result =
     record { lengths_are = refl; number = near.0; offset = near.1 } in
     let token = if_some c.args.offset c.token_around.result (rw read at c.token_around.ensures.token) placed in
     record {
       token = token;
       some = answered c.token_around.result _ c.args.self.now.tokens c.args.offset (length c.args.self.now.text)
           (end_seen (g.S.Stepper.law c.self.inside.kept.stepper) g.E.Extent.whole (string_bytes c.self.inside.kept.text)
-              c.self.inside.kept.tokens.items c.self.inside.kept.head c.self.inside.kept.checkpoints c.self.invariant
-              c.args.self.now (ap (λ h. h.text) c.self.view_is) (ap (λ h. h.tokens) c.self.view_is))
+          c.self.inside.kept.tokens.items c.self.inside.kept.head c.self.inside.kept.checkpoints c.self.invariant
+          c.args.self.now (ap (λ h. h.text) c.self.view_is) (ap (λ h. h.tokens) c.self.view_is))
           token (λ none le. rw
-              (end_seen (g.S.Stepper.law c.self.inside.kept.stepper) g.E.Extent.whole
-              (string_bytes c.self.inside.kept.text) c.self.inside.kept.tokens.items c.self.inside.kept.head
-              c.self.inside.kept.checkpoints c.self.invariant c.args.self.now (ap (λ h. h.text) c.self.view_is)
-              (ap (λ h. h.tokens) c.self.view_is)) at
-              (rw read at c.token_around.ensures.none none _ c.args.self.now.tokens placed le));
+          (end_seen (g.S.Stepper.law c.self.inside.kept.stepper) g.E.Extent.whole
+          (string_bytes c.self.inside.kept.text) c.self.inside.kept.tokens.items c.self.inside.kept.head
+          c.self.inside.kept.checkpoints c.self.invariant c.args.self.now (ap (λ h. h.text) c.self.view_is)
+          (ap (λ h. h.tokens) c.self.view_is)) at
+          (rw read at c.token_around.ensures.none none _ c.args.self.now.tokens placed le));
     }

@@ -2,16 +2,13 @@ use Rattle.std.proofs.{Common.{◌≤◌, ◌+◌, List, get_or, take, take_all,
 use Rattle.std.proofs.lemmas.List.{take_more}
 use Rattle.rustc_lexer.specs.declared.relex.edit.Edit.{Edit}
 use Rattle.std.proofs.lemmas.Str.{IsCharBoundary-start, IsUtf8-nil}
-use Rattle.rustc_lexer.proofs.lemmas.edits.AtOnce.{
-    at_once_short, at_once_valid, first_start, insert_end, insert_utf8, made-last, order-last, order-take, some_are,
-    stop-last
-}
+use Rattle.rustc_lexer.proofs.lemmas.edits.AtOnce.{at_once_short, at_once_valid, first_start, insert_end, insert_utf8}
+use Rattle.rustc_lexer.proofs.lemmas.edits.AtOnce.{made-last, order-last, order-take, some_are, stop-last}
 use Rattle.rustc_lexer.proofs.lemmas.edits.Lists.{none}
 use Rattle.rustc_lexer.specs.Edits.{AreInOrder}
 use Rattle.rustc_lexer.proofs.relex.lexed.at_once.change_of.Goals as goal
-use Rattle.rustc_lexer.proofs.relex.lexed.at_once.change_of.Goals.{
-    then-edit-change-via-then-edit-change, then-edit-change-via-else-edit-change+then-not-contains_range
-}
+use Rattle.rustc_lexer.proofs.relex.lexed.at_once.change_of.Goals.{then-edit-change-via-then-edit-change}
+use Rattle.rustc_lexer.proofs.relex.lexed.at_once.change_of.Goals.{then-edit-change-via-else-edit-change+then-not-contains_range}
 
 pub loop-at-init : goal.loop-at-init
 loop-at-init c = grind (arith, common_steps, IsUtf8-nil, first_start, IsCharBoundary-start)
@@ -23,13 +20,14 @@ returns-then-edit-change-clause-stop c =
     (order-last c.args.text.now 0 (take c.loop-at.at c.args.edits.now) (get_or c.args.edits.now c.loop-at.at none)).0
     (rw (take_more c.args.edits.now c.loop-at.at none c.loop-at-test.true) at all) in
     let not : AreInOrder c.args.text.now 0 (take (c.loop-at.at + 1) c.args.edits.now) → ⊥ =
-        λ all. elim c.then-edit-change.branch [
+    λ all. elim c.then-edit-change.branch [
       | then-edit-change-via-then-edit-change w ↦ omega (arith, w.if-edit-change.true, (next all).1, is.3)
       | then-edit-change-via-else-edit-change+then-not-contains_range w ↦
           grind (arith, common_steps, w.contains_range.ensures, w.if-not-contains_range.true, (next all).2)
-    ] in
-    ((c.loop-at-test.true, is.0, not),
-        λ are. not (order-take c.args.text.now 0 c.args.edits.now (c.loop-at.at + 1) are.0))
+    ] in (
+      (c.loop-at-test.true, is.0, not),
+      λ are. not (order-take c.args.text.now 0 c.args.edits.now (c.loop-at.at + 1) are.0),
+    )
 
 pub loop-at-preserved : goal.loop-at-preserved
 loop-at-preserved c =
@@ -39,7 +37,7 @@ loop-at-preserved c =
     let made : List Edit = take c.loop-at.at c.args.edits.now in
     let after : c.loop-at.change.old_stop ≤ edit.start = omega (arith, c.if-edit-change.false) in
     let more = made-last c.args.text.now made edit _ _ _ c.utf8.text is.1 is.3 is.4 is.5 after inside
-        c.saturating_len.ensures.utf8 c.saturating_len.ensures.sum in
+    c.saturating_len.ensures.utf8 c.saturating_len.ensures.sum in
     rw (take_more c.args.edits.now c.loop-at.at none c.loop-at-test.true) (
       (order-last c.args.text.now 0 made edit).1 (is.0, omega (arith, is.3, after), inside),
       more.0,

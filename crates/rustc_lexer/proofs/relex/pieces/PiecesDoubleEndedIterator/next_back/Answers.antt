@@ -10,7 +10,7 @@ overflow_sub-start c =
 pub range-requires : goal.range-requires
 range-requires c =
     let front = cut_front c.self.inside.text.now c.self.inside.start c.self.inside.end _ _ _
-        c.in_ok-token.ensures.cases.0 c.self.invariant in
+    c.in_ok-token.ensures.cases.0 c.self.invariant in
     record {
       start_le_end = omega arith;
       start_boundary = λ some. (cut_edges c.self.inside.text.now c.self.inside.start _ _ front.1).1;
@@ -25,14 +25,16 @@ invariant_of-self c =
 pub returns-clause-steps : goal.returns-clause-steps
 returns-clause-steps c =
     let last = last_piece c.self.inside.text.now c.self.inside.start c.self.inside.end _ _ _
-        c.in_ok-token.ensures.cases.0 c.self.invariant in
+    c.in_ok-token.ensures.cases.0 c.self.invariant in
     let front = cut_front c.self.inside.text.now c.self.inside.start c.self.inside.end _ _ _
-        c.in_ok-token.ensures.cases.0 c.self.invariant in
-    (rw (c.range.ensures.value) (sym c.self.view_is ∙ last), omega (arith, c.range.ensures.len, front.0),
-        omega (arith, front.0))
+    c.in_ok-token.ensures.cases.0 c.self.invariant in (
+      rw (c.range.ensures.value) (sym c.self.view_is ∙ last),
+      omega (arith, c.range.ensures.len, front.0),
+      omega (arith, front.0),
+    )
 
 pub returns-clause-goes : goal.returns-clause-goes
 returns-clause-goes c =
     let last = last_piece c.self.inside.text.now c.self.inside.start c.self.inside.end _ _ _
-        c.in_ok-token.ensures.cases.0 c.self.invariant in
+    c.in_ok-token.ensures.cases.0 c.self.invariant in
     grind (arith, common_steps, length-append)

@@ -8,7 +8,7 @@ overflow_add-end c = grind (arith, common_steps, cut_tail, cut_edges)
 pub range-requires : goal.range-requires
 range-requires c =
     let tail = cut_tail c.self.inside.text.now c.self.inside.start c.self.inside.end _ _ _ c.in_ok-token.ensures.cases.0
-        c.self.invariant in
+    c.self.invariant in
     record {
       start_le_end = omega arith;
       start_boundary =

@@ -18,8 +18,8 @@ pub overflow_add-at : goal.overflow_add-at
 overflow_add-at g c =
     let is : IsText c.args.edited.now.text.now = c.requires.is_text in
     let inside = block_inside (g.S.Stepper.law c.args.stepper.now) c.args.edited.now.text.now c.range_from.result.now is
-        c.args.self.now.at c.requires.may_go_on.boundary c.range_from.ensures.value _ _ c.fill-count.ensures.filled.few
-        c.fill-count.ensures.bytes in
+    c.args.self.now.at c.requires.may_go_on.boundary c.range_from.ensures.value _ _ c.fill-count.ensures.filled.few
+    c.fill-count.ensures.bytes in
     omega (arith, inside)
 
 pub overflow_add-self : goal.overflow_add-self
@@ -27,11 +27,11 @@ overflow_add-self g c =
     let is : IsText c.args.edited.now.text.now = c.requires.is_text in
     let law = g.S.Stepper.law c.args.stepper.now in
     let inside = block_inside law c.args.edited.now.text.now c.range_from.result.now is c.args.self.now.at
-        c.requires.may_go_on.boundary c.range_from.ensures.value _ _ c.fill-count.ensures.filled.few
-        c.fill-count.ensures.bytes in
+    c.requires.may_go_on.boundary c.range_from.ensures.value _ _ c.fill-count.ensures.filled.few
+    c.fill-count.ensures.bytes in
     let fewer = block_count law c.args.edited.now.text.now c.range_from.result.now is c.args.self.now.at
-        c.requires.may_go_on.boundary c.range_from.ensures.value _ _ c.fill-count.ensures.filled.few
-        c.fill-count.ensures.bytes in
+    c.requires.may_go_on.boundary c.range_from.ensures.value _ _ c.fill-count.ensures.filled.few
+    c.fill-count.ensures.bytes in
     let few = c.requires.may_go_on.few in
     omega (arith, inside, fewer, few)
 
@@ -39,8 +39,8 @@ pub follow-to-requires-clause-offset_fits : goal.follow-to-requires-clause-offse
 follow-to-requires-clause-offset_fits g c =
     let is : IsText c.args.edited.now.text.now = c.requires.is_text in
     let inside = block_inside (g.S.Stepper.law c.args.stepper.now) c.args.edited.now.text.now c.range_from.result.now is
-        c.args.self.now.at c.requires.may_go_on.boundary c.range_from.ensures.value _ _ c.fill-count.ensures.filled.few
-        c.fill-count.ensures.bytes in
+    c.args.self.now.at c.requires.may_go_on.boundary c.range_from.ensures.value _ _ c.fill-count.ensures.filled.few
+    c.fill-count.ensures.bytes in
     rw c.damage.ensures (omega (arith, inside))
 
 pub returns : goal.returns
@@ -57,17 +57,17 @@ returns g c =
     let bytes : ℕ = c.fill-count.result.1 in
     let end : ℕ = c.least_meeting-end.result - at.at in
     let filled : IsFilledTo g.R.FromToken.written end (tokens_by first (drop at.at text)) c.args.buffer.now
-        c.fill-count.new.buffer count =
-        subst (λ (l : List ℕ). IsFilledTo g.R.FromToken.written end (tokens_by first l) c.args.buffer.now
-        c.fill-count.new.buffer count) c.range_from.ensures.value c.fill-count.ensures.filled in
+    c.fill-count.new.buffer count =
+    subst (λ (l : List ℕ). IsFilledTo g.R.FromToken.written end (tokens_by first l) c.args.buffer.now
+    c.fill-count.new.buffer count) c.range_from.ensures.value c.fill-count.ensures.filled in
     let bytes_is : bytes ≡ bound (tokens_by first (drop at.at text)) count =
-        c.fill-count.ensures.bytes ∙ ap (λ (l : List ℕ). bound (tokens_by first l) count) c.range_from.ensures.value in
+    c.fill-count.ensures.bytes ∙ ap (λ (l : List ℕ). bound (tokens_by first l) count) c.range_from.ensures.value in
     let some = some_filled g.R.FromToken.written end (tokens_by first (drop at.at text)) c.args.buffer.now
-        c.fill-count.new.buffer count filled c.requires.room (let past = c.least_meeting-end.ensures.past in
-        omega arith) in
+    c.fill-count.new.buffer count filled c.requires.room (let past = c.least_meeting-end.ensures.past in
+    omega arith) in
     let fewer = block_count law text (drop at.at text) is at.at may.boundary refl count bytes filled.few bytes_is in
     let past : Relexing =
-        record { front = at.front; lexed = at.lexed + count; back = to.at; at = at.at + bytes; met = to.met } in
+    record { front = at.front; lexed = at.lexed + count; back = to.at; at = at.at + bytes; met = to.met } in
     let steps : TakesSteps first text change.new_stop at count past = record {
       inside = filled.few;
       none = λ e. absurd (omega (arith, some, e));
@@ -95,9 +95,11 @@ returns g c =
       under_way = λ before insert made under_way.
           let out = (not_over at.met at.at (length text) may.boundary.0 c.requires.going).0 in
           let followed = follows law made (at.at + bytes) c.damage.ensures under_way.back_bound
-              (below_later law made under_way (at.at + bytes) (omega arith))
-              (c.follow-to.ensures.followed (tokens_by first before)) in
-          (goes_on law made under_way steps out
-              (none_between law made under_way steps c.least_meeting-end.result c.least_meeting-end.ensures.none
-              filled.begun) followed, left_at law made under_way);
+          (below_later law made under_way (at.at + bytes) (omega arith))
+          (c.follow-to.ensures.followed (tokens_by first before)) in (
+            goes_on law made under_way steps out
+                (none_between law made under_way steps c.least_meeting-end.result c.least_meeting-end.ensures.none
+                filled.begun) followed,
+            left_at law made under_way,
+          );
     }

@@ -8,7 +8,9 @@ returns-clause-exact c = λ first before lengths insert text change law is many 
     let at = c.args.self.now in
     let met = counts_met law is under_way hit in
     let same = sym (length-map (tokens_by first before) _)
-        ∙ (ap (λ (ns : List ℕ). length ns) (sym is.lengths_are) ∙ many) in
-    (subst (λ (n : ℕ). let r : Relexed = record
-        { kept_front = at.front.index; lexed = at.lexed; kept_back = n - at.back.index } in
-        IsRelexed (part_by first) before change.start change.old_stop insert r) same met.0, met.1)
+    ∙ (ap (λ (ns : List ℕ). length ns) (sym is.lengths_are) ∙ many) in (
+      subst (λ (n : ℕ). let r : Relexed = record
+          { kept_front = at.front.index; lexed = at.lexed; kept_back = n - at.back.index } in
+          IsRelexed (part_by first) before change.start change.old_stop insert r) same met.0,
+      met.1,
+    )

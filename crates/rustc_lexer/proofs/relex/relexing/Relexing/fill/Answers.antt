@@ -22,8 +22,8 @@ places-preserved g c =
     let past = c.next.new.self in
     let token = c.in-Some.token in
     let step = subst (λ (f : List ℕ → Token). (token ≡ f (drop at.at text))
-        × TakesSteps f text c.args.edited.now.change.new_stop at 1 past) (same_first inv.grammar)
-        (c.in-Some.ensures.step.0, c.in-Some.ensures.step.1) in
+    × TakesSteps f text c.args.edited.now.change.new_stop at 1 past) (same_first inv.grammar)
+    (c.in-Some.ensures.step.0, c.in-Some.ensures.step.1) in
     let boundary = c.requires.may_go_on.boundary in
     record {
       may_go_on = c.in-Some.ensures.may_go_on;
@@ -33,7 +33,7 @@ places-preserved g c =
       written = one_written g.R.FromToken.written (tokens_by first (drop begin.at text)) _ c.args.buffer.now
           c.places.buffer c.places.count token inv.written
           (next_left law is c.args.edited.now.change.new_stop begin boundary inv.steps step.0 step.1.inside)
-              (let less = c.places-test.true in omega arith) c.from_token.result c.from_token.ensures;
+          (let less = c.places-test.true in omega arith) c.from_token.result c.from_token.ensures;
       begins = λ _. elim (cases_lt 0 c.places.count) [
         | inl some ↦ inv.begins some
         | inr none ↦ (let e : c.places.count ≡ 0 = omega arith in
@@ -41,11 +41,11 @@ places-preserved g c =
       ];
       under_way = λ before insert made begun.
           let Next : (List ℕ → Token) → Type 0 =
-              λ f. IsMadeOf f before (map g.T.Measured.bytes c.args.edited.now.old_tokens.now) c.args.edited.now.change
-              insert text → IsUnderWay f before c.args.edited.now.change text at
-              → IsUnderWay f before c.args.edited.now.change text past in
+          λ f. IsMadeOf f before (map g.T.Measured.bytes c.args.edited.now.old_tokens.now) c.args.edited.now.change
+          insert text → IsUnderWay f before c.args.edited.now.change text at
+          → IsUnderWay f before c.args.edited.now.change text past in
           subst Next (same_first inv.grammar) (λ m s. (c.in-Some.ensures.under_way before insert m s).0) made
-              (inv.under_way before insert made begun);
+          (inv.under_way before insert made begun);
     }
 
 pub returns-after-places-clause-under_way : goal.returns-after-places-clause-under_way

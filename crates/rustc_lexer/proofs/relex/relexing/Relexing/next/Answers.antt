@@ -12,9 +12,11 @@ pub step-token-requires-clause-not_empty : goal.step-token-requires-clause-not_e
 step-token-requires-clause-not_empty g c = grind (arith, common_steps, rules, not_over, length-drop)
 
 pub returns-then-is_over-clause-under_way : goal.returns-then-is_over-clause-under_way
-returns-then-is_over-clause-under_way g c = λ before insert is under_way.
-    (under_way, sym (c.is_over.ensures.met (g.S.Stepper.grammar c.args.stepper.now).first before _ insert
-        c.args.edited.now.change (g.S.Stepper.law c.args.stepper.now) is under_way) ∙ c.if-is_over.true)
+returns-then-is_over-clause-under_way g c = λ before insert is under_way. (
+  under_way,
+  sym (c.is_over.ensures.met (g.S.Stepper.grammar c.args.stepper.now).first before _ insert
+      c.args.edited.now.change (g.S.Stepper.law c.args.stepper.now) is under_way) ∙ c.if-is_over.true,
+)
 
 pub returns-clause-may_go_on : goal.returns-clause-may_go_on
 returns-clause-may_go_on g c =
@@ -22,11 +24,11 @@ returns-clause-may_go_on g c =
     let may = c.requires.may_go_on in
     let inside = may.boundary.0 in
     let token = c.step-token.ensures.token
-        ∙ ap (g.S.Stepper.grammar c.args.stepper.now).first c.range_from.ensures.value in
+    ∙ ap (g.S.Stepper.grammar c.args.stepper.now).first c.range_from.ensures.value in
     let more = (not_over c.args.self.now.met c.args.self.now.at (length c.args.edited.now.text.now) inside
-        (sym c.is_over.ensures.over ∙ c.if-is_over.false)).1 in
+    (sym c.is_over.ensures.over ∙ c.if-is_over.false)).1 in
     let step = step_offset (g.S.Stepper.law c.args.stepper.now) c.args.edited.now.text.now c.args.self.now.at
-        c.step-token.result is may.boundary more token in
+    c.step-token.result is may.boundary more token in
     record {
       boundary = step.1;
       number = c.follow-to.ensures.number;
@@ -41,9 +43,9 @@ returns-clause-step g c =
     let may = c.requires.may_go_on in
     let law = g.S.Stepper.law c.args.stepper.now in
     let token = c.step-token.ensures.token
-        ∙ ap (g.S.Stepper.grammar c.args.stepper.now).first c.range_from.ensures.value in
+    ∙ ap (g.S.Stepper.grammar c.args.stepper.now).first c.range_from.ensures.value in
     let more = (not_over c.args.self.now.met c.args.self.now.at (length c.args.edited.now.text.now) may.boundary.0
-        (sym c.is_over.ensures.over ∙ c.if-is_over.false)).1 in (
+    (sym c.is_over.ensures.over ∙ c.if-is_over.false)).1 in (
       token,
       one_step law is c.args.edited.now.change.new_stop c.args.self.now may.boundary token more refl refl refl
           (λ less. c.follow-to.ensures.stays (rw c.damage.ensures less))
@@ -58,12 +60,12 @@ returns-clause-under_way g c = λ before insert is under_way.
     let at = c.args.self.now in
     let step = returns-clause-step g c in
     let out =
-        sym (c.is_over.ensures.met (g.S.Stepper.grammar c.args.stepper.now).first before _ insert
-        c.args.edited.now.change law is under_way) ∙ c.if-is_over.false in
+    sym (c.is_over.ensures.met (g.S.Stepper.grammar c.args.stepper.now).first before _ insert
+    c.args.edited.now.change law is under_way) ∙ c.if-is_over.false in
     let later : ℕ = at.at + c.step-token.result.len in
     let followed = follows law is later c.damage.ensures under_way.back_bound
-        (below_later law is under_way later (omega arith))
-        (c.follow-to.ensures.followed (tokens_by (g.S.Stepper.grammar c.args.stepper.now).first before)) in (
+    (below_later law is under_way later (omega arith))
+    (c.follow-to.ensures.followed (tokens_by (g.S.Stepper.grammar c.args.stepper.now).first before)) in (
       goes_on law is under_way step.1 out (λ number back more less m. omega (arith, more, less)) followed,
       gives_next law is under_way out step.0 step.1,
     )
