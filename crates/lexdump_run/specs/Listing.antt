@@ -10,8 +10,7 @@ use Rattle.rustc_lexer.specs.declared.token.LiteralKind.TheVariants.{Int, Float,
 use Rattle.rustc_lexer.specs.declared.token.LiteralKind.TheVariants.{RawByteStr, RawCStr}
 use Rattle.rustc_lexer.specs.declared.token.Token.{Token}
 use Rattle.rustc_lexer.specs.declared.token.TokenKind.{TokenKind}
-use Rattle.rustc_lexer.specs.declared.token.TokenKind.TheVariants.{LineComment, BlockComment, Frontmatter, Literal}
-use Rattle.rustc_lexer.specs.declared.token.TokenKind.TheVariants.{Lifetime}
+use Rattle.rustc_lexer.specs.declared.token.TokenKind.TheVariants.{LineComment, BlockComment, Frontmatter, Literal, Lifetime}
 use Rattle.rustc_lexer.specs.Kinds.{kind_entry, literal_entry}
 
 abbrev pub bool_text : Bool → List ℕ

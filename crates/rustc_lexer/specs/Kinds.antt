@@ -1,12 +1,6 @@
 -- The numbers and the names of kinds, and the words of an error.
 use Rattle.std.specs.Prelude.{ℕ, Bool, true, false, List, None, codes, ◌++◌, decimal}
-use Rattle.rustc_lexer.specs.{LiteralKind, RawStrError, InvalidStarter, NoTerminator, TooManyDelimiters, TokenKind, Int}
-use Rattle.rustc_lexer.specs.{Float, Char, Byte, Str, ByteStr, CStr, RawStr, RawByteStr, RawCStr, LineComment}
-use Rattle.rustc_lexer.specs.{BlockComment, Whitespace, Frontmatter, Ident, InvalidIdent, RawIdent, ForcedKeywordIdent}
-use Rattle.rustc_lexer.specs.{UnknownPrefix, UnknownPrefixLifetime, RawLifetime, GuardedStrPrefix, Literal, Lifetime}
-use Rattle.rustc_lexer.specs.{Semi, Comma, Dot, OpenParen, CloseParen, OpenBrace, CloseBrace, OpenBracket, CloseBracket}
-use Rattle.rustc_lexer.specs.{At, Pound, Tilde, Question, Colon, Dollar, Eq, Bang, Lt, Gt, Minus, And, Or, Plus, Star}
-use Rattle.rustc_lexer.specs.{Slash, Caret, Percent, Unknown, Eof}
+use Rattle.rustc_lexer.specs.{LiteralKind, RawStrError, InvalidStarter, NoTerminator, TooManyDelimiters, TokenKind, Int, Float, Char, Byte, Str, ByteStr, CStr, RawStr, RawByteStr, RawCStr, LineComment, BlockComment, Whitespace, Frontmatter, Ident, InvalidIdent, RawIdent, ForcedKeywordIdent, UnknownPrefix, UnknownPrefixLifetime, RawLifetime, GuardedStrPrefix, Literal, Lifetime, Semi, Comma, Dot, OpenParen, CloseParen, OpenBrace, CloseBrace, OpenBracket, CloseBracket, At, Pound, Tilde, Question, Colon, Dollar, Eq, Bang, Lt, Gt, Minus, And, Or, Plus, Star, Slash, Caret, Percent, Unknown, Eof}
 
 -- the number of a kind, for other languages, and the name of its variant. A number never changes: a
 -- new kind gets a new one, and no kind has 0
