@@ -7,6 +7,8 @@
 #![deny(unsafe_op_in_unsafe_fn)]
 
 mod border;
-// Contracts alone use some imports and variables of the source.
+// Only contracts use some of its imports and variables.
 #[allow(unused_imports, unused_variables, dead_code)]
+// The proofs refer to the arms of a `let .. else`.
+#[allow(clippy::question_mark)]
 mod erased;
