@@ -1,4 +1,4 @@
-//! Why a text could not be lexed or edited.
+//! The errors of lexed texts.
 
 use crate::AllocError;
 use crate::erased::{EditStop, Stopped};
@@ -6,7 +6,7 @@ use alloc::string::String;
 use core::error::Error;
 use core::fmt;
 
-/// Why an edit was rejected, or why a text could not be lexed. Text and tokens are then unchanged.
+/// The error of a failed edit, or of lexing a text. A failed edit leaves text and tokens unchanged.
 ///
 /// ```
 /// use rustc_lexer::{EditError, LexedText};
@@ -36,9 +36,9 @@ use core::fmt;
 #[derive(Clone, Copy, Debug, PartialEq, Eq, Hash)]
 #[non_exhaustive]
 pub enum EditError {
-    /// The range is out of bounds, or not on char boundaries.
+    /// The range is out of bounds or not on char boundaries.
     Range,
-    /// The text has, or would have, more than `u32::MAX` bytes.
+    /// The text is longer than `u32::MAX` bytes, or would be after the edit.
     TooLong,
     /// An allocation failed.
     Memory,
@@ -47,7 +47,7 @@ pub enum EditError {
 impl fmt::Display for EditError {
     fn fmt(&self, f: &mut fmt::Formatter<'_>) -> fmt::Result {
         f.write_str(match self {
-            EditError::Range => "the range has to be inside the text, between characters",
+            EditError::Range => "range out of bounds or not on a char boundary",
             EditError::TooLong => "the text has more than u32::MAX bytes",
             EditError::Memory => "memory allocation failed",
         })
@@ -78,8 +78,7 @@ impl From<Stopped> for EditError {
     }
 }
 
-/// Why a text could not be lexed, with that text: the error of
-/// [`try_from_string_in`](crate::Lexed::try_from_string_in).
+/// The error of [`try_from_string_in`](crate::Lexed::try_from_string_in), which contains the text.
 #[derive(Clone, PartialEq, Eq)]
 pub struct FromStringError {
     pub(crate) text: String,
@@ -87,20 +86,20 @@ pub struct FromStringError {
 }
 
 impl FromStringError {
-    /// Returns the text.
+    /// Returns the text that was passed.
     #[must_use]
     pub fn into_string(self) -> String {
         self.text
     }
 
-    /// Returns why it could not be lexed.
+    /// Returns why the text could not be lexed.
     #[must_use]
     pub fn error(&self) -> EditError {
         self.error
     }
 }
 
-// The text may be long, and is the caller's.
+// The text is left out: it may be long, and the caller has it.
 impl fmt::Debug for FromStringError {
     fn fmt(&self, f: &mut fmt::Formatter<'_>) -> fmt::Result {
         let mut shown = f.debug_struct("FromStringError");
@@ -122,7 +121,8 @@ impl From<FromStringError> for EditError {
     }
 }
 
-/// Returns the value, or panics with the error at the line of the caller. A closure would panic at its own.
+/// Returns the `Ok` value, or panics with the error. The panic location is the caller's, which it would not be in a
+/// closure.
 #[track_caller]
 pub(crate) fn unwrap_or_panic<T>(result: Result<T, impl fmt::Display>) -> T {
     match result {
@@ -131,7 +131,7 @@ pub(crate) fn unwrap_or_panic<T>(result: Result<T, impl fmt::Display>) -> T {
     }
 }
 
-/// Returns the text, or an error if it is too long.
+/// Returns the text, or `TooLong`.
 pub(crate) fn try_fitting(text: &str) -> Result<&str, EditError> {
     if crate::fits(text) {
         Ok(text)
@@ -140,7 +140,7 @@ pub(crate) fn try_fitting(text: &str) -> Result<&str, EditError> {
     }
 }
 
-/// Returns `Ok` if an edit with this text is accepted, and otherwise why it is not.
+/// Checks whether an edit that inserts this text is accepted, and returns why if not.
 pub(crate) fn check_accepted(
     accepts: impl Fn(&str) -> bool,
     insert: &str,
@@ -159,7 +159,7 @@ pub(crate) fn check_accepted(
 mod tests {
     use super::*;
 
-    /// A text that is full takes no text but the empty one, and its ranges are good all the same.
+    /// In a text of the maximum length only deletions are accepted, and other edits fail with `TooLong`.
     #[test]
     fn a_text_that_is_full() {
         let takes_nothing = |insert: &str| insert.is_empty();

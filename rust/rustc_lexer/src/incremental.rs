@@ -5,9 +5,13 @@
 //! resulted in the text. It cannot check that the tokens are those of the old text: with any others the result has no
 //! meaning. `Head::change_to` checks nothing, and can panic with a head or an edit of another text.
 //!
-//! # A whole file
+//! Arguments are not checked: with tokens or a head that do not belong to the old text, the new tokens may be wrong, or
+//! a call may panic.
 //!
-//! The list has the tokens of the body, which is the text after the shebang line and the frontmatter (the *head*).
+//! # Example: a whole file
+//!
+//! The list contains the tokens of the body, which is the text after the head: a byte order mark, a shebang line and a
+//! frontmatter.
 //!
 //! ```
 //! use rustc_lexer::incremental::{Change, Head, Relex};

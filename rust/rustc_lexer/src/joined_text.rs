@@ -1,4 +1,4 @@
-//! A text that is made of pieces whose tokens stay.
+//! A writer that keeps adjacent tokens apart.
 
 use crate::Edition;
 use crate::edit_error::unwrap_or_panic;
@@ -7,11 +7,11 @@ use crate::support::Global;
 use alloc::string::String;
 use core::fmt;
 
-/// A text that is written piece by piece, so that lexing it gives the tokens of the pieces again, in order. A piece is
-/// one token or any other text.
+/// A text built from pieces that lexes back to the tokens of those pieces, in order. A piece is a token or any other
+/// text.
 ///
-/// Where tokens would not stay, a space comes before the piece, or after a line comment a newline. Nowhere else does it
-/// write anything.
+/// If the tokens would change, a separator is inserted before the piece: a space, or a newline after a line comment.
+/// Nothing else is ever inserted.
 ///
 /// ```
 /// use rustc_lexer::JoinedText;
@@ -21,31 +21,33 @@ use core::fmt;
 /// assert_eq!(text.as_str(), "let x=0..=y;// all\nr \"s\";");
 /// ```
 ///
-/// - **White space** is a piece like any other: push it where you want some. A parser reads `&&` as one operator, though
-///   it is two tokens, so push a space between a `&` and a `&` that are two.
-/// - **Each piece is written** before the next one is known. So `0`, `.` and `.` make `0 ..`, since `0.` is a number, and
-///   the pieces `0` and `..` make `0..`. Where the next one shows that a piece was wrong, like white space after an open
-///   token, [`truncate`](JoinedText::truncate) takes it back.
-/// - **The text is a part of a file.** Read as a whole file, it has other tokens if it begins with `#!` and no `[`
-///   follows, or with `---`, also after white space. Before you write it at the start of a file, test that
-///   [`strip_shebang`](crate::strip_shebang) returns `None`, and that no token of
-///   [`tokenize_document`](crate::tokenize_document) is a `Frontmatter`. No valid Rust begins so. Of a file with a head
-///   write `text[..Head::find(text).body]`, a newline, and the joined body: [`Head`](crate::incremental::Head).
+/// - **Whitespace** is a piece like any other: push it where you want it. Note that a parser reads `&&` as one
+///   operator, although it is two tokens. Push a space between two `&` that are separate operators.
+/// - **Pieces are not buffered.** Each piece is written before the next one is known: `0`, `.` and `.` become `0 ..`,
+///   since `0.` is a number, while `0` and `..` become `0..`. If the next piece shows that the last one was wrong, such
+///   as whitespace after an unterminated token, remove it with [`truncate`](JoinedText::truncate).
+/// - **The text is a fragment of a file.** As a whole file it has other tokens if it starts with `#!` that is not
+///   followed by `[`, or with `---`, even after whitespace. No valid Rust starts that way. Before writing the text at
+///   the start of a file, check that [`strip_shebang`](crate::strip_shebang) returns `None`, and that no token of
+///   [`tokenize_document`](crate::tokenize_document) is a `Frontmatter`. If the file has a head, write
+///   `text[..Head::find(text).body]`, a newline, and then the joined body: see [`Head`](crate::incremental::Head).
 ///
-/// [`push`](JoinedText::push), and what collects or extends, panics where [`try_push`](JoinedText::try_push) returns an
-/// error. To push what a value displays, push `format!("{value}")`: it does not implement [`fmt::Write`], since values
-/// write themselves in parts, like the quote of a string alone.
+/// [`push`](JoinedText::push), `extend` and `collect` panic if [`try_push`](JoinedText::try_push) would return an
+/// error.
+///
+/// This type does not implement [`fmt::Write`], since a value may write itself in parts that are not whole tokens, such
+/// as the opening quote of a string. To push a value, push `format!("{value}")`.
 #[derive(Clone)]
 pub struct JoinedText(erased::JoinedText);
 
 impl JoinedText {
-    /// Returns an empty text, whose pieces are read in the newest edition.
+    /// Creates an empty text whose pieces are lexed in the newest edition.
     #[must_use]
     pub fn new() -> JoinedText {
         JoinedText::new_in(Edition::NEWEST)
     }
 
-    /// Returns an empty text, whose pieces are read in an edition.
+    /// Creates an empty text whose pieces are lexed in the given edition.
     ///
     /// ```
     /// use rustc_lexer::{Edition, JoinedText};
@@ -59,8 +61,8 @@ impl JoinedText {
         JoinedText(erased::JoinedText::new(Global, edition))
     }
 
-    /// Appends a piece so that all tokens stay: directly after the text; if they would not stay so, after a space; and if
-    /// not so either, after a newline.
+    /// Appends a piece without changing any token: directly after the text if possible, otherwise after a space, and
+    /// otherwise after a newline.
     ///
     /// ```
     /// use rustc_lexer::JoinedText;
@@ -74,13 +76,13 @@ impl JoinedText {
     ///
     /// # Panics
     ///
-    /// Panics where [`try_push`](JoinedText::try_push) returns an error.
+    /// Panics if [`try_push`](JoinedText::try_push) would return an error.
     #[track_caller]
     pub fn push(&mut self, piece: impl AsRef<str>) {
         unwrap_or_panic(self.try_push(piece));
     }
 
-    /// Does what [`push`](JoinedText::push) does, or returns why the piece was refused. Then nothing has changed.
+    /// Appends a piece, like [`push`](JoinedText::push), or returns an error. On error nothing has changed.
     ///
     /// ```
     /// use rustc_lexer::{JoinError, JoinedText};
@@ -93,22 +95,22 @@ impl JoinedText {
     ///
     /// # Errors
     ///
-    /// The error is [`JoinError::Inseparable`] only if the text has a token that is open, like a string that nothing
-    /// closes, or if the piece begins with white space that the last token would take in: white space, or a line comment
-    /// that no newline ends.
+    /// Returns [`JoinError::Inseparable`] only in two cases: the text contains an unterminated token or a malformed raw
+    /// string, or the piece starts with whitespace that would become part of the last token. The last token is then
+    /// whitespace itself, or a line comment that no newline ends.
     pub fn try_push(&mut self, piece: impl AsRef<str>) -> Result<(), JoinError> {
         self.0.push(piece.as_ref())
     }
 
-    /// Takes back all pieces after the first `len` bytes: those pushed since [`len`](JoinedText::len) was that. If the
-    /// text is not longer, nothing changes.
+    /// Shortens the text to `len` bytes, and so removes the pieces pushed since [`len`](JoinedText::len) was `len`. If
+    /// the text is not longer, nothing changes.
     ///
-    /// Any place will do where the text splits into the tokens before it and those after it.
+    /// `len` can be any offset at which the text can be split without changing its tokens.
     ///
     /// ```
     /// use rustc_lexer::JoinedText;
     ///
-    /// // A formatter makes one newline of two, but not here, since `b'`, a newline and `'` are a byte.
+    /// // A formatter collapses two newlines into one, but cannot do so here: `b'`, a newline and `'` are a byte literal.
     /// let mut text = JoinedText::new();
     /// text.push("b'");
     /// let len = text.len();
@@ -122,7 +124,7 @@ impl JoinedText {
     ///
     /// # Panics
     ///
-    /// Panics if the text does not split there. Then nothing has changed.
+    /// Panics if the text cannot be split at `len`. In that case nothing has changed.
     #[track_caller]
     pub fn truncate(&mut self, len: usize) {
         let cuts = len >= self.len() || self.0.truncate(len);
@@ -147,13 +149,13 @@ impl JoinedText {
         self.as_str().is_empty()
     }
 
-    /// Returns the edition in which the pieces are read.
+    /// Returns the edition in which the pieces are lexed.
     #[must_use]
     pub fn edition(&self) -> Edition {
         self.0.edition()
     }
 
-    /// Returns the text. It copies nothing.
+    /// Returns the text, without copying it.
     #[must_use]
     pub fn into_string(self) -> String {
         self.0.into_string().into()
@@ -172,7 +174,7 @@ impl fmt::Display for JoinedText {
     }
 }
 
-/// Two are equal if their texts and their editions are.
+/// Two are equal if their texts and editions are equal.
 impl PartialEq for JoinedText {
     fn eq(&self, other: &JoinedText) -> bool {
         self.as_str() == other.as_str() && self.edition() == other.edition()
@@ -188,11 +190,11 @@ impl Default for JoinedText {
 }
 
 impl<P: AsRef<str>> Extend<P> for JoinedText {
-    /// Pushes each of the pieces.
+    /// Pushes every piece.
     ///
     /// # Panics
     ///
-    /// Panics if one of them is refused. Those before it are in the text then.
+    /// Panics if a piece is rejected. The pieces before it have been appended.
     #[track_caller]
     fn extend<I: IntoIterator<Item = P>>(&mut self, pieces: I) {
         for piece in pieces {
@@ -202,11 +204,11 @@ impl<P: AsRef<str>> Extend<P> for JoinedText {
 }
 
 impl<P: AsRef<str>> FromIterator<P> for JoinedText {
-    /// Returns the text of the pieces, read in the newest edition.
+    /// Joins the pieces, which are lexed in the newest edition.
     ///
     /// # Panics
     ///
-    /// Panics if one of them is refused.
+    /// Panics if a piece is rejected.
     #[track_caller]
     fn from_iter<I: IntoIterator<Item = P>>(pieces: I) -> JoinedText {
         let mut text = JoinedText::new();

@@ -1,4 +1,4 @@
-//! Incrementally lexed texts: `LexedText` for a part of a file, `LexedDocument` for a whole file.
+//! Incrementally lexed texts: `LexedText` for a fragment of a file, `LexedDocument` for a whole file.
 
 use crate::checked::Checked;
 use crate::edit_error::{EditError, FromStringError};
@@ -11,7 +11,8 @@ use alloc::string::String;
 use core::fmt;
 use core::ops::{self, Range, RangeBounds};
 
-/// Returns the range in a text or a list of `len`. One that ends past `usize::MAX` is in no text.
+/// Returns the bounds of a range in a text or list of length `len`. They saturate at `usize::MAX`, which is past the
+/// end of any text.
 fn range_in(range: &impl RangeBounds<usize>, len: usize) -> Range<usize> {
     let start = match range.start_bound() {
         ops::Bound::Included(&at) => at,
@@ -26,7 +27,7 @@ fn range_in(range: &impl RangeBounds<usize>, len: usize) -> Range<usize> {
     start..stop
 }
 
-/// Returns the numbers of tokens. Panics if there are no such tokens.
+/// Returns the token range. Panics if it is out of bounds.
 #[track_caller]
 fn checked_range(numbers: &impl RangeBounds<usize>, tokens: &[Token]) -> Range<usize> {
     let numbers = range_in(numbers, tokens.len());
@@ -38,8 +39,9 @@ fn checked_range(numbers: &impl RangeBounds<usize>, tokens: &[Token]) -> Range<u
     numbers
 }
 
-/// A text and its tokens, under edits: a [`LexedText`] or a [`LexedDocument`], by `E`. [`Steps`] lexes it, or a stepper
-/// of your own.
+/// A text whose tokens are kept up to date as it is edited: a [`LexedText`] or a [`LexedDocument`], depending on `E`.
+///
+/// The tokens come from [`Steps`], which is this crate's lexer, or from a [`Stepper`] of your own.
 ///
 /// ```
 /// use rustc_lexer::{Extent, Lexed, LexedDocument, LexedText, Steps};
@@ -48,7 +50,7 @@ fn checked_range(numbers: &impl RangeBounds<usize>, tokens: &[Token]) -> Range<u
 ///     lexed.tokens().len()
 /// }
 ///
-/// // Of a file the first line is a shebang line, which is no token.
+/// // In a whole file, the first line is a shebang line, which is not a token.
 /// assert_eq!(count(&LexedText::new("#!a\nb")), 5);
 /// assert_eq!(count(&LexedDocument::new("#!a\nb")), 2);
 /// ```
@@ -66,11 +68,12 @@ pub struct Lexed<S: Stepper = Steps, E: Extent = Part> {
     is_poisoned: bool,
 }
 
-/// A text and its tokens, which are always those of lexing the text from scratch, as a part of a file; of a stepper of
-/// your own that holds if it keeps the rule of [`Stepper`]. For a whole file, with a shebang line and a frontmatter, use
-/// [`LexedDocument`](crate::LexedDocument).
+/// A fragment of a file, with tokens that are kept up to date as it is edited.
 ///
-/// An edit lexes again only the tokens near it, and keeps all others.
+/// The tokens always equal those of lexing the text from scratch. With a stepper of your own, this holds if the stepper
+/// follows the rules of [`Stepper`]. An edit re-lexes only the tokens near it and keeps all others.
+///
+/// A shebang line or a frontmatter is lexed as code. For a whole file, use [`LexedDocument`](crate::LexedDocument).
 ///
 /// ```
 /// use rustc_lexer::LexedText;
@@ -82,12 +85,14 @@ pub struct Lexed<S: Stepper = Steps, E: Extent = Part> {
 /// ```
 pub type LexedText<S = Steps> = Lexed<S, Part>;
 
-/// A whole file and its tokens, which are always those of [`tokenize_document`](crate::tokenize_document): they begin
-/// after a shebang line, and a frontmatter is one token.
+/// A whole file, with tokens that are kept up to date as it is edited.
 ///
-/// It has the calls of a [`LexedText`](crate::LexedText), which is for a part of a file. An edit after the head, which
-/// is the shebang line and the frontmatter, keeps of the tokens there what it would keep of them alone, unless it
-/// changes the head.
+/// The tokens always equal those of [`tokenize_document`](crate::tokenize_document): they start after a byte order mark
+/// and a shebang line, and a frontmatter is one token.
+///
+/// It has the same methods as a [`LexedText`](crate::LexedText), which is for a fragment of a file. Byte order mark,
+/// shebang line and frontmatter are the *head*, and the text after them is the *body*. An edit of the body that does not
+/// change the head keeps the same tokens of the body that it would keep if the body were a text of its own.
 ///
 /// ```
 /// use rustc_lexer::{LexedDocument, TokenKind};
@@ -95,7 +100,7 @@ pub type LexedText<S = Steps> = Lexed<S, Part>;
 /// let mut lexed = LexedDocument::new("#!/bin/sh\n---\n[package]\n---\nfn main() {}");
 /// assert!(matches!(lexed.tokens()[1].kind, TokenKind::Frontmatter { .. }));
 ///
-/// // Without the second fence all that follows the first is the frontmatter, and with it again it is code.
+/// // Without its closing fence, the frontmatter extends to the end of the file.
 /// lexed.edit(24..27, "");
 /// assert_eq!(lexed.tokens().len(), 2);
 /// lexed.edit(24..24, "---");
@@ -108,7 +113,7 @@ pub type LexedText<S = Steps> = Lexed<S, Part>;
 pub type LexedDocument<S = Steps> = Lexed<S, Whole>;
 
 impl<E: Extent> Lexed<Steps, E> {
-    /// Returns the text with its tokens in the newest edition.
+    /// Copies a text and lexes it in the newest edition.
     ///
     /// ```
     /// use rustc_lexer::LexedText;
@@ -118,14 +123,14 @@ impl<E: Extent> Lexed<Steps, E> {
     ///
     /// # Panics
     ///
-    /// Panics if the text has more than `u32::MAX` bytes, or if an allocation fails.
+    /// Panics if the text is longer than `u32::MAX` bytes, or if an allocation fails.
     #[must_use]
     #[track_caller]
     pub fn new(text: impl AsRef<str>) -> Self {
         Self::new_in(text, Edition::NEWEST)
     }
 
-    /// Returns the text with its tokens in an edition.
+    /// Copies a text and lexes it in the given edition.
     ///
     /// ```
     /// use rustc_lexer::{Edition, LexedText};
@@ -135,14 +140,14 @@ impl<E: Extent> Lexed<Steps, E> {
     ///
     /// # Panics
     ///
-    /// Panics if the text has more than `u32::MAX` bytes, or if an allocation fails.
+    /// Panics if the text is longer than `u32::MAX` bytes, or if an allocation fails.
     #[must_use]
     #[track_caller]
     pub fn new_in(text: impl AsRef<str>, edition: Edition) -> Self {
         unwrap_or_panic(Self::try_new_in(text, edition))
     }
 
-    /// Returns the text with its tokens in an edition.
+    /// Copies a text and lexes it in the given edition, or returns an error.
     ///
     /// ```
     /// use rustc_lexer::{Edition, LexedText};
@@ -154,12 +159,12 @@ impl<E: Extent> Lexed<Steps, E> {
     ///
     /// # Errors
     ///
-    /// `TooLong` if the text has more than `u32::MAX` bytes, `Memory` if an allocation failed.
+    /// Returns `TooLong` if the text is longer than `u32::MAX` bytes, and `Memory` if an allocation fails.
     pub fn try_new_in(text: impl AsRef<str>, edition: Edition) -> Result<Self, EditError> {
         Ok(Lexed::from_proved(E::lex(text.as_ref(), edition)?))
     }
 
-    /// Returns the text, of which it copies nothing, with its tokens in an edition.
+    /// Lexes a text in the given edition, taking ownership of the `String` without copying it.
     ///
     /// ```
     /// use rustc_lexer::{Edition, LexedText};
@@ -172,7 +177,8 @@ impl<E: Extent> Lexed<Steps, E> {
     ///
     /// # Errors
     ///
-    /// `TooLong` if the text has more than `u32::MAX` bytes, `Memory` if an allocation failed. The error has the text.
+    /// Returns `TooLong` if the text is longer than `u32::MAX` bytes, and `Memory` if an allocation fails. The error
+    /// contains the text.
     pub fn try_from_string_in(text: String, edition: Edition) -> Result<Self, FromStringError> {
         let mut text = text.into();
         Self::try_move_in(&mut text, edition).map_err(|error| FromStringError {
@@ -181,7 +187,7 @@ impl<E: Extent> Lexed<Steps, E> {
         })
     }
 
-    /// Lexes a text, which it moves out of the variable only if it succeeds.
+    /// Implements `try_from_string_in`. On failure, `text` is unchanged.
     fn try_move_in(text: &mut support::String, edition: Edition) -> Result<Self, EditError> {
         try_fitting(text.as_str())?;
         let mut lexed = Lexed::from_proved(E::lex("", edition)?);
@@ -189,7 +195,7 @@ impl<E: Extent> Lexed<Steps, E> {
         Ok(lexed)
     }
 
-    /// Returns the edition of the tokens. Edits keep it.
+    /// Returns the edition of the tokens. Edits do not change it.
     ///
     /// ```
     /// use rustc_lexer::{Edition, LexedText};
@@ -201,7 +207,7 @@ impl<E: Extent> Lexed<Steps, E> {
         self.kept.edition()
     }
 
-    /// Lexes the text again, in another edition. It copies no text.
+    /// Re-lexes the text in another edition, without copying it.
     ///
     /// ```
     /// use rustc_lexer::{Edition, LexedText};
@@ -213,12 +219,12 @@ impl<E: Extent> Lexed<Steps, E> {
     ///
     /// # Panics
     ///
-    /// Panics if an allocation fails. Nothing changes then.
+    /// Panics if an allocation fails. In that case nothing has changed.
     pub fn set_edition(&mut self, edition: Edition) {
         unwrap_or_panic(self.try_set_edition(edition));
     }
 
-    /// Lexes the text again, in another edition.
+    /// Re-lexes the text in another edition, or returns an error.
     ///
     /// ```
     /// use rustc_lexer::{Edition, LexedText};
@@ -231,12 +237,12 @@ impl<E: Extent> Lexed<Steps, E> {
     ///
     /// # Errors
     ///
-    /// If an allocation fails. Nothing changes then.
+    /// Returns an error if an allocation fails. In that case nothing has changed.
     pub fn try_set_edition(&mut self, edition: Edition) -> Result<(), AllocError> {
         self.kept.set_edition(edition)
     }
 
-    /// Returns the stepper that the tokens came from.
+    /// Returns the stepper that lexed the tokens.
     ///
     /// ```
     /// use rustc_lexer::{LexedText, Stepper};
@@ -251,7 +257,7 @@ impl<E: Extent> Lexed<Steps, E> {
 }
 
 impl<S: Stepper, E: Extent> Lexed<Checked<S>, E> {
-    /// Returns the text with its tokens by a stepper of your own. The head of a whole file is not lexed by it.
+    /// Copies a text and lexes it with a stepper of your own. The stepper does not lex the head of a whole file.
     ///
     /// ```
     /// use rustc_lexer::{LexedText, Steps};
@@ -260,18 +266,21 @@ impl<S: Stepper, E: Extent> Lexed<Checked<S>, E> {
     /// assert_eq!(lexed.tokens().len(), 4);
     /// ```
     ///
-    /// The tokens are taken by `step`, and where each ends is tested. For [`Steps`] itself `try_new_in` is twice as
-    /// fast.
+    /// Every token comes from a call of `step`, and its length is checked. For [`Steps`] itself, `try_new_in` is twice
+    /// as fast.
     ///
     /// # Panics
     ///
-    /// Panics if `step` does, or if a token of it is empty, is longer than the text or ends inside a character. So
-    /// do edits: `text` then has the edit, and each call that needs the tokens panics, until `set_text` lexes a text
-    /// anew. An edit that is refused needs none.
+    /// Panics if `step` panics, or if it returns a token that is empty, longer than the text, or ends inside a
+    /// character.
+    ///
+    /// Edits panic in the same cases. After that, [`text`](Lexed::text) contains the edit, and every method that needs
+    /// the tokens panics until [`set_text`](Lexed::set_text) re-lexes the text. A rejected edit does not need the
+    /// tokens.
     ///
     /// # Errors
     ///
-    /// `TooLong` if the text has more than `u32::MAX` bytes, `Memory` if an allocation failed.
+    /// Returns `TooLong` if the text is longer than `u32::MAX` bytes, and `Memory` if an allocation fails.
     pub fn try_with(text: impl AsRef<str>, stepper: S) -> Result<Self, EditError> {
         let text = try_fitting(text.as_ref())?;
         Ok(Lexed::from_proved(erased::Lexed::with(
@@ -281,7 +290,7 @@ impl<S: Stepper, E: Extent> Lexed<Checked<S>, E> {
         )?))
     }
 
-    /// Returns the stepper that the tokens came from.
+    /// Returns the stepper that lexed the tokens.
     ///
     /// ```
     /// use rustc_lexer::{LexedText, Stepper, Steps};
@@ -304,7 +313,7 @@ impl<S: Stepper, E: Extent> Lexed<S, E> {
         }
     }
 
-    /// Returns the lexed text. Panics if a step of an edit panicked: then the tokens are not those of the text.
+    /// Returns the lexed text. Panics if a step panicked during an edit, since the tokens then do not match the text.
     #[track_caller]
     fn unpoisoned(&self) -> &erased::Lexed<S, E> {
         assert!(
@@ -324,14 +333,14 @@ impl<S: Stepper, E: Extent> Lexed<S, E> {
         result
     }
 
-    /// Takes a text, and lexes it by the stepper that is kept. If an allocation fails, the text stays.
+    /// Takes over `text` and lexes it with the current stepper. If an allocation fails, `text` is unchanged.
     fn lex_anew(&mut self, text: &mut support::String) -> Result<Relexed, AllocError> {
         self.kept.lex_anew(text)?;
         self.is_poisoned = false;
         Ok(Relexed::none(self.tokens().len()))
     }
 
-    /// Returns the text. Where a step panicked it has the edit in which that was, and of a list also those before it.
+    /// Returns the text. If a step panicked, it contains the edit that panicked and, in a list, the edits before it.
     ///
     /// ```
     /// use rustc_lexer::LexedText;
@@ -343,7 +352,7 @@ impl<S: Stepper, E: Extent> Lexed<S, E> {
         self.kept.text()
     }
 
-    /// Returns its tokens, in order.
+    /// Returns the tokens, in order.
     ///
     /// ```
     /// use rustc_lexer::{LexedText, TokenKind};
@@ -357,7 +366,7 @@ impl<S: Stepper, E: Extent> Lexed<S, E> {
         self.unpoisoned().tokens()
     }
 
-    /// Returns the text, as [`text`](Lexed::text) does, and drops its tokens. It copies nothing.
+    /// Returns the text, like [`text`](Lexed::text), and drops the tokens. Nothing is copied.
     ///
     /// ```
     /// use rustc_lexer::LexedText;
@@ -371,7 +380,8 @@ impl<S: Stepper, E: Extent> Lexed<S, E> {
         self.kept.into_string().into()
     }
 
-    /// Returns the tokens with their offsets and their texts, in order. They can be taken from either end.
+    /// Returns an iterator over the pieces, which are the tokens with their offsets and texts, in order. It is
+    /// double-ended.
     ///
     /// ```
     /// use rustc_lexer::LexedText;
@@ -385,7 +395,7 @@ impl<S: Stepper, E: Extent> Lexed<S, E> {
         self.unpoisoned().pieces()
     }
 
-    /// Returns the pieces of some tokens, by their numbers. After an edit, repaint those of `relexed.changed_tokens()`.
+    /// Returns the pieces of a range of tokens, by index. After an edit, repaint those of `relexed.changed_tokens()`.
     ///
     /// ```
     /// use rustc_lexer::LexedText;
@@ -398,7 +408,7 @@ impl<S: Stepper, E: Extent> Lexed<S, E> {
     ///
     /// # Panics
     ///
-    /// Panics if there are no such tokens.
+    /// Panics if the range is out of bounds.
     #[track_caller]
     pub fn pieces_of_tokens(&self, numbers: impl RangeBounds<usize>) -> Pieces<'_> {
         let numbers = checked_range(&numbers, self.tokens());
@@ -406,10 +416,10 @@ impl<S: Stepper, E: Extent> Lexed<S, E> {
             .pieces_of_tokens(numbers.start, numbers.end)
     }
 
-    /// Returns the token that contains the byte at `offset`: its index, and where it begins. `None` at and past the
-    /// end of the text, and in a shebang line, which is no token.
+    /// Returns the index and the start of the token that contains the byte at `offset`. Returns `None` at and past the
+    /// end of the text, and in a shebang line, which is not a token.
     ///
-    /// It reads few of the tokens, most of all near the last edit.
+    /// Only a few tokens are read, especially near the last edit.
     ///
     /// ```
     /// use rustc_lexer::{LexedText, TokenStart};
@@ -424,8 +434,8 @@ impl<S: Stepper, E: Extent> Lexed<S, E> {
         self.unpoisoned().token_start_at(offset)
     }
 
-    /// Returns the piece that contains the byte at `offset`, like that under a caret. `None` at and past the end of the
-    /// text, and in a shebang line.
+    /// Returns the piece that contains the byte at `offset`, for example the one under a caret. Returns `None` at and
+    /// past the end of the text, and in a shebang line.
     ///
     /// ```
     /// use rustc_lexer::LexedText;
@@ -441,8 +451,9 @@ impl<S: Stepper, E: Extent> Lexed<S, E> {
         self.unpoisoned().piece_at(offset)
     }
 
-    /// Returns the pieces of the tokens that contain a byte of the range, like those of the lines in view. The
-    /// range may end anywhere, also past the text. An empty range has no piece.
+    /// Returns the pieces of the tokens that contain a byte of the range, for example of the visible lines.
+    ///
+    /// The range may end anywhere, even past the end of the text. An empty range contains no pieces.
     ///
     /// ```
     /// use rustc_lexer::LexedText;
@@ -452,7 +463,7 @@ impl<S: Stepper, E: Extent> Lexed<S, E> {
     /// assert_eq!(seen, ["abc", " ", "="]);
     /// ```
     ///
-    /// Backwards from a caret:
+    /// To search backwards from a caret:
     ///
     /// ```
     /// use rustc_lexer::LexedText;
@@ -467,8 +478,8 @@ impl<S: Stepper, E: Extent> Lexed<S, E> {
         self.unpoisoned().pieces_in_bytes(range.start, range.end)
     }
 
-    /// Returns whether the range is in bounds and on char boundaries, and the new text has at most `u32::MAX`
-    /// bytes.
+    /// Returns whether an edit is valid: the range is in bounds and on char boundaries, and the new text has at most
+    /// `u32::MAX` bytes.
     ///
     /// ```
     /// use rustc_lexer::LexedText;
@@ -482,7 +493,7 @@ impl<S: Stepper, E: Extent> Lexed<S, E> {
         self.kept.accepts(range.start, range.end, insert)
     }
 
-    /// Replaces the bytes of the range by `insert`.
+    /// Replaces the bytes in the range with `insert`.
     ///
     /// ```
     /// use rustc_lexer::LexedText;
@@ -494,7 +505,7 @@ impl<S: Stepper, E: Extent> Lexed<S, E> {
     ///
     /// # Panics
     ///
-    /// Panics if `try_edit` returns an error. Text and tokens are then as they were.
+    /// Panics if [`try_edit`](Lexed::try_edit) would return an error. Text and tokens are then unchanged.
     #[track_caller]
     pub fn edit(&mut self, range: impl RangeBounds<usize>, insert: &str) -> Relexed {
         let range = range_in(&range, self.text().len());
@@ -504,7 +515,7 @@ impl<S: Stepper, E: Extent> Lexed<S, E> {
         }
     }
 
-    /// Replaces the bytes of the range by `insert`.
+    /// Replaces the bytes in the range with `insert`, or returns an error.
     ///
     /// ```
     /// use rustc_lexer::{EditError, LexedText};
@@ -517,8 +528,8 @@ impl<S: Stepper, E: Extent> Lexed<S, E> {
     ///
     /// # Errors
     ///
-    /// `Range` if the range is out of bounds or not on char boundaries, `TooLong` if the new text has more than
-    /// `u32::MAX` bytes, `Memory` if an allocation failed. Text and tokens are then as they were.
+    /// Returns `Range` if the range is out of bounds or not on char boundaries, `TooLong` if the new text would be
+    /// longer than `u32::MAX` bytes, and `Memory` if an allocation fails. Text and tokens are then unchanged.
     #[track_caller]
     pub fn try_edit(
         &mut self,
@@ -530,7 +541,7 @@ impl<S: Stepper, E: Extent> Lexed<S, E> {
         Ok(self.apply(|kept| kept.edit(range.start, range.end, insert))?)
     }
 
-    /// Makes the edits in order, each on the text that those before it leave.
+    /// Applies the edits in order, each to the text that the edits before it leave.
     ///
     /// ```
     /// use rustc_lexer::{Edit, EditStop, LexedText};
@@ -543,13 +554,14 @@ impl<S: Stepper, E: Extent> Lexed<S, E> {
     ///
     /// # Errors
     ///
-    /// Which edit is the first that is refused, and why. Those before it are made.
+    /// Returns which edit failed first, and why. The edits before it have been applied.
     #[track_caller]
     pub fn edit_all(&mut self, edits: &[Edit<'_>]) -> Result<(), EditStop> {
         self.apply(|kept| kept.edit_all(edits))
     }
 
-    /// Makes the edits as `edit_all` does, and returns which tokens all of them kept: what to repaint is between.
+    /// Applies the edits like [`edit_all`](Lexed::edit_all), and returns which tokens all of them kept. The tokens to
+    /// repaint are in between.
     ///
     /// ```
     /// use rustc_lexer::{Edit, LexedText, Relexed};
@@ -564,17 +576,17 @@ impl<S: Stepper, E: Extent> Lexed<S, E> {
     ///
     /// # Errors
     ///
-    /// Which edit is the first that is refused, why, and which tokens the edits before it kept. Those are made.
+    /// Returns which edit failed first, why, and which tokens the edits before it kept. Those edits have been applied.
     #[track_caller]
     pub fn edit_each(&mut self, edits: &[Edit<'_>]) -> Result<Relexed, Stopped> {
         self.apply(|kept| kept.edit_each(edits))
     }
 
-    /// Makes the edits at once, like those of a rename or of several carets. All have offsets of the present text, are
-    /// in order and do not overlap, but may touch.
+    /// Applies several edits at once, such as those of a rename or of several carets. All offsets refer to the current
+    /// text. The edits must be in order and must not overlap, but they may touch.
     ///
-    /// It is one edit, from where the first begins to where the last ends, and returns its counts. An empty list keeps
-    /// all tokens in front.
+    /// They are applied as one edit, from the start of the first to the end of the last, and its counts are returned.
+    /// An empty list keeps all tokens in front.
     ///
     /// ```
     /// use rustc_lexer::{Edit, EditStop, LexedText, Relexed};
@@ -590,18 +602,18 @@ impl<S: Stepper, E: Extent> Lexed<S, E> {
     ///
     /// # Errors
     ///
-    /// `Range` says which is the first edit that is out of bounds or not on char boundaries, or begins before the one
-    /// in front of it ends. `TooLong` and `Memory` name the last. Text and tokens are then as they were.
+    /// Returns `Range` with the first edit that is out of bounds, is not on char boundaries, or starts before the
+    /// previous edit ends. `TooLong` and `Memory` name the last edit. Text and tokens are then unchanged.
     #[track_caller]
     pub fn edit_at_once(&mut self, edits: &[Edit<'_>]) -> Result<Relexed, EditStop> {
         self.apply(|kept| kept.edit_at_once(edits))
     }
 
-    /// Makes the text another one, like one that a formatter wrote, by one edit of what differs: between the
-    /// longest front that both texts have, and the longest back that they have behind that.
+    /// Replaces the text, for example with a formatter's output, and re-lexes only the part that differs.
     ///
-    /// Returns the counts of that edit. If the text is the same already, all tokens are kept in front. Where a step
-    /// panicked before, it lexes the text anew, and keeps none.
+    /// The common prefix of both texts is stripped, then their common suffix, and the rest is applied as one edit,
+    /// whose counts are returned. If the text is the same, all tokens are kept in front. If a step panicked before, the
+    /// whole text is lexed, and no token is kept.
     ///
     /// ```
     /// use rustc_lexer::{LexedText, Relexed};
@@ -614,13 +626,13 @@ impl<S: Stepper, E: Extent> Lexed<S, E> {
     ///
     /// # Panics
     ///
-    /// Panics if `try_set_text` returns an error. Text and tokens are then as they were.
+    /// Panics if [`try_set_text`](Lexed::try_set_text) would return an error. Text and tokens are then unchanged.
     #[track_caller]
     pub fn set_text(&mut self, text: impl AsRef<str>) -> Relexed {
         unwrap_or_panic(self.try_set_text(text))
     }
 
-    /// Makes the text another one by one edit, as `set_text` does.
+    /// Replaces the text, like [`set_text`](Lexed::set_text), or returns an error.
     ///
     /// ```
     /// use rustc_lexer::LexedText;
@@ -632,8 +644,8 @@ impl<S: Stepper, E: Extent> Lexed<S, E> {
     ///
     /// # Errors
     ///
-    /// `TooLong` if the new text has more than `u32::MAX` bytes, `Memory` if an allocation failed. Text and tokens
-    /// are then as they were.
+    /// Returns `TooLong` if the new text is longer than `u32::MAX` bytes, and `Memory` if an allocation fails. Text and
+    /// tokens are then unchanged.
     pub fn try_set_text(&mut self, text: impl AsRef<str>) -> Result<Relexed, EditError> {
         let text = try_fitting(text.as_ref())?;
         if self.is_poisoned {
@@ -643,8 +655,8 @@ impl<S: Stepper, E: Extent> Lexed<S, E> {
         Ok(self.apply(|kept| kept.set_text(text))?)
     }
 
-    /// Gives back the memory that edits have left unused, by copying what is kept. If an allocation fails, the
-    /// unused memory stays. Text, tokens and stepper do not change.
+    /// Frees the memory that edits have left unused, by copying the text and the tokens. If an allocation fails, the
+    /// unused memory is kept. Text, tokens and stepper do not change.
     ///
     /// ```
     /// use rustc_lexer::LexedText;
@@ -670,8 +682,9 @@ impl<S: Stepper, E: Extent> fmt::Debug for Lexed<S, E> {
     }
 }
 
-/// Two are equal if their texts, their tokens and their steppers are; two [`Steps`] are, if their editions are.
-/// Where the texts are equal, it needs the tokens.
+/// Two are equal if their texts, tokens and steppers are equal. Two [`Steps`] are equal if they have the same edition.
+///
+/// If the texts are equal, the tokens are compared, which panics if a step panicked.
 ///
 /// ```
 /// use rustc_lexer::{Edition, LexedText};
@@ -692,7 +705,7 @@ impl<S: Stepper + PartialEq, E: Extent> PartialEq for Lexed<S, E> {
 
 impl<S: Stepper + Eq, E: Extent> Eq for Lexed<S, E> {}
 
-/// Keeps the text, of which it copies nothing, with its tokens in the newest edition.
+/// Lexes a text in the newest edition, taking ownership of the `String` without copying it.
 ///
 /// ```
 /// use rustc_lexer::LexedText;
@@ -704,7 +717,7 @@ impl<S: Stepper + Eq, E: Extent> Eq for Lexed<S, E> {}
 ///
 /// # Panics
 ///
-/// Panics if the text has more than `u32::MAX` bytes, or if an allocation fails.
+/// Panics if the text is longer than `u32::MAX` bytes, or if an allocation fails.
 impl<E: Extent> From<String> for Lexed<Steps, E> {
     #[track_caller]
     fn from(text: String) -> Self {
@@ -712,7 +725,7 @@ impl<E: Extent> From<String> for Lexed<Steps, E> {
     }
 }
 
-/// That of the empty text.
+/// Creates an empty text.
 impl<E: Extent> Default for Lexed<Steps, E> {
     fn default() -> Self {
         Self::new("")
@@ -720,10 +733,10 @@ impl<E: Extent> Default for Lexed<Steps, E> {
 }
 
 impl<S: Stepper> Lexed<S, Part> {
-    /// Returns where the last token ends that at least two characters follow, in bytes, or 0 if there is none. Whatever is
-    /// appended to the text, its tokens up to there stay.
+    /// Returns the byte offset up to which tokens are final, whatever is appended to the text, or 0 if none are.
     ///
-    /// With edits at the end a kept text is a stream of tokens. It lexes nothing, and reads only the last tokens.
+    /// A token is final once at least two characters follow it. To lex a stream, append each chunk with an edit. This
+    /// call lexes nothing and reads only the last tokens.
     ///
     /// ```
     /// use rustc_lexer::LexedText;
@@ -756,7 +769,7 @@ impl<S: Stepper> Lexed<S, Whole> {
         self.unpoisoned().tokens_start()
     }
 
-    /// Returns where the body begins, which is all text after the head: how many tokens come before it, and its offset.
+    /// Returns the start of the body, which is the text after the head: its offset and the number of tokens before it.
     ///
     /// ```
     /// use rustc_lexer::LexedDocument;
@@ -772,7 +785,9 @@ impl<S: Stepper> Lexed<S, Whole> {
 }
 
 impl Relexed {
-    /// Returns the numbers of the tokens that were lexed, among those after the edit. Counts of no text do not wrap.
+    /// Returns the indices of the tokens that were lexed, in the list of tokens after the edit.
+    ///
+    /// The end saturates if the counts are those of no edit.
     ///
     /// ```
     /// use rustc_lexer::LexedText;

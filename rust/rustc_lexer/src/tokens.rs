@@ -1,4 +1,4 @@
-//! The tokens of a text, as an iterator.
+//! The iterator over the tokens of a text.
 
 use crate::{Edition, FromToken, FrontmatterAllowed, Token, TokenPieces, erased, fitting};
 #[cfg(feature = "alloc")]
@@ -6,9 +6,9 @@ use alloc::vec::Vec;
 use core::fmt;
 use core::iter::FusedIterator;
 
-/// Returns the tokens of a text, in order, as [`Edition::NEWEST`] has them.
+/// Returns an iterator over the tokens of a text, lexed in the newest edition.
 ///
-/// The lengths of the tokens sum to that of the text, and each token ends between two characters.
+/// The lengths of the tokens add up to the length of the text, and every token ends on a char boundary.
 ///
 /// ```
 /// use rustc_lexer::{tokenize, FrontmatterAllowed, TokenKind};
@@ -20,25 +20,26 @@ use core::iter::FusedIterator;
 ///
 /// # Panics
 ///
-/// Panics if the text has more than `u32::MAX` bytes.
+/// Panics if the text is longer than `u32::MAX` bytes.
 #[cfg_attr(not(debug_assertions), inline)]
 #[track_caller]
 pub fn tokenize(input: &str, frontmatter_allowed: FrontmatterAllowed) -> Tokens<'_> {
     tokenize_as(input, frontmatter_allowed, Edition::NEWEST)
 }
 
-/// An iterator over the tokens of a text, made by [`tokenize`], [`tokenize_in`], [`tokenize_as`] and
-/// [`tokenize_document`].
+/// An iterator over the tokens of a text.
+///
+/// It is returned by [`tokenize`], [`tokenize_in`], [`tokenize_as`] and [`tokenize_document`].
 #[derive(Clone)]
 #[must_use = "iterators are lazy and do nothing unless consumed"]
 pub struct Tokens<'a> {
     left: erased::Tokens<'a>,
-    /// The length of the whole text, of which offsets count from the start.
+    /// The length of the whole text. Offsets are relative to its start.
     pub(crate) len: usize,
 }
 
 impl<'a> Tokens<'a> {
-    /// Returns the text whose tokens are still to come.
+    /// Returns the text that has not been lexed yet.
     ///
     /// ```
     /// use rustc_lexer::{tokenize, FrontmatterAllowed};
@@ -53,7 +54,7 @@ impl<'a> Tokens<'a> {
         self.left.as_str()
     }
 
-    /// Returns where the next token begins, in bytes from the start of the text, or the text's length if none is left.
+    /// Returns the byte offset of the next token in the text, or the text's length if no token is left.
     ///
     /// ```
     /// use rustc_lexer::{Edition, tokenize_document};
@@ -71,7 +72,7 @@ impl<'a> Tokens<'a> {
         self.len - self.as_str().len()
     }
 
-    /// Returns the tokens that are left with their offsets and their texts, in order.
+    /// Returns an iterator over the remaining pieces: tokens with their offsets and texts.
     ///
     /// ```
     /// use rustc_lexer::{Edition, tokenize_document};
@@ -88,7 +89,7 @@ impl<'a> Tokens<'a> {
         }
     }
 
-    /// Returns whether that text may begin with a frontmatter.
+    /// Returns whether the remaining text may start with a frontmatter.
     ///
     /// ```
     /// use rustc_lexer::{tokenize, FrontmatterAllowed};
@@ -105,10 +106,9 @@ impl<'a> Tokens<'a> {
         self.left.frontmatter_allowed()
     }
 
-    /// Writes the next tokens into the buffer, as many as are left or as fit. Returns their number, which is less than
-    /// the length of the buffer only if no token is left.
+    /// Writes the next tokens into the buffer until it is full or no token is left, and returns how many were written.
     ///
-    /// They are the tokens that as many calls of `next` return.
+    /// They are the same tokens that repeated calls of `next` would return.
     ///
     /// ```
     /// use rustc_lexer::{tokenize, FrontmatterAllowed, Token, TokenKind};
@@ -129,7 +129,7 @@ impl<'a> Tokens<'a> {
         self.left.fill(buffer)
     }
 
-    /// Returns the tokens that are left, as `collect` does.
+    /// Collects the remaining tokens into a vector.
     ///
     /// ```
     /// use rustc_lexer::{tokenize, FrontmatterAllowed};
@@ -139,7 +139,7 @@ impl<'a> Tokens<'a> {
     #[cfg(feature = "alloc")]
     #[must_use]
     pub fn into_vec(self) -> Vec<Token> {
-        // The loop takes from a copy, which stays in registers, and has a branch for the commonest tokens.
+        // The copy stays in registers, and `next_classified` is a fast path for the most common tokens.
         let mut tokens = self.left.copy_unclassified();
         let mut list = Vec::new();
         loop {
@@ -171,15 +171,16 @@ impl Iterator for Tokens<'_> {
 
 impl FusedIterator for Tokens<'_> {}
 
-/// The text whose tokens are still to come.
+/// Shows the text that has not been lexed yet.
 impl fmt::Debug for Tokens<'_> {
     fn fmt(&self, f: &mut fmt::Formatter<'_>) -> fmt::Result {
         f.debug_tuple("Tokens").field(&self.as_str()).finish()
     }
 }
 
-/// Returns the tokens of a text in an edition, in order. No frontmatter is allowed: with `Edition::NEWEST` they are
-/// those of [`tokenize`] with `FrontmatterAllowed::No`.
+/// Returns an iterator over the tokens of a text, lexed in the given edition.
+///
+/// No frontmatter is allowed. With `Edition::NEWEST`, this is [`tokenize`] with `FrontmatterAllowed::No`.
 ///
 /// ```
 /// use rustc_lexer::{tokenize_in, Edition, TokenKind};
@@ -191,17 +192,17 @@ impl fmt::Debug for Tokens<'_> {
 ///
 /// # Panics
 ///
-/// Panics if the text has more than `u32::MAX` bytes.
+/// Panics if the text is longer than `u32::MAX` bytes.
 #[cfg_attr(not(debug_assertions), inline)]
 #[track_caller]
 pub fn tokenize_in(text: &str, edition: Edition) -> EditionTokens<'_> {
     tokenize_as(text, FrontmatterAllowed::No, edition)
 }
 
-/// Another name for [`Tokens`], as [`tokenize_in`] returns it.
+/// An alias of [`Tokens`], the return type of [`tokenize_in`].
 pub type EditionTokens<'a> = Tokens<'a>;
 
-/// Returns the tokens of a text in an edition, in order, with or without a frontmatter.
+/// Returns an iterator over the tokens of a text, lexed in the given edition, with or without a frontmatter.
 ///
 /// ```
 /// use rustc_lexer::{tokenize_as, Edition, FrontmatterAllowed};
@@ -213,7 +214,7 @@ pub type EditionTokens<'a> = Tokens<'a>;
 ///
 /// # Panics
 ///
-/// Panics if the text has more than `u32::MAX` bytes.
+/// Panics if the text is longer than `u32::MAX` bytes.
 #[cfg_attr(not(debug_assertions), inline)]
 #[track_caller]
 pub fn tokenize_as(
@@ -245,7 +246,7 @@ pub fn tokenize_as(
 ///
 /// # Panics
 ///
-/// Panics if the text has more than `u32::MAX` bytes.
+/// Panics if the text is longer than `u32::MAX` bytes.
 #[cfg_attr(not(debug_assertions), inline)]
 #[track_caller]
 pub fn tokenize_document(text: &str, edition: Edition) -> Tokens<'_> {
@@ -254,7 +255,7 @@ pub fn tokenize_document(text: &str, edition: Edition) -> Tokens<'_> {
     Tokens { left, len }
 }
 
-/// How many tokens a text has, at least and at most: no token is empty.
+/// Returns bounds on the number of tokens in a text. No token is empty.
 fn token_count_bounds(text: &str) -> (usize, Option<usize>) {
     (usize::from(!text.is_empty()), Some(text.len()))
 }
