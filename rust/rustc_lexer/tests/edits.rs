@@ -245,7 +245,7 @@ fn ranges_that_are_not_accepted() {
 #[test]
 #[allow(clippy::reversed_empty_ranges)]
 fn ranges_that_panic() {
-    const EDIT: &str = "the edit of 1..2: the range has to be inside the text, between characters";
+    const EDIT: &str = "the edit of 1..2: range out of bounds or not on a char boundary";
     type Call = fn() -> usize;
     let calls: [(Call, &str); 6] = [
         (|| LexedText::new("é").edit(1..2, "").lexed, EDIT),
@@ -294,7 +294,7 @@ fn ranges_that_are_rejected() {
         (
             EditError::Range,
             "Range",
-            "the range has to be inside the text, between characters",
+            "range out of bounds or not on a char boundary",
         ),
         (
             EditError::TooLong,
