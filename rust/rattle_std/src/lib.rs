@@ -1,9 +1,9 @@
-//! The parts of Rattle's `std` that programs use, over Rust's. Written by hand, and trusted: each item must do what the
-//! contract of its namesake in Rattle says, and its comment here says what that is.
+//! The parts of Rattle's `std` that programs use, on top of Rust's. This crate is hand-written and trusted: each item
+//! must meet the contract of the item with the same name in Rattle, which its comment here describes.
 //!
 //! Lists and texts are those of `rattle_support`, which return an error if an allocation fails. If one of Rust's own
-//! fails, the process aborts. These come at the start, before any input is read: those of [`env::args`], of
-//! [`env::var`], and of the standard streams, whose buffers nothing here uses.
+//! allocations fails, the process aborts. These happen at the start, before any input is read: in [`env::args`], in
+//! [`env::var`], and for the buffers of the standard streams, which are never used.
 
 #![deny(missing_docs, unsafe_code)]
 
@@ -14,7 +14,7 @@ pub mod rt;
 /// As in Rust.
 pub use std::{error, fmt, str};
 
-/// Requests for memory.
+/// Memory allocation.
 pub mod alloc {
     /// The allocator, and the error of a failed allocation.
     pub use rattle_support::{AllocError, Global};
@@ -29,8 +29,8 @@ pub mod process {
     pub use std::process::ExitCode;
 }
 
-/// The prelude of Rattle: what each file of a source names without an import.
+/// The prelude of Rattle: the names that each source file uses without an import.
 pub mod prelude {
-    /// A list and a text. The contracts say what their items and bytes are after each call.
+    /// A list and a text.
     pub use rattle_support::{String, Vec};
 }

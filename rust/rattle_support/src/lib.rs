@@ -1,5 +1,5 @@
-//! The parts of Rattle's `std` that libraries use and Rust's `core` does not have. It is written by hand, and trusted:
-//! each item must do what the contract of its namesake in Rattle says.
+//! The parts of Rattle's `std` that libraries use and Rust's `core` does not have. This crate is hand-written and
+//! trusted: each item must meet the contract of the item with the same name in Rattle.
 
 #![no_std]
 #![deny(unsafe_op_in_unsafe_fn)]
@@ -45,14 +45,14 @@ impl Deref for String {
     }
 }
 
-/// Appends what is written. If an allocation fails, it appends nothing and returns an error.
+/// Appends the text. If an allocation fails, it appends nothing and returns an error.
 impl fmt::Write for String {
     fn write_str(&mut self, text: &str) -> fmt::Result {
         self.push_str(text).map_err(|_| fmt::Error)
     }
 }
 
-/// The allocator of the program. In Rattle it is passed to what allocates.
+/// The allocator of the program. In Rattle, it is passed to every function that allocates.
 #[derive(Clone, Copy, Debug, Default, PartialEq, Eq)]
 pub struct Global;
 

@@ -1,4 +1,4 @@
-//! Lists and texts whose calls return an error if an allocation fails. Nothing changes then.
+//! `Vec` and `String` whose methods return an error, and change nothing, if an allocation fails.
 
 use super::{AllocError, Global};
 use alloc::collections::TryReserveError;
@@ -10,12 +10,12 @@ impl From<TryReserveError> for AllocError {
     }
 }
 
-/// A list. Its contracts are those of `std::vec::Vec` in Rattle, which say what `items` is after each call.
+/// A list, with the contracts of `std::vec::Vec` in Rattle, which define `items` after each call.
 #[derive(Clone, Debug, PartialEq, Eq)]
 pub struct Vec<T>(alloc::vec::Vec<T>);
 
 impl<T> Vec<T> {
-    /// No items.
+    /// Creates an empty list.
     pub fn new(_: Global) -> Vec<T> {
         Vec(alloc::vec::Vec::new())
     }
@@ -40,7 +40,7 @@ impl<T> Vec<T> {
         self.0.capacity()
     }
 
-    /// Makes room for that many more items, and for no others.
+    /// Reserves room for exactly that many more items.
     pub fn reserve_exact(&mut self, more: usize) -> Result<(), AllocError> {
         Ok(self.0.try_reserve_exact(more)?)
     }
@@ -50,8 +50,7 @@ impl<T> Vec<T> {
         self.0.truncate(len);
     }
 
-    /// Moves the items to a buffer that just fits. If its allocation fails they stay, where Rust's own call ends the
-    /// program.
+    /// Moves the items to a buffer of their size. If the allocation fails, nothing changes; Rust's own method aborts.
     pub fn shrink_to_fit(&mut self) {
         let mut fitting = alloc::vec::Vec::new();
         if self.0.len() < self.0.capacity() && fitting.try_reserve_exact(self.0.len()).is_ok() {
@@ -87,7 +86,7 @@ impl<T: Copy> Vec<T> {
         Ok(())
     }
 
-    /// Makes it `len` items long: drops the last items, or appends `value` as often as needed.
+    /// Sets the length: drops the last items, or appends copies of `value`.
     pub fn resize(&mut self, len: usize, value: T) -> Result<(), AllocError> {
         self.0.try_reserve(len.saturating_sub(self.0.len()))?;
         self.0.resize(len, value);
@@ -95,17 +94,17 @@ impl<T: Copy> Vec<T> {
     }
 }
 
-/// A text. Its contracts are those of `std::string::String` in Rattle, which say what its bytes are after each call.
+/// A text, with the contracts of `std::string::String` in Rattle, which define its bytes after each call.
 #[derive(Clone, Debug, PartialEq, Eq)]
 pub struct String(alloc::string::String);
 
 impl String {
-    /// The empty text.
+    /// Creates an empty text.
     pub fn new(_: Global) -> String {
         String(alloc::string::String::new())
     }
 
-    /// A copy of a text.
+    /// Copies a text.
     pub fn from_str(_: Global, text: &str) -> Result<String, AllocError> {
         let mut held = alloc::string::String::new();
         held.try_reserve_exact(text.len())?;
@@ -138,7 +137,7 @@ impl String {
         self.0.truncate(len);
     }
 
-    /// Moves the text to a buffer that just fits, as the call of a list does.
+    /// Moves the text to a buffer of its size, like [`Vec::shrink_to_fit`].
     pub fn shrink_to_fit(&mut self) {
         let mut fitting = alloc::string::String::new();
         if self.0.len() < self.0.capacity() && fitting.try_reserve_exact(self.0.len()).is_ok() {
@@ -147,16 +146,16 @@ impl String {
         }
     }
 
-    /// Makes room for that many more bytes.
+    /// Reserves room for that many more bytes.
     #[inline]
     pub fn reserve(&mut self, more: usize) -> Result<(), AllocError> {
         Ok(self.0.try_reserve(more)?)
     }
 
-    /// Replaces the bytes of the range by a text.
+    /// Replaces the bytes of the range with a text.
     pub fn replace_range(&mut self, range: Range<usize>, with: &str) -> Result<(), AllocError> {
         self.0.try_reserve(with.len().saturating_sub(range.len()))?;
-        // `replace_range` of `std` puts a text in byte by byte. A byte takes as long as moving some 32 that follow.
+        // `String::replace_range` inserts byte by byte, and a byte costs as much as moving some 32 bytes after it.
         let behind = self.0.len().saturating_sub(range.end);
         if range.is_empty() || with.len() > behind / 32 {
             let start = range.start;
@@ -169,7 +168,7 @@ impl String {
     }
 }
 
-/// What only programs take.
+/// Methods that only programs use.
 impl String {
     /// Returns the text of these bytes, or an error if they are not UTF-8.
     pub fn from_utf8(bytes: Vec<u8>) -> Result<String, core::str::Utf8Error> {

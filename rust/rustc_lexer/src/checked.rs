@@ -1,11 +1,11 @@
-//! A stepper whose tokens are tested where they end.
+//! A stepper whose tokens are checked.
 
 use crate::Token;
 use crate::erased::Stepper;
 
-/// A [`Stepper`] of your own, of which a kept text takes the tokens: each is tested where it ends.
+/// A [`Stepper`] of your own, inside a lexed text that checks where each of its tokens ends.
 ///
-/// [`LexedText::try_with`](crate::LexedText::try_with) makes it. This is the type of such a text:
+/// [`LexedText::try_with`](crate::LexedText::try_with) creates it. You need its name to store such a text:
 ///
 /// ```
 /// use rustc_lexer::{Checked, LexedText, Stepper, Token, TokenKind};

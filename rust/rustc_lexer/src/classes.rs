@@ -1,11 +1,11 @@
-//! What characters and texts are to the lexer.
+//! Classes of characters, and tests of texts.
 
 use crate::erased;
 
-/// Returns whether the character is white space in Rust: one of the eleven of `Pattern_White_Space`. No version of
-/// Unicode adds one.
+/// Returns whether the character is whitespace in Rust: one of the eleven characters of `Pattern_White_Space`, to which
+/// no version of Unicode adds any.
 ///
-/// Rust Reference, [Whitespace](https://doc.rust-lang.org/reference/whitespace.html).
+/// Rust Reference: [whitespace](https://doc.rust-lang.org/reference/whitespace.html).
 ///
 /// ```
 /// use rustc_lexer::is_whitespace;
@@ -19,10 +19,10 @@ pub fn is_whitespace(c: char) -> bool {
     erased::is_whitespace(c)
 }
 
-/// Returns whether the character is horizontal white space: a tab or a space. A frontmatter has only these on the lines
-/// of its fences.
+/// Returns whether the character is horizontal whitespace: a tab or a space. The lines of the fences of a frontmatter
+/// can contain no other whitespace.
 ///
-/// Rust RFC 3503, [Frontmatter](https://rust-lang.github.io/rfcs/3503-frontmatter.html).
+/// Rust RFC 3503: [frontmatter](https://rust-lang.github.io/rfcs/3503-frontmatter.html).
 ///
 /// ```
 /// use rustc_lexer::is_horizontal_whitespace;
@@ -35,10 +35,10 @@ pub fn is_horizontal_whitespace(c: char) -> bool {
     erased::is_horizontal_whitespace(c)
 }
 
-/// Returns whether an identifier may begin with the character: `_`, or `XID_Start` as this build's `unicode-ident` has
-/// it, which is of [`UNICODE_VERSION`](crate::UNICODE_VERSION).
+/// Returns whether an identifier can start with the character: `_`, or a character with the property `XID_Start` in
+/// [`UNICODE_VERSION`](crate::UNICODE_VERSION).
 ///
-/// Rust Reference, [Identifiers](https://doc.rust-lang.org/reference/identifiers.html).
+/// Rust Reference: [identifiers](https://doc.rust-lang.org/reference/identifiers.html).
 ///
 /// ```
 /// use rustc_lexer::is_id_start;
@@ -51,10 +51,10 @@ pub fn is_id_start(c: char) -> bool {
     erased::is_id_start(c)
 }
 
-/// Returns whether an identifier may continue with the character: `XID_Continue` as this build's `unicode-ident` has
-/// it, which is of [`UNICODE_VERSION`](crate::UNICODE_VERSION).
+/// Returns whether an identifier can continue with the character, which has the property `XID_Continue` in
+/// [`UNICODE_VERSION`](crate::UNICODE_VERSION).
 ///
-/// Rust Reference, [Identifiers](https://doc.rust-lang.org/reference/identifiers.html).
+/// Rust Reference: [identifiers](https://doc.rust-lang.org/reference/identifiers.html).
 ///
 /// ```
 /// use rustc_lexer::is_id_continue;
@@ -67,10 +67,10 @@ pub fn is_id_continue(c: char) -> bool {
     erased::is_id_continue(c)
 }
 
-/// Returns whether the text is an identifier or a keyword: a character that may begin one, and then characters with
-/// which one may continue.
+/// Returns whether the text is an identifier or a keyword: a character that can start one, followed by characters that
+/// can continue one.
 ///
-/// Rust Reference, [Identifiers](https://doc.rust-lang.org/reference/identifiers.html).
+/// Rust Reference: [identifiers](https://doc.rust-lang.org/reference/identifiers.html).
 ///
 /// ```
 /// use rustc_lexer::is_ident;
@@ -83,8 +83,8 @@ pub fn is_ident(string: &str) -> bool {
     erased::is_ident(string)
 }
 
-/// Returns whether the text has at most `u32::MAX` bytes, so that each length in it is a `u32`. Calls that take a text
-/// panic if it has more.
+/// Returns whether the text has at most `u32::MAX` bytes, so that all lengths fit in a `u32`. Functions that lex a text
+/// panic if it is longer.
 ///
 /// ```
 /// assert!(rustc_lexer::fits("fn main() {}"));
@@ -95,8 +95,8 @@ pub fn fits(text: &str) -> bool {
     erased::fits(text)
 }
 
-/// Returns whether [`validate_raw_str`](crate::validate_raw_str) may be called: `prefix_len` is at least 1, and the
-/// character of the text with this number, counted from 1, is `r`.
+/// Returns whether [`validate_raw_str`](crate::validate_raw_str) can be called: `prefix_len` is at least 1, and the
+/// last of the first `prefix_len` characters is `r`.
 ///
 /// ```
 /// use rustc_lexer::starts_raw;

@@ -3,7 +3,7 @@
 use crate::{FrontmatterAllowed, GuardedStr, Token, erased, fitting};
 use core::fmt;
 
-/// Takes the tokens of a text one by one, as [`Edition::NEWEST`](crate::Edition::NEWEST) has them.
+/// A cursor that returns the tokens of a text one by one, in [`Edition::NEWEST`](crate::Edition::NEWEST).
 ///
 /// ```
 /// use rustc_lexer::{Cursor, FrontmatterAllowed, TokenKind};
@@ -16,7 +16,7 @@ use core::fmt;
 pub struct Cursor<'a>(erased::Cursor<'a>);
 
 impl<'a> Cursor<'a> {
-    /// Returns a cursor at the start of the text.
+    /// Creates a cursor at the start of a text.
     ///
     /// ```
     /// use rustc_lexer::{Cursor, FrontmatterAllowed};
@@ -34,7 +34,7 @@ impl<'a> Cursor<'a> {
         Cursor(erased::Cursor::new(fitting(input), frontmatter_allowed))
     }
 
-    /// Returns the text that is left.
+    /// Returns the remaining text.
     ///
     /// ```
     /// use rustc_lexer::{Cursor, FrontmatterAllowed};
@@ -49,7 +49,7 @@ impl<'a> Cursor<'a> {
         self.0.as_str()
     }
 
-    /// Returns the next character without taking it, or U+0000 at the end of the text.
+    /// Returns the next character without consuming it, or U+0000 at the end of the text.
     ///
     /// ```
     /// use rustc_lexer::{Cursor, FrontmatterAllowed};
@@ -62,7 +62,7 @@ impl<'a> Cursor<'a> {
         self.0.first()
     }
 
-    /// Returns the character after the next two without taking any, or U+0000 if there is none.
+    /// Returns the character after the next two without consuming any, or U+0000 if there is none.
     ///
     /// ```
     /// use rustc_lexer::{Cursor, FrontmatterAllowed};
@@ -75,8 +75,9 @@ impl<'a> Cursor<'a> {
         self.0.third()
     }
 
-    /// Takes the next token and returns it. At the end of the text that is `Eof`, of length 0, and nothing changes.
-    /// Hashes that `guarded_double_quoted_string` took without finding a string are part of the token.
+    /// Consumes and returns the next token. At the end of the text, returns `Eof`, of length 0, and changes nothing.
+    ///
+    /// Hashes that `guarded_double_quoted_string` consumed without finding a string are part of the token.
     ///
     /// ```
     /// use rustc_lexer::{Cursor, FrontmatterAllowed, TokenKind};
@@ -90,8 +91,8 @@ impl<'a> Cursor<'a> {
         self.0.advance_token()
     }
 
-    /// Takes a guarded string, like `#"a"#`, and returns it. If there is none, it takes the hashes at the front, which
-    /// are then part of the next token.
+    /// Consumes and returns a guarded string, such as `#"a"#`. If there is none, consumes the next hashes, which become
+    /// part of the next token, and returns `None`.
     ///
     /// ```
     /// use rustc_lexer::{Cursor, FrontmatterAllowed};
@@ -108,7 +109,7 @@ impl<'a> Cursor<'a> {
     }
 }
 
-/// The text that is left.
+/// Shows the remaining text.
 impl fmt::Debug for Cursor<'_> {
     fn fmt(&self, f: &mut fmt::Formatter<'_>) -> fmt::Result {
         f.debug_tuple("Cursor").field(&self.as_str()).finish()

@@ -1,4 +1,4 @@
-//! How much of a file a text is.
+//! How much of a file a text contains.
 
 pub use crate::erased::head::{Part, Whole};
 
@@ -7,18 +7,18 @@ use crate::edit_error::try_fitting;
 use crate::erased::{Edition, Lexed, Steps, head};
 use crate::support::Global;
 
-/// How much of a file a text is: [`Part`] or [`Whole`], and nothing else.
+/// How much of a file a text contains: [`Part`] or [`Whole`]. This trait is sealed.
 pub trait Extent: Sealed {}
 
 impl Extent for Part {}
 impl Extent for Whole {}
 
-/// The proved trait of extents, sealed: [`Extent`] adds nothing to it.
+/// The trait of the generated code. [`Extent`] only seals it.
 pub trait Sealed: head::Extent {
     /// The name of a lexed text of this extent.
     const NAME: &'static str;
 
-    /// Lexes a text. Nothing in it is generic, so it is compiled with this crate.
+    /// Lexes a text. Nothing here is generic, so it is compiled in this crate and not in the caller's.
     fn lex(text: &str, edition: Edition) -> Result<Lexed<Steps, Self>, EditError>;
 }
 

@@ -1,9 +1,9 @@
 //! Incremental lexing for tokens in lists of your own: lexes only what an edit changed.
 //!
-//! [`LexedText`](crate::LexedText) and [`LexedDocument`](crate::LexedDocument) store a text with its tokens. If your program
-//! stores them in its own way, call [`Relex`], with [`Head`] for a whole file. `Relex` rejects a change that cannot have
-//! resulted in the text. It cannot check that the tokens are those of the old text: with any others the result has no
-//! meaning. `Head::change_to` checks nothing, and can panic with a head or an edit of another text.
+//! [`LexedText`](crate::LexedText) and [`LexedDocument`](crate::LexedDocument) store a text with its tokens. If your
+//! program stores them in its own way, call [`Relex`], with [`Head`] for a whole file. `Relex` rejects a change that
+//! cannot have resulted in the text. It cannot check that the tokens are those of the old text: with any others the
+//! result has no meaning. `Head::change_to` checks nothing, and can panic with a head or an edit of another text.
 //!
 //! Arguments are not checked: with tokens or a head that do not belong to the old text, the new tokens may be wrong, or
 //! a call may panic.

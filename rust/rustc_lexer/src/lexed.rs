@@ -59,8 +59,8 @@ fn checked_range(numbers: &impl RangeBounds<usize>, tokens: &[Token]) -> Range<u
 /// allocation fails, and has a `try_` variant that returns an error; a method that takes a list of edits returns a
 /// `Result` under its plain name, since its error says which edit failed.
 ///
-/// If a step panics in an edit, the text is poisoned: [`text`](Lexed::text) has the edit, but each method that needs the
-/// tokens panics until `set_text` lexes a text again. A clone of it is poisoned too.
+/// If a step panics in an edit, the text is poisoned: [`text`](Lexed::text) has the edit, but each method that needs
+/// the tokens panics until `set_text` lexes a text again. A clone of it is poisoned too.
 #[derive(Clone)]
 pub struct Lexed<S: Stepper = Steps, E: Extent = Part> {
     kept: erased::Lexed<S, E>,
@@ -91,8 +91,8 @@ pub type LexedText<S = Steps> = Lexed<S, Part>;
 /// and a shebang line, and a frontmatter is one token.
 ///
 /// It has the same methods as a [`LexedText`](crate::LexedText), which is for a fragment of a file. Byte order mark,
-/// shebang line and frontmatter are the *head*, and the text after them is the *body*. An edit of the body that does not
-/// change the head keeps the same tokens of the body that it would keep if the body were a text of its own.
+/// shebang line and frontmatter are the *head*, and the text after them is the *body*. An edit of the body that does
+/// not change the head keeps the same tokens of the body that it would keep if the body were a text of its own.
 ///
 /// ```
 /// use rustc_lexer::{LexedDocument, TokenKind};
@@ -107,9 +107,9 @@ pub type LexedText<S = Steps> = Lexed<S, Part>;
 /// assert_eq!(lexed.pieces().nth(3).map(|piece| (piece.start, piece.text)), Some((28, "fn")));
 /// ```
 ///
-/// The first piece starts at [`tokens_start`](LexedDocument::tokens_start): a byte order mark (U+FEFF) and a shebang line
-/// come before it and are not pieces. If an edit changes them, `kept_front` is 0; repaint the text before the first
-/// piece too.
+/// The first piece starts at [`tokens_start`](LexedDocument::tokens_start): a byte order mark (U+FEFF) and a shebang
+/// line come before it and are not pieces. If an edit changes them, `kept_front` is 0; repaint the text before the
+/// first piece too.
 pub type LexedDocument<S = Steps> = Lexed<S, Whole>;
 
 impl<E: Extent> Lexed<Steps, E> {

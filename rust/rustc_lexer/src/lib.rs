@@ -1,7 +1,7 @@
 //! A lexer for Rust source, with the names, types and signatures of the compiler's own `rustc_lexer`.
 //!
-//! A text goes in, tokens come out. A token is a [`TokenKind`] and a length in bytes. Lexing never fails: a malformed
-//! token, like an unclosed comment, says what is wrong with it.
+//! Text goes in, tokens come out. A token is a [`TokenKind`] and a length in bytes. Lexing never fails: a malformed
+//! token, such as an unterminated comment, records its error.
 //!
 //! ```
 //! use rustc_lexer::{tokenize, FrontmatterAllowed, TokenKind};
@@ -10,29 +10,29 @@
 //! assert!(kinds.eq([TokenKind::Ident, TokenKind::Plus, TokenKind::Ident]));
 //! ```
 //!
-//! | You want | Take |
+//! | You want | Use |
 //! |---|---|
-//! | the tokens of a text, in the edition of 2024 | [`tokenize`] |
-//! | those of a whole file, after its shebang line, in an edition | [`tokenize_document`] |
-//! | those of a part of a file, in an edition | [`tokenize_in`]; [`tokenize_as`] also allows a frontmatter |
-//! | them with their offsets and texts | [`Tokens::pieces`] |
+//! | the tokens of a text, in the 2024 edition | [`tokenize`] |
+//! | the tokens of a whole file, in an edition | [`tokenize_document`] |
+//! | the tokens of a fragment of a file, in an edition | [`tokenize_in`]; [`tokenize_as`] also allows a frontmatter |
+//! | tokens with their offsets and texts | [`Tokens::pieces`] |
 //! | many tokens at once | [`Tokens::fill`], `Tokens::into_vec` |
-//! | to take those of [`tokenize`] one by one, and look ahead | [`Cursor`] |
-//! | the tokens of a file while it is edited | [`LexedDocument`], or [`LexedText`] for a part of a file |
-//! | several edits at once, like those of a rename | [`LexedText::edit_at_once`] |
-//! | the same on lists of your own | the module [`incremental`] |
-//! | the final tokens of a text that is still arriving | [`LexedText::settled`]; [`settled_in`] lexes it all |
-//! | to write tokens so that lexing gives them back | [`JoinedText`] |
-//! | to test what would panic | [`fits`], [`starts_raw`] |
+//! | one token after another, with lookahead | [`Cursor`] |
+//! | the tokens of a file while it is edited | [`LexedDocument`], or [`LexedText`] for a fragment |
+//! | several edits at once, such as those of a rename | [`LexedText::edit_at_once`] |
+//! | incremental lexing with your own data structures | the module [`incremental`] |
+//! | the final tokens of a text that is still arriving | [`LexedText::settled`]; [`settled_in`] lexes the whole text |
+//! | to print tokens so that they lex back to themselves | [`JoinedText`] |
+//! | to check preconditions | [`fits`], [`starts_raw`] |
 //!
 //! # What is proved
 //!
-//! The modules below `erased` are generated from a source in Rattle, which is Rust with contracts, by deleting the
-//! contracts. It is proved of that source that, for every text under 4 GiB, its tokens are the only ones that a grammar
-//! of the language allows. The rest of this crate is written by hand: the calls of the original, of [`LexedText`] and
-//! of [`LexedDocument`] test what the contracts require of a caller, and where the tokens of a [`Stepper`] end.
-//! The module [`incremental`] tests nothing: lists or a head that are not those of the old text give wrong tokens or a
-//! panic. The repository's `docs/ERASED.md` says what is claimed and what is trusted.
+//! The module `erased` is generated from a source in Rattle, which is Rust with contracts, by deleting the contracts.
+//! It is proved for that source that, for every text under 4 GiB, it returns the only tokens that a grammar of Rust
+//! allows. The rest of this crate is hand-written: its functions check the preconditions of the contracts, and where
+//! the tokens of a [`Stepper`] end. The module [`incremental`] cannot check that lists and heads belong to the old
+//! text; if they do not, tokens are wrong, or it panics. `docs/ERASED.md` in the repository says what is claimed and
+//! what is trusted.
 #![cfg_attr(
     feature = "alloc",
     doc = "\n# A program that keeps the tokens of a file\n\n```no_run"
@@ -62,10 +62,10 @@ mod cursor;
 mod edit_error;
 /// The proved source without its contracts, generated from `crates/rustc_lexer`.
 ///
-/// This is for packages that are generated in the same way, like `marks` and the programs: their calls are proved to
-/// meet the contracts. The calls here do not test them, and may return anything or panic if they are not met. They may
-/// change with the source. All other callers use the calls at the crate's root.
-// Contracts alone use some imports of the source, and Clippy would write some of it otherwise.
+/// This is for packages that are generated in the same way, such as `marks` and the programs, whose calls are proved to
+/// meet the preconditions. Nothing here checks preconditions; if they are not met, results are arbitrary, or it panics.
+/// Everything here can change with the source. Other callers use the functions at the crate's root.
+// Only contracts use some of its imports, and Clippy would write some of it differently.
 #[allow(unused_imports, dead_code)]
 #[allow(
     clippy::missing_errors_doc,
@@ -123,7 +123,7 @@ pub use joined_text::JoinedText;
 #[cfg(feature = "alloc")]
 #[doc(alias("edit", "incremental", "relex", "reparse"))]
 pub use lexed::{Lexed, LexedDocument, LexedText};
-// What links in the texts name: some are elsewhere, and some are hidden where there is no memory.
+// Names that links in the documentation need: some are in other modules, and some are hidden without `alloc`.
 #[cfg(all(doc, not(feature = "alloc")))]
 use erased::{JoinedText, LexedDocument, LexedText, Pieces};
 #[cfg(doc)]
@@ -132,8 +132,10 @@ pub use pieces::TokenPieces;
 use rattle_support as support;
 pub use rattle_support::AllocError;
 pub use tokens::{EditionTokens, Tokens, tokenize, tokenize_as, tokenize_document, tokenize_in};
-/// The version of Unicode of the tables that say which characters begin or continue an identifier: those of the
-/// `unicode-ident` of this build. The table of emoji is part of this crate, and is that of Unicode 15.
+/// The Unicode version of the tables that decide which characters start or continue an identifier.
+///
+/// These are the tables of the `unicode-ident` in this build. The table of emoji is part of this crate, and has Unicode
+/// version 15.
 ///
 /// ```
 /// assert!(rustc_lexer::UNICODE_VERSION.0 >= 12);
@@ -141,8 +143,8 @@ pub use tokens::{EditionTokens, Tokens, tokenize, tokenize_as, tokenize_document
 #[doc(inline)]
 pub use unicode_ident::UNICODE_VERSION;
 
-// The calls of this crate are `inline` in a release alone: a program that optimizes only its dependencies would compile
-// such a call itself, without optimization.
+// Functions of this crate are `inline` only in release builds: a program that optimizes only its dependencies would
+// compile an inlined function in its own crate, without optimization.
 
 /// Returns the text. Panics if it is too long.
 #[cfg_attr(not(debug_assertions), inline(always))]
@@ -152,7 +154,10 @@ fn fitting(text: &str) -> &str {
     text
 }
 
-/// Returns the length of the shebang line at the start of a text, without the end of the line, if there is one.
+/// Returns the length of the shebang line at the start of a text in bytes, without its line ending, or `None` if there
+/// is none.
+///
+/// Rust Reference: [shebang removal](https://doc.rust-lang.org/reference/input-format.html#shebang-removal).
 ///
 /// ```
 /// use rustc_lexer::strip_shebang;
@@ -170,8 +175,8 @@ pub fn strip_shebang(input: &str) -> Option<usize> {
     erased::strip_shebang(fitting(input))
 }
 
-/// Returns `Ok` if the raw string that the text begins with is well-formed, otherwise what is wrong with it.
-/// `prefix_len` is the length of its prefix in characters, with the `r`.
+/// Validates the raw string at the start of a text. `prefix_len` is the length of its prefix in characters, including
+/// the `r`.
 ///
 /// ```
 /// use rustc_lexer::{validate_raw_str, RawStrError};
@@ -187,7 +192,8 @@ pub fn strip_shebang(input: &str) -> Option<usize> {
 ///
 /// # Errors
 ///
-/// Returns what is wrong: what stands where its quote should, how many hashes are missing, or that they are too many.
+/// Returns an error if the raw string is malformed: another character instead of the opening quote, no closing quote
+/// with enough hashes, or too many hashes.
 #[track_caller]
 pub fn validate_raw_str(input: &str, prefix_len: u32) -> Result<(), RawStrError> {
     let text = fitting(input);
@@ -198,8 +204,9 @@ pub fn validate_raw_str(input: &str, prefix_len: u32) -> Result<(), RawStrError>
     erased::validate_raw_str(text, prefix_len)
 }
 
-/// Returns whether the tokens of a text in an edition are those of its part before `at`, and then those of its part after
-/// `at`. So a caller with a buffer of its own can find out whether what it wrote runs together with what was there.
+/// Returns whether the tokens of a text are those of its part before `at`, followed by those of its part after `at`.
+///
+/// Use it to find out whether two pieces of text in your own buffer would merge into one token.
 ///
 /// ```
 /// use rustc_lexer::{Edition, is_seam};
@@ -220,11 +227,11 @@ pub fn is_seam(text: &str, at: usize, edition: Edition) -> bool {
     erased::is_seam(text, at, edition)
 }
 
-/// Returns the end of the last token that at least two characters follow, or 0 if there is none. However the text
-/// continues, its tokens up to there stay. It is read in the newest edition, as a part of a file.
+/// Returns the byte offset up to which the tokens of a fragment are final, whatever is appended, or 0 if none are. The
+/// text is lexed in the newest edition.
 ///
-/// Each call lexes the text from its start. Of a text that comes in parts, call it on what is not final yet, so that
-/// only a token that is still open, like a long comment, is lexed again with each part.
+/// Every call lexes the text from its start. If a text arrives in chunks, pass only the part that is not final yet.
+/// Then only an unterminated token, such as a long comment, is re-lexed with every chunk.
 ///
 /// ```
 /// use rustc_lexer::settled;
@@ -241,7 +248,7 @@ pub fn settled(input: &str) -> usize {
     erased::settled(fitting(input))
 }
 
-/// Returns what [`settled`] does, with the tokens of [`tokenize_in`] in an edition.
+/// Returns the byte offset up to which the tokens of a fragment are final, like [`settled`], in the given edition.
 ///
 /// ```
 /// use rustc_lexer::{Edition, settled_in};

@@ -1,4 +1,4 @@
-//! Tokens with their offsets and their texts.
+//! Tokens with their offsets and texts.
 
 #[cfg(feature = "alloc")]
 use crate::Pieces;
@@ -7,7 +7,7 @@ use core::fmt;
 use core::iter::FusedIterator;
 use core::ops::Range;
 
-/// An iterator over the tokens of a text with their offsets and their texts, made by [`Tokens::pieces`].
+/// An iterator over the tokens of a text with their offsets and texts, created by [`Tokens::pieces`].
 #[derive(Clone)]
 #[must_use = "iterators are lazy and do nothing unless consumed"]
 pub struct TokenPieces<'a> {
@@ -35,7 +35,7 @@ impl<'a> Iterator for TokenPieces<'a> {
 
 impl FusedIterator for TokenPieces<'_> {}
 
-/// The text whose pieces are still to come.
+/// Shows the remaining text.
 impl fmt::Debug for TokenPieces<'_> {
     fn fmt(&self, f: &mut fmt::Formatter<'_>) -> fmt::Result {
         f.debug_tuple("TokenPieces").field(&self.rest).finish()
@@ -45,7 +45,7 @@ impl fmt::Debug for TokenPieces<'_> {
 #[cfg(feature = "alloc")]
 impl FusedIterator for Pieces<'_> {}
 
-/// How many pieces are left.
+/// Shows how many pieces are left.
 #[cfg(feature = "alloc")]
 impl fmt::Debug for Pieces<'_> {
     fn fmt(&self, f: &mut fmt::Formatter<'_>) -> fmt::Result {
@@ -56,7 +56,7 @@ impl fmt::Debug for Pieces<'_> {
 }
 
 impl Piece<'_> {
-    /// Returns where the token begins and where it ends, in bytes from the start of the text.
+    /// Returns the byte range of the token in the text.
     ///
     /// ```
     /// use rustc_lexer::{FrontmatterAllowed, tokenize};

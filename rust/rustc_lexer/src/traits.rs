@@ -1,4 +1,4 @@
-//! Traits of `core` that the proved source does not have.
+//! Traits of `core` that the proved source does not implement.
 
 use crate::incremental::{Measured, Relex};
 use crate::{Edition, FrontmatterAllowed, Steps};
@@ -20,14 +20,14 @@ impl fmt::Display for Edition {
     }
 }
 
-/// The steps of [`Steps::new`].
+/// Creates the lexer of the newest edition, like [`Steps::new`].
 impl Default for Steps {
     fn default() -> Steps {
         Steps::new()
     }
 }
 
-/// Equal are those of one edition.
+/// Two are equal if they have the same edition.
 impl PartialEq for Steps {
     fn eq(&self, other: &Steps) -> bool {
         self.edition() == other.edition()
