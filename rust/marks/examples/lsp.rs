@@ -5,8 +5,9 @@
 use marks::{Class, Edition, KeywordKind, class_of, keyword_kind};
 use rustc_lexer::{EditError, LexedDocument, Piece, Pieces, Relexed};
 use std::error::Error;
+use std::io::{self, Write};
 use std::ops::Range;
-use std::{env, fs, io};
+use std::{env, fs};
 
 /// The types of tokens by number, and the modifiers by bit: a server announces them when it starts.
 pub const TYPES: [&str; 6] = ["comment", "keyword", "type", "string", "number", "lifetime"];
@@ -164,17 +165,28 @@ fn lines(text: &str) -> Vec<usize> {
     [0].into_iter().chain(starts).chain([text.len()]).collect()
 }
 
-fn main() -> Result<(), Box<dyn Error>> {
-    let path = env::args().nth(1).ok_or("the name of a file")?;
-    let mut document = Document::open(&fs::read_to_string(path)?, Edition::NEWEST)?;
-    println!("{:?}", document.full());
+fn answer(mut document: Document, mut output: impl Write) -> Result<(), Box<dyn Error>> {
+    writeln!(output, "{:?}", document.full())?;
     for line in io::stdin().lines() {
         let line = line?;
         let mut words = line.splitn(5, ' ');
         let mut number = || words.next().unwrap_or("").parse::<usize>();
         let range = (number()?, number()?)..(number()?, number()?);
         document.change(Some(range), words.next().unwrap_or(""))?;
-        println!("{:?}", document.delta());
+        writeln!(output, "{:?}", document.delta())?;
     }
     Ok(())
+}
+
+fn main() -> Result<(), Box<dyn Error>> {
+    let usage = "usage: cargo run -p verified-marks --example lsp -- FILE";
+    let path = env::args().nth(1).ok_or(usage)?;
+    let text = fs::read_to_string(&path).map_err(|error| format!("{path}: {error}"))?;
+    let ended = answer(Document::open(&text, Edition::NEWEST)?, io::stdout());
+    let is_closed = |error: &io::Error| error.kind() == io::ErrorKind::BrokenPipe;
+    match ended {
+        // as after `| head -1`
+        Err(error) if error.downcast_ref().is_some_and(is_closed) => Ok(()),
+        ended => ended,
+    }
 }

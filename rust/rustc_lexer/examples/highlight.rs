@@ -2,8 +2,12 @@
 //! FILE`. Each line of standard input is an edit: START STOP TEXT. Prints the tokens that are repainted, and at the end
 //! the whole file.
 
+mod common;
+
 use rustc_lexer::{LexedDocument, Piece, TokenKind};
-use std::{env, fs, io};
+use std::error::Error;
+use std::io::Write;
+use std::{env, io, process::ExitCode};
 
 fn paint(piece: Piece<'_>) -> String {
     let colour = match piece.token.kind {
@@ -16,9 +20,10 @@ fn paint(piece: Piece<'_>) -> String {
     format!("\x1b[{colour}m{}\x1b[0m", piece.text)
 }
 
-fn main() -> io::Result<()> {
-    let path = env::args().nth(1).expect("the name of a file");
-    let mut lexed = LexedDocument::new(fs::read_to_string(path)?);
+fn highlight(output: &mut common::Output) -> Result<(), Box<dyn Error>> {
+    let path = env::args().nth(1);
+    let path = path.ok_or("usage: cargo run --example highlight -- FILE")?;
+    let mut lexed = LexedDocument::new(common::read(Some(&path))?);
     // Each token, in its colour.
     let mut shown: Vec<String> = lexed.pieces().map(paint).collect();
     for line in io::stdin().lines() {
@@ -38,11 +43,16 @@ fn main() -> io::Result<()> {
             .map(paint)
             .collect();
         let kept = relexed.kept_front + relexed.kept_back;
-        println!("{}  ({kept} tokens kept)", painted.concat());
+        writeln!(output, "{}  ({kept} tokens kept)", painted.concat())?;
+        output.flush()?;
         shown.splice(relexed.kept_front..shown.len() - relexed.kept_back, painted);
     }
-    // The shebang line is not a token.
-    let shebang = &lexed.text()[..lexed.tokens_start()];
-    print!("\x1b[32m{shebang}\x1b[0m{}", shown.concat());
+    // A byte order mark and a shebang line are not tokens.
+    let start = &lexed.text()[..lexed.tokens_start()];
+    write!(output, "\x1b[32m{start}\x1b[0m{}", shown.concat())?;
     Ok(())
+}
+
+fn main() -> ExitCode {
+    common::run(highlight)
 }

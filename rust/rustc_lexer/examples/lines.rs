@@ -2,9 +2,11 @@
 //!
 //! Tokens decide: `//` in a string is code, and so is each line of the string. An empty line in a comment is a comment.
 //! A shebang line and a frontmatter are code.
+mod common;
+
 use rustc_lexer::{Edition, TokenKind, tokenize_document};
-use std::error::Error;
-use std::{env, fs};
+use std::io::Write;
+use std::{env, process::ExitCode};
 
 /// The contents of a line. If it has several, the last variant counts.
 #[derive(Clone, Copy, PartialEq, Eq, PartialOrd, Ord)]
@@ -17,8 +19,8 @@ enum Line {
 fn count(text: &str) -> [usize; 3] {
     let tokens = tokenize_document(text, Edition::E2024);
     let (mut counts, mut line) = ([0; 3], Line::Blank);
-    // The shebang line is not a token.
-    if tokens.offset() > 0 {
+    // A byte order mark and a shebang line are not tokens.
+    if !matches!(&text[..tokens.offset()], "" | "\u{feff}") {
         line = Line::Code;
     }
     for piece in tokens.pieces() {
@@ -42,16 +44,32 @@ fn count(text: &str) -> [usize; 3] {
     counts
 }
 
-fn main() -> Result<(), Box<dyn Error>> {
-    let mut total = [0; 3];
-    println!("    code  comment    blank");
-    for path in env::args().skip(1) {
-        let text = fs::read_to_string(&path).map_err(|error| format!("{path}: {error}"))?;
-        let [blank, comment, code] = count(&text);
-        println!("{code:8} {comment:8} {blank:8}  {path}");
-        total = [total[0] + blank, total[1] + comment, total[2] + code];
-    }
-    let [blank, comment, code] = total;
-    println!("{code:8} {comment:8} {blank:8}  total");
-    Ok(())
+fn main() -> ExitCode {
+    common::run(|output| {
+        let paths: Vec<String> = env::args().skip(1).collect();
+        if paths.is_empty() {
+            return Err("usage: cargo run --example lines -- FILE..".into());
+        }
+        let (mut total, mut unread) = ([0; 3], 0);
+        writeln!(output, "    code  comment    blank")?;
+        for path in &paths {
+            match common::read(Some(path)) {
+                Ok(text) => {
+                    let [blank, comment, code] = count(&text);
+                    writeln!(output, "{code:8} {comment:8} {blank:8}  {path}")?;
+                    total = [total[0] + blank, total[1] + comment, total[2] + code];
+                }
+                Err(error) => {
+                    eprintln!("error: {error}");
+                    unread += 1;
+                }
+            }
+        }
+        let [blank, comment, code] = total;
+        writeln!(output, "{code:8} {comment:8} {blank:8}  total")?;
+        match unread {
+            0 => Ok(()),
+            _ => Err(format!("files that are not counted: {unread}").into()),
+        }
+    })
 }

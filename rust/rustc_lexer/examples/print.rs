@@ -1,7 +1,10 @@
 //! Prints tokens, one per line of the input, with only the separators that they need: `cargo run --example print <
 //! TOKENS`. Reports the number of a line that is not one token or is rejected.
+mod common;
+
 use rustc_lexer::{Edition, JoinedText, tokenize_in};
-use std::io;
+use std::io::Write;
+use std::process::ExitCode;
 
 fn print(lines: &str) -> Result<String, String> {
     let mut text = JoinedText::new_in(Edition::E2021);
@@ -15,8 +18,9 @@ fn print(lines: &str) -> Result<String, String> {
     Ok(text.into_string())
 }
 
-fn main() -> io::Result<()> {
-    let lines = io::read_to_string(io::stdin())?;
-    println!("{}", print(&lines).map_err(io::Error::other)?);
-    Ok(())
+fn main() -> ExitCode {
+    common::run(|output| {
+        let text = print(&common::read(None)?)?;
+        Ok(writeln!(output, "{text}")?)
+    })
 }

@@ -2,8 +2,11 @@
 //! and prints only a message if a token other than whitespace differs.
 //!
 //! Only whitespace between tokens is trimmed: a shebang line, a frontmatter, comments and literals stay as they are.
+mod common;
+
 use rustc_lexer::{Edition, TokenKind, tokenize_document};
-use std::io;
+use std::io::Write;
+use std::process::ExitCode;
 
 /// Returns the tokens after the shebang line, except whitespace, with their texts.
 fn words(text: &str) -> impl Iterator<Item = (TokenKind, &str)> {
@@ -39,12 +42,13 @@ fn trim_space(space: &str, is_last: bool, trimmed: &mut String) {
     }
 }
 
-fn main() -> io::Result<()> {
-    let text = io::read_to_string(io::stdin())?;
-    let trimmed = trim(&text);
-    if !words(&text).eq(words(&trimmed)) {
-        return Err(io::Error::other("a token would change"));
-    }
-    print!("{trimmed}");
-    Ok(())
+fn main() -> ExitCode {
+    common::run(|output| {
+        let text = common::read(None)?;
+        let trimmed = trim(&text);
+        if !words(&text).eq(words(&trimmed)) {
+            return Err("a token would change".into());
+        }
+        Ok(write!(output, "{trimmed}")?)
+    })
 }

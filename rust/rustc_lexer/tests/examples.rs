@@ -1,9 +1,10 @@
 //! Runs each example as a process and checks what it prints.
 #![cfg(feature = "alloc")]
 
+use rustc_lexer::{Edition, TokenKind, tokenize_document};
 use std::io::Write;
 use std::path::{Path, PathBuf};
-use std::process::{Command, Output, Stdio};
+use std::process::{Child, Command, Output, Stdio};
 use std::sync::LazyLock;
 use std::{env, fs, thread};
 
@@ -40,16 +41,21 @@ fn example(name: &str) -> Command {
     Command::new(file.with_extension(env::consts::EXE_EXTENSION))
 }
 
-/// Runs an example with this input, which it need not read to the end.
-fn run(name: &str, args: &[&str], input: &str) -> Output {
+/// Starts an example.
+fn piped(name: &str, args: &[&str]) -> Child {
     let pipe = Stdio::piped;
-    let mut process = example(name)
+    let mut command = example(name);
+    command
         .args(args)
         .stdin(pipe())
         .stdout(pipe())
-        .stderr(pipe())
-        .spawn()
-        .expect("the examples are built");
+        .stderr(pipe());
+    command.spawn().expect("the examples are built")
+}
+
+/// Runs an example with this input, which it need not read to the end.
+fn run(name: &str, args: &[&str], input: &str) -> Output {
+    let mut process = piped(name, args);
     let (mut to, input) = (process.stdin.take().unwrap(), input.to_owned());
     let writes = thread::spawn(move || to.write_all(input.as_bytes()));
     let output = process.wait_with_output().unwrap();
@@ -104,33 +110,108 @@ fn tokens() {
         let all = prints("tokens", &["--edition", year], "'r#a");
         assert_eq!(all.split(' ').nth(2), Some(kind));
     }
-    assert!(prints("tokens", &["--help"], "").contains("\nusage: tokens "));
-    for args in [
-        &["--planted"][..],
-        &["--edition", "2000"],
-        &[&path, &path],
-        &["not_there"],
+    let help = prints("tokens", &["--help"], "");
+    assert!(help.contains("\nusage: cargo run --example tokens -- "));
+    for (args, why) in [
+        (&["--planted"][..], "unexpected --planted: see --help"),
+        (&["--edition", "2000"], "no edition of Rust has this year"),
+        (
+            &["--edition"],
+            "cargo run --example tokens -- --edition 2018 FILE",
+        ),
+        (&[&path, &path], "unexpected "),
     ] {
-        assert!(
-            refuses("tokens", args, "").starts_with("Error: "),
-            "{args:?}"
-        );
+        let said = refuses("tokens", args, "");
+        assert!(said.starts_with("error: ") && said.contains(why), "{said}");
     }
 }
 
-/// A closed pipe, as after `| head -n 1`, is no error.
+/// A file that is not there is named. Without an argument, an example that needs one prints its usage.
 #[test]
-fn tokens_into_a_closed_pipe() {
-    let mut process = example("tokens")
-        .stdin(Stdio::piped())
-        .stdout(Stdio::piped())
-        .stderr(Stdio::piped())
-        .spawn()
-        .unwrap();
-    drop(process.stdout.take());
-    let _ = process.stdin.take().unwrap().write_all(&[b';'; 1_000_000]);
-    let ended = process.wait_with_output().unwrap();
-    assert!(ended.status.success() && ended.stderr.is_empty());
+fn arguments() {
+    for name in ["tokens", "highlight", "lines", "typing"] {
+        let ended = run(name, &["not_there"], "");
+        let said = String::from_utf8(ended.stderr).unwrap();
+        assert!(said.contains("not_there: "), "{name}: {said}");
+        assert_eq!(ended.status.code(), Some(1), "{name}");
+    }
+    for name in ["highlight", "lines", "typing"] {
+        let said = refuses(name, &[], "");
+        let usage = format!("usage: cargo run --example {name} -- FILE");
+        assert!(said.contains(&usage), "{name}: {said}");
+    }
+    // a folder
+    let folder = env!("CARGO_TARGET_TMPDIR");
+    assert!(refuses("tokens", &[folder], "").contains(&format!("{folder}: ")));
+}
+
+/// A closed pipe, as after `| head -1`, is no error.
+#[test]
+fn closed_pipes() {
+    let path = file("piped", "fn f() {}\n");
+    let edits = "0 0 a\n".repeat(1000);
+    let tokens = ";\n".repeat(100_000);
+    for (name, args, input) in [
+        ("tokens", &[][..], &*tokens),
+        ("kinds", &[], &*tokens),
+        ("print", &[], &*tokens),
+        ("squeeze", &[], &*tokens),
+        ("stream", &[], &*tokens),
+        ("trim", &[], &*tokens),
+        ("words", &[], ""),
+        ("lines", &[&*path], ""),
+        ("highlight", &[&*path], &*edits),
+        ("typing", &[&*path], &*edits),
+    ] {
+        let mut process = piped(name, args);
+        drop(process.stdout.take());
+        // The example may end before it has read everything.
+        let _ = process.stdin.take().unwrap().write_all(input.as_bytes());
+        let ended = process.wait_with_output().unwrap();
+        let said = String::from_utf8(ended.stderr).unwrap();
+        assert!(ended.status.success() && said.is_empty(), "{name}: {said}");
+    }
+}
+
+/// A byte order mark before a shebang line, a frontmatter and code is not a token, and offsets count it.
+#[test]
+fn byte_order_marks() {
+    let [line, front, code] =
+        ["#!/a\nb  \n", "---\n---\nb  \n", "b  \n"].map(|text| format!("\u{feff}{text}"));
+    let wanted = [
+        "7 Whitespace \"\\n\"\n8 Ident \"b\"\n9 Whitespace \"  \\n\"\n",
+        "3 Frontmatter { has_invalid_preceding_whitespace: false, invalid_infostring: false } \"---\\n---\"\n\
+         10 Whitespace \"\\n\"\n11 Ident \"b\"\n12 Whitespace \"  \\n\"\n",
+        "3 Ident \"b\"\n4 Whitespace \"  \\n\"\n",
+    ];
+    let counted = [
+        "1 Ident\n2 Whitespace\n",
+        "1 Frontmatter\n1 Ident\n2 Whitespace\n",
+        "1 Ident\n1 Whitespace\n",
+    ];
+    for (at, text) in [&line, &front, &code].into_iter().enumerate() {
+        assert_eq!(prints("stream", &[], text), wanted[at]);
+        assert_eq!(prints("kinds", &[], text), counted[at]);
+        assert_eq!(prints("trim", &[], text), text.replace("  ", ""));
+        let tokens = prints("tokens", &[], text);
+        let offsets = |text: &str| {
+            text.lines()
+                .map(|line| line.split(' ').next().unwrap().to_owned())
+                .collect::<Vec<_>>()
+        };
+        assert_eq!(offsets(&tokens), offsets(wanted[at]));
+    }
+    let path = file("marked_code", &code);
+    let painted = "\x1b[32m\u{feff}\x1b[0m\x1b[34mb\x1b[0m\x1b[0m  \n\x1b[0m";
+    assert_eq!(prints("highlight", &[&path], ""), painted);
+    assert!(prints("typing", &[&path], "c\n").contains("6 Ident \"c\"\n"));
+    let comment = file("marked_comment", "\u{feff}// a\n");
+    let line = file("marked_shebang", &line);
+    let printed = prints("lines", &[&comment, &line], "");
+    assert!(
+        printed.ends_with("       2        1        0  total\n"),
+        "{printed}"
+    );
 }
 
 /// The program of the repository's README.
@@ -195,6 +276,10 @@ fn lines_and_trim() {
         "    code  comment    blank\n      12        4        5  {lined}\n       0        0        0  {empty}\n      12        4        4  {trimmed}\n      24        8        9  total\n"
     );
     assert_eq!(prints("lines", &[&lined, &empty, &trimmed], ""), wanted);
+    // The other files are counted even if one cannot be read.
+    let ended = run("lines", &["not_there", &lined, &empty, &trimmed], "");
+    assert_eq!(String::from_utf8(ended.stdout).unwrap(), wanted);
+    assert_eq!(ended.status.code(), Some(1));
 }
 
 #[test]
@@ -206,14 +291,63 @@ fn squeeze() {
     assert_eq!(prints("squeeze", &[], " fn f ( ) { } /* a"), "fn f(){}/* a");
 }
 
+/// Returns whether rustc builds a program, or `None` if rustc is not installed.
+fn builds(name: &str, text: &str) -> Option<bool> {
+    let mut rustc = Command::new("rustc");
+    // A frontmatter needs an unstable feature.
+    rustc
+        .env("RUSTC_BOOTSTRAP", "1")
+        .args(["--edition", "2024", "--emit", "metadata"]);
+    rustc.args(["--out-dir", env!("CARGO_TARGET_TMPDIR")]);
+    let ended = rustc.arg(file(name, text)).output().ok()?;
+    Some(ended.status.success())
+}
+
+/// Nothing is inserted between a byte order mark and the code, and a shebang line or a frontmatter keeps its lines.
+#[test]
+fn squeeze_after_a_byte_order_mark() {
+    let tokens = |text: &str| -> Vec<String> {
+        let pieces = tokenize_document(text, Edition::E2024).pieces();
+        let pieces = pieces.filter(|piece| piece.token.kind != TokenKind::Whitespace);
+        pieces.map(|piece| piece.text.to_owned()).collect()
+    };
+    for (head, squeezed_head) in [
+        ("", ""),
+        ("#!/bin/sh\n", "#!/bin/sh\n"),
+        ("#!/bin/sh\r\n", "#!/bin/sh\n"),
+        ("#![allow(unused)]\n", "#![allow(unused)]"),
+        (
+            "---\na\n---\n#![feature(frontmatter)]\n",
+            "---\na\n---\n#![feature(frontmatter)]",
+        ),
+        (
+            "#!a\n\n---\n---\n#![feature(frontmatter)]\n",
+            "#!a\n\n---\n---\n#![feature(frontmatter)]",
+        ),
+    ] {
+        let text = format!("\u{feff}{head}\nfn main() {{ }}\n");
+        let squeezed = prints("squeeze", &[], &text);
+        assert_eq!(squeezed, format!("\u{feff}{squeezed_head}fn main(){{}}"));
+        assert_eq!(tokens(&squeezed), tokens(&text));
+        match [builds("marked.rs", &text), builds("marked.rs", &squeezed)] {
+            [None, _] => println!("rustc is not installed: {head:?} is not built"),
+            [built, squeezed_built] => {
+                // An older rustc has no frontmatters.
+                assert!(built == Some(true) || head.contains("---"), "{head:?}");
+                assert_eq!(squeezed_built, built, "{head:?}");
+            }
+        }
+    }
+}
+
 /// `0.` is a number, and `z"` is reserved.
 #[test]
 fn print() {
     let tokens = "let\nx\n=\n0\n.\n.\n// a\nz\n\"b\"\n&\n&\n";
     assert_eq!(prints("print", &[], tokens), "let x=0 ..// a\nz \"b\"&&\n");
     for (tokens, why) in [
-        ("a\nb c\n", r#"line 2: \"b c\" is not one token"#),
-        ("a\n\nb\n", r#"line 2: \"\" is not one token"#),
+        ("a\nb c\n", "line 2: \"b c\" is not one token"),
+        ("a\n\nb\n", "line 2: \"\" is not one token"),
         ("a\n\"b\nc\n", "line 3: no separator keeps the tokens"),
     ] {
         let said = refuses("print", &[], tokens);
@@ -221,7 +355,7 @@ fn print() {
     }
 }
 
-/// `streams.rs` tests how the input is cut.
+/// `document_streams.rs` tests how the input is cut.
 #[test]
 fn stream() {
     assert_eq!(

@@ -1,15 +1,10 @@
-//! Texts that grow at their end: which tokens are final, and the example that prints each token once it is.
+//! Fragments that grow at their end: which tokens are final.
 
 #[allow(dead_code, reason = "no text is edited here")]
 mod random;
-#[allow(dead_code, reason = "its `main`")]
-#[path = "../examples/stream.rs"]
-mod stream;
 
 use random::Random;
-use rustc_lexer::{Edition, FrontmatterAllowed, LexedText, Piece, tokenize};
-use std::str;
-use stream::Stream;
+use rustc_lexer::{Edition, LexedText, Piece};
 
 /// Random texts consist of these: tokens with a lookahead, and unterminated ones.
 #[rustfmt::skip]
@@ -67,53 +62,4 @@ fn an_unterminated_comment() {
     }
     lexed.edit(lexed.text().len().., "*/ x");
     assert_eq!(lexed.settled(), lexed.text().len() - 2);
-}
-
-/// The tokens of a text, as the example prints them.
-fn printed(text: &str) -> String {
-    let pieces = tokenize(text, FrontmatterAllowed::No).pieces();
-    pieces
-        .map(|piece| format!("{} {:?} {:?}\n", piece.start, piece.token.kind, piece.text))
-        .collect()
-}
-
-/// The example prints all tokens, wherever its input is cut, also inside characters.
-#[test]
-fn input_cut_anywhere() {
-    let mut random = Random(13, BITS);
-    for _ in 0..400 {
-        let text = random.text(30);
-        let (mut bytes, mut output) = (text.as_bytes(), Vec::new());
-        let mut stream = Stream::default();
-        while !bytes.is_empty() {
-            let (next, later) = bytes.split_at(1 + random.below(bytes.len().min(9)));
-            stream.take(next, &mut output).unwrap();
-            bytes = later;
-        }
-        stream.finish(&mut output).unwrap();
-        assert_eq!(String::from_utf8(output).unwrap(), printed(&text));
-    }
-}
-
-/// The example prints a token at the byte that makes it final, and rejects input that is not UTF-8.
-#[test]
-fn input_byte_by_byte() {
-    let (mut stream, mut output) = (Stream::default(), Vec::new());
-    for (bytes, said) in [
-        (&b"let"[..], ""),
-        (b" ", ""),
-        (b"\xc3", ""),
-        (b"\xa9", "0 Ident \"let\"\n"),
-        (
-            b"=1",
-            "0 Ident \"let\"\n3 Whitespace \" \"\n4 Ident \"é\"\n",
-        ),
-    ] {
-        stream.take(bytes, &mut output).unwrap();
-        assert_eq!(str::from_utf8(&output).unwrap(), said);
-    }
-    assert!(stream.take(b"\xff", &mut output).is_err());
-    let mut cut = Stream::default();
-    cut.take(b"\xc3", &mut output).unwrap();
-    assert!(cut.finish(&mut output).is_err());
 }
