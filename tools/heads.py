@@ -1,32 +1,32 @@
-"""Reads the heads of the proved sources: of functions, of blocks, and of what a library passes on.
+"""Parses the heads of functions and blocks, and the exports of a library, in the proved sources.
 
-`tests/proof/claim` and `tools/promises` ask which functions are public. A form that none of these reads is an `Unread`, so that no
-function stays unseen.
+`tests/proof/claim` and `tools/promises` use it to find the public functions. A head in an unknown form raises `Unread`,
+so no function is overlooked.
 """
 import re
 
 FUNCTION = re.compile(r'( *)(pub(?:\([^)]*\))? )?(?:(?:final|const|unsafe|async|extern "C") )*fn (\w+)')
 BLOCK = re.compile(r"(pub(?:\([^)]*\))? )?(?:unsafe )?(impl|trait)\b *")
-PASSED = re.compile(r"pub use (?:\w+::)+(\{[\w\s,]*\}|\w+);")
-# What a library may have at its front, beside what it passes on.
-OWN = re.compile(r"pub mod (\w+);|(?:ghost )?(?:use|mod) [^;]*;|#!?\[[^\]]*\]|//[^\n]*|\s")
+EXPORT = re.compile(r"pub use (?:\w+::)+(\{[\w\s,]*\}|\w+);")
+# Everything else that lib.rt can contain.
+OTHER = re.compile(r"pub mod (\w+);|(?:ghost )?(?:use|mod) [^;]*;|#!?\[[^\]]*\]|//[^\n]*|\s")
 
 
 class Unread(Exception):
-    """A line of none of the known forms."""
+    """A line in an unknown form."""
 
 
 def function(line):
-    """The indent, the visibility and the name of the function whose head begins in a line, or None."""
+    """Returns the indent, the visibility and the name of the function whose head starts in a line, or None."""
     if found := FUNCTION.match(line):
         return found[1], found[2] or "", found[3]
     if re.search(r"\bfn [a-z_]\w* *[(<]", re.sub(r'//.*|"[^"]*"', "", line)):
-        raise Unread(f"a function that is not read: {line.strip()}")
+        raise Unread(f"unknown form of a function: {line.strip()}")
     return None
 
 
-def parts(text):
-    """The words of a text, each with what it has in brackets `<..>`. The `>` of an arrow closes none."""
+def split(text):
+    """Splits a text at spaces outside of `<..>`. The `>` of an arrow does not close a bracket."""
     depth, found = 0, [""]
     for at, sign in enumerate(text):
         depth += (sign == "<") - (sign == ">" and text[at - 1] not in "-=")
@@ -38,26 +38,26 @@ def parts(text):
 
 
 def owner(line):
-    """The type or the trait of the block that begins in a line, and whether all its functions are as public as that is; None
-    where none begins."""
+    """Returns the type or the trait of the block that starts in a line, and whether all its functions are as public as
+    the type or the trait. Returns None if no block starts there."""
     found = BLOCK.match(line)
     if not found:
         return None
-    head = parts(line[found.end() :])
+    head = split(line[found.end() :])
     if not head or head[-1] not in ("{", "{}"):
-        raise Unread(f"a head over lines: {line}")
+        raise Unread(f"head with several lines: {line}")
     if found[2] == "trait":
         return re.match(r"\w+", head[0])[0], found[1] == "pub "
     words = [it for it in head[:-1] if not it.startswith("<")]
     kind = words[-1] if len(words) in (1, 3) and words[-2:-1] in ([], ["for"]) else ""
     name = re.fullmatch(r"(?:\w+::)*(\w+)(?:<.*>)?", kind)
     if not name:
-        raise Unread(f"a head that is not read: {line}")
+        raise Unread(f"unknown form of a head: {line}")
     return name[1], len(words) == 3
 
 
 def paths_of(tree, before=""):
-    """The paths of an import, each whole: `a.{b, c as d}` has `a.b` and `a.c as d`."""
+    """Yields the full paths of an import: `a.b` and `a.c as d` for `a.{b, c as d}`."""
     depth, part = 0, ""
     for sign in f"{tree},":
         depth += {"{": 1, "}": -1}.get(sign, 0)
@@ -72,16 +72,16 @@ def paths_of(tree, before=""):
         part = ""
 
 
-def passed_on(text):
-    """The names that a library passes on, and its public modules."""
+def exports(text):
+    """Returns the names that a library exports, and its public modules."""
     names, modules, at = set(), set(), 0
     while at < len(text):
-        if found := PASSED.match(text, at):
+        if found := EXPORT.match(text, at):
             names.update(re.findall(r"\w+", found[1]))
-        elif found := OWN.match(text, at):
+        elif found := OTHER.match(text, at):
             modules.update(filter(None, [found[1]]))
         elif text.startswith("pub ", at):
-            raise Unread(f"lib.rt passes on in another form: {text[at:].splitlines()[0]}")
+            raise Unread(f"unknown form of an export in lib.rt: {text[at:].splitlines()[0]}")
         else:
             found = re.compile(r"[^\n]*\n?").match(text, at)
         at = found.end()

@@ -1,5 +1,5 @@
-# Any version from the one that is asked for on, where that one has the same interface, on a 64-bit target. Interface
-# @INTERFACE@ began with version @FIRST@.
+# Compatible with a requested version that is not newer and has the same ABI, on a 64-bit target. ABI @INTERFACE@ exists
+# since version @FIRST@.
 set(PACKAGE_VERSION "@VERSION@")
 if(PACKAGE_VERSION VERSION_EQUAL PACKAGE_FIND_VERSION)
     set(PACKAGE_VERSION_EXACT TRUE)

@@ -1,5 +1,4 @@
-# For find_package(rustc_lexer): the target to link with is rustc_lexer::rustc_lexer, the static library, or
-# rustc_lexer::shared.
+# For find_package(rustc_lexer). Link with rustc_lexer::rustc_lexer, the static library, or rustc_lexer::shared.
 if(NOT TARGET rustc_lexer::rustc_lexer)
     get_filename_component(RUSTC_LEXER_PREFIX "${CMAKE_CURRENT_LIST_DIR}/../../.." ABSOLUTE)
     add_library(rustc_lexer::rustc_lexer STATIC IMPORTED)
