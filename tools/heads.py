@@ -73,7 +73,6 @@ def paths_of(tree, before=""):
 
 
 def exports(text):
-    """Returns the names that a library exports, and its public modules."""
     names, modules, at = set(), set(), 0
     while at < len(text):
         if found := EXPORT.match(text, at):
