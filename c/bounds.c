@@ -1,5 +1,5 @@
-/* Breaks two rules of the header, over a library with debug assertions: a length that no object has is cut, and a byte at
- * a null pointer is a panic, which aborts. */
+/* Breaks two rules of the header, with a library that has debug assertions: an impossible length is shortened, and a
+ * null pointer with length 1 panics, which aborts. */
 #include <stdio.h>
 
 #include "rustc_lexer.h"

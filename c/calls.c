@@ -1,6 +1,6 @@
-/* Calls of the library at its edges: texts that are not UTF-8, empty texts, null, room for no token and for one, a
- * batch that ends before a frontmatter, bad places; the numbers of kinds and the bytes of records; units of literals;
- * marked tokens. Exits with 1 at the first check that fails, and says which. */
+/* Tests edge cases of the library: texts that are not UTF-8, empty texts, null pointers, buffers for no or one token, a
+ * batch that ends before a frontmatter, invalid positions; the numbers of kinds and the bytes of structs; units of
+ * literals; highlighting. Prints the first failed check and exits with 1. */
 #include "checks.h"
 
 static void check_bad_texts(void) {
@@ -54,7 +54,7 @@ static void check_empty_text(batch_call *tokens) {
     CHECK(rustc_lexer_is_seam((const uint8_t *)"", 0, 0, 2015, &is) == RUSTC_LEXER_OK && is == 1);
 }
 
-/* A pointer may be null where its length is 0. */
+/* A pointer can be null if its length is 0. */
 static void check_null(void) {
     struct rustc_lexer_place place = {0, 1};
     struct rustc_lexer_raw_str_error error;
@@ -93,7 +93,7 @@ static void check_null(void) {
     CHECK(!rustc_lexer_is_ident_unchecked(NULL, 0));
 }
 
-/* The bytes of records, of which none is left as it was. */
+/* The bytes of structs, all of which are written. */
 static void check_records(void) {
     static const struct {
         const char *text;
@@ -130,7 +130,7 @@ static void check_records(void) {
     CHECK(rustc_lexer_first_token_unchecked(document, 11, 0).kind == RUSTC_LEXER_WHITESPACE);
     CHECK(strcmp(rustc_lexer_kind_name(RUSTC_LEXER_EOF), "Eof") == 0);
     CHECK(strcmp(rustc_lexer_literal_kind_name(RUSTC_LEXER_RAW_C_STR), "RawCStr") == 0);
-    /* kinds have the numbers from 1 to 43, those of literals from 1 to 10, and no other number has a name */
+    /* kinds of tokens are 1 to 43, kinds of literals 1 to 10, and no other number has a name */
     for (int number = 0; number < 256; number++) {
         const char *name = rustc_lexer_kind_name((uint8_t)number);
         CHECK(name != NULL && (*name != 0) == (number >= 1 && number <= 43));
@@ -181,8 +181,8 @@ static void check_places(batch_call *tokens) {
     CHECK(call(tokens, text, 3, &last, BUFFER_LEN, &count) == RUSTC_LEXER_BAD_PLACE);
 }
 
-/* A frontmatter, a prefix and a raw lifetime that are reserved from 2021 on, and two hashes that are from 2024 on.
- * What is refused leaves all as it was, and a bad place comes before a bad edition. */
+/* A frontmatter, a prefix and a raw lifetime that are reserved since 2021, and two hashes that are reserved since
+ * 2024. A call that fails changes nothing, and BAD_PLACE comes before BAD_EDITION. */
 static void check_editions(void) {
     static const struct {
         uint32_t edition;
@@ -203,7 +203,7 @@ static void check_editions(void) {
         CHECK(rustc_lexer_tokens_in(text, 20, year, &document, whole, 2, &count) == RUSTC_LEXER_OK && count == 2);
         CHECK(whole[0].kind == RUSTC_LEXER_FRONTMATTER && whole[0].len == 9 && document.at == 10);
         CHECK(whole[1].kind == RUSTC_LEXER_WHITESPACE && document.frontmatter_allowed == 0);
-        CHECK(rustc_lexer_tokens_in_unchecked(text, 20, year, &unchecked, whole, PLACES, &count) == RUSTC_LEXER_OK);
+        CHECK(rustc_lexer_tokens_in_unchecked(text, 20, year, &unchecked, whole, MOST_TOKENS, &count) == RUSTC_LEXER_OK);
         CHECK(count == rows[i].count + 2 && unchecked.at == 20 && unchecked.frontmatter_allowed == 0);
         CHECK(memcmp(whole + 2, buffer, rows[i].count * sizeof buffer[0]) == 0);
     }
@@ -218,8 +218,8 @@ static void check_editions(void) {
     }
 }
 
-/* The token of each byte of a text that begins at byte 10 of a file, from each boundary of its tokens on; numbers that
- * are no boundary; and a text at the end of all offsets. */
+/* The token of each byte of a text that starts at byte 10 of a file, searched from each token boundary; numbers that
+ * are not a boundary; and a text at the maximum offset. */
 static void check_offsets(void) {
     static const size_t starts[] = {10, 12, 13, 14, 15, 18}, count = 5;
     static const size_t numbers[] = {0, 0, 1, 2, 3, 4, 4, 4};
@@ -305,14 +305,14 @@ static void check_others(void) {
     CHECK(rustc_lexer_abi_1() == RUSTC_LEXER_ABI);
 }
 
-/* Symbols have the numbers from 15 to 41. */
+/* Symbols are 15 to 41. */
 static void check_symbols(batch_call *tokens) {
     CHECK(is_lexed(tokens, ";,.(){}[]@#~?:$=!<>-&|+*/^%", 27, 0, 27));
     for (size_t i = 0; i < 27; i++)
         CHECK(whole[i].kind == 15 + i && whole[i].len == 1);
 }
 
-/* Literals have the numbers of the header, from 1 to 10. */
+/* Literals have the numbers of the header, 1 to 10. */
 static void check_literals(batch_call *tokens) {
     static const char text[] = "1 2.5 'a' b'a' \"a\" b\"a\" c\"a\" r\"a\" br\"a\" cr\"a\"";
     static const uint8_t kinds[] = {RUSTC_LEXER_INT, RUSTC_LEXER_FLOAT, RUSTC_LEXER_CHAR, RUSTC_LEXER_BYTE, RUSTC_LEXER_STR,
@@ -328,12 +328,12 @@ static void check_literals(batch_call *tokens) {
     CHECK(number == 10);
 }
 
-/* Whether the bytes behind the kind of a token of `whole` are these. */
+/* Returns whether a token of `whole` has these bytes after its kind. */
 static bool has_fields(size_t number, const uint8_t fields[3]) {
     return memcmp((const unsigned char *)&whole[number] + 1, fields, 3) == 0;
 }
 
-/* Tokens with fields among others that have none. */
+/* Tokens with fields among tokens without fields. */
 static void check_fields(batch_call *tokens) {
     static const uint8_t fields[][3] = {{0, 1, 0}, {1, 16, 1}, {0, 0, 0}, {2, 10, 1},
                                         {0, 0, 0}, {8, 1, 0},  {1, 0, 0}, {0, 0, 0}};
@@ -349,7 +349,7 @@ static bool is_unit(struct rustc_lexer_unit unit, size_t start, size_t end, uint
     return unit.start == start && unit.end == end && unit.kind == kind && unit.value == value;
 }
 
-/* A line end that is skipped with two warnings, and what follows it. */
+/* A skipped line end with two warnings, and the units after it. */
 static const uint8_t warned[] = "\\\n\n\xc2\xa0x";
 
 static void check_units(unescape_call *unescape) {
@@ -413,7 +413,7 @@ static void check_errors(unescape_call *errors) {
     CHECK(errors(text, len, 11, 0, units, 16, &count) == RUSTC_LEXER_BAD_MODE && count == 0);
 }
 
-/* What is marked of a text, with so much room. Behind what is written the buffer keeps its bytes. */
+/* Highlights a text with a buffer of this size, and checks that the rest of the buffer is unchanged. */
 static bool is_marked_as(const char *text, uint32_t format, uint32_t edition, size_t count, const char *wanted) {
     uint8_t bytes[200];
     size_t written = 99, len = strlen(wanted);
@@ -428,7 +428,7 @@ static void check_marks(void) {
     static const uint8_t text[] = "a<";
     uint8_t bytes[8];
     size_t written = 99;
-    /* a keyword, white space and a number; a symbol that a page reads; a prefix that 2021 has and 2018 has not */
+    /* a keyword, whitespace and a number; a character with an entity; a prefix that is reserved in 2021 but not in 2018 */
     CHECK(is_marked_as("as 1", RUSTC_LEXER_FORMAT_HTML, 2024, 9,
                        "<span class=\"keyword\">as</span> <span class=\"number\">1</span>"));
     CHECK(is_marked_as("as 1", RUSTC_LEXER_FORMAT_COLOURS, 2024, 1, "\033[35mas\033[0m"));
@@ -442,7 +442,7 @@ static void check_marks(void) {
     memset(bytes, 0xAA, sizeof bytes);
     CHECK(rustc_lexer_marks(text, 2, 1, 2024, 9, bytes, 5, &written) == RUSTC_LEXER_OK && written == 5);
     CHECK(memcmp(bytes, "a&lt;\xaa\xaa\xaa", 8) == 0);
-    /* a byte too small: nothing is written past the buffer */
+    /* one byte too small: nothing is written past the buffer */
     memset(bytes, 0xAA, sizeof bytes);
     CHECK(rustc_lexer_marks(text, 2, 1, 2024, 9, bytes, 4, &written) == RUSTC_LEXER_SMALL_BUFFER && written == 0);
     CHECK(memcmp(bytes + 4, "\xaa\xaa\xaa\xaa", 4) == 0);
@@ -450,7 +450,7 @@ static void check_marks(void) {
     CHECK(rustc_lexer_marks(text, 2, 1, 2024, 9, NULL, 0, &written) == RUSTC_LEXER_SMALL_BUFFER && written == 0);
     CHECK(rustc_lexer_marks(NULL, 0, 1, 2024, 9, NULL, 0, &written) == RUSTC_LEXER_OK && written == 0);
 
-    /* what is refused, in its order; the buffer stays as it was */
+    /* errors, in their order; the buffer is unchanged */
     static const struct {
         const char *text;
         uint32_t format, edition, status;
@@ -470,7 +470,7 @@ static void check_marks(void) {
     }
 }
 
-/* If several statuses apply, the first of these is returned. The header's sentence has them, too. */
+/* If several statuses apply, the first of these is returned, as the header says. */
 static const uint32_t order[] = {
     RUSTC_LEXER_TOO_LONG,     RUSTC_LEXER_NOT_UTF8,    RUSTC_LEXER_BAD_PLACE,
     RUSTC_LEXER_NOT_RAW,      RUSTC_LEXER_BAD_MODE,    RUSTC_LEXER_BAD_EDITION,
@@ -484,7 +484,7 @@ static bool is_before(uint32_t one, uint32_t other) {
     return order[at] == one;
 }
 
-/* Each call where two statuses apply, of which it returned this one. */
+/* Checks that a call to which two statuses apply returned this one. */
 static void check_order(void) {
     const uint8_t *bad = (const uint8_t *)"\xff", *good = (const uint8_t *)"a";
     struct rustc_lexer_place past = {9, 0};
@@ -523,7 +523,7 @@ static void check_order(void) {
         CHECK(rows[i][0] == rows[i][is_before(rows[i][1], rows[i][2]) ? 1 : 2]);
 }
 
-/* So many items cross at once: what is cut would say that no more come, or that a buffer is too small. */
+/* Large buffers: if a length were truncated, the calls would report a small buffer, or that nothing follows. */
 #define MANY 70000
 
 static uint8_t many[MANY + 1];
@@ -543,7 +543,7 @@ static void check_many(batch_call *tokens, unescape_call *unescape) {
     CHECK(unescape(many, MANY, RUSTC_LEXER_STR, 0, many_units, MANY, &count) == RUSTC_LEXER_OK && count == MANY);
     CHECK(is_unit(many_units[MANY - 1], MANY - 1, MANY, RUSTC_LEXER_UNIT_CHAR, ';'));
 
-    /* a byte at the end: all tokens are old ones but those next to it; and all of the text anew */
+    /* a byte at the end, which keeps all tokens except those next to it; and a full re-lex */
     struct rustc_lexer_edit edit = {MANY, MANY, MANY + 1}, all = {0, 0, MANY};
     struct rustc_lexer_relexing relexing = {0};
     many[MANY] = 0xff;
@@ -555,13 +555,13 @@ static void check_many(batch_call *tokens, unescape_call *unescape) {
     CHECK(rustc_lexer_relex(many, MANY, NULL, 0, &all, 2024, &relexing, many_tokens, MANY, &count) == RUSTC_LEXER_OK);
     CHECK(count == MANY && relexing.lexed == MANY && relexing.stage == RUSTC_LEXER_STAGE_DONE);
 
-    /* a carriage return for each byte, which no string may have */
+    /* only carriage returns, each of which is an error in a string */
     memset(many, '\r', MANY);
     CHECK(rustc_lexer_literal_errors(many, MANY, RUSTC_LEXER_STR, 0, many_units, MANY, &count) == RUSTC_LEXER_OK);
     CHECK(count == MANY && many_units[MANY - 1].end == MANY);
 }
 
-/* The class and the fault of the first token of a text, which has so many bytes. */
+/* The class and the error of the first token of a text, and its length. */
 static void check_token(const char *text, size_t len, uint32_t class_wanted, uint32_t fault_wanted) {
     const uint8_t *bytes = (const uint8_t *)text;
     struct rustc_lexer_token token = rustc_lexer_first_token_unchecked(bytes, strlen(text), 1);
@@ -655,7 +655,7 @@ static void check_classes(void) {
     CHECK(rustc_lexer_class(NULL, 0, &token, 2024, &number) == RUSTC_LEXER_OK && number == RUSTC_LEXER_CLASS_PLAIN);
     CHECK(rustc_lexer_fault(NULL, 0, &token, &number) == RUSTC_LEXER_OK && number == 0);
 
-    /* a keyword of later editions, and years that are none */
+    /* a keyword of later editions, and invalid years */
     const uint8_t *word = (const uint8_t *)"dyn";
     for (uint32_t year = 2013; year < 2030; year++) {
         bool is_edition = year == 2015 || year == 2018 || year == 2021 || year == 2024;

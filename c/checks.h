@@ -1,5 +1,5 @@
-/* What the tests share: a check that names what failed and ends the program, and a buffer of tokens that shows what a
- * call leaves untouched. */
+/* Shared by the tests: a check that prints the failed condition and exits, and a buffer that shows which tokens a call
+ * wrote. */
 #ifndef CHECKS_H
 #define CHECKS_H
 
@@ -9,10 +9,10 @@
 
 #include "rustc_lexer.h"
 
-#define CHECK(so) \
+#define CHECK(condition) \
     do { \
-        if (!(so)) { \
-            printf("%s:%d: %s\n", __FILE__, __LINE__, #so); \
+        if (!(condition)) { \
+            printf("%s:%d: %s\n", __FILE__, __LINE__, #condition); \
             exit(1); \
         } \
     } while (0)
@@ -24,7 +24,7 @@ typedef uint32_t batch_call(const uint8_t *, size_t, struct rustc_lexer_place *,
 
 static struct rustc_lexer_token buffer[BUFFER_LEN];
 
-/* The calls that take an edition, in the newest one. */
+/* The functions with an edition, in the newest one. */
 static inline uint32_t tokens_in_newest(const uint8_t *text, size_t len, struct rustc_lexer_place *place,
                                         struct rustc_lexer_token *tokens, size_t room, size_t *count) {
     return rustc_lexer_tokens_in(text, len, 2024, place, tokens, room, count);
@@ -35,7 +35,7 @@ static inline uint32_t tokens_in_newest_unchecked(const uint8_t *text, size_t le
     return rustc_lexer_tokens_in_unchecked(text, len, 2024, place, tokens, room, count);
 }
 
-/* A call with so much room, on a buffer that has 0xAA in each byte. */
+/* Calls a function with a buffer of this length, in which each byte is 0xAA. */
 static inline uint32_t call(batch_call *tokens, const char *text, size_t len, struct rustc_lexer_place *place,
                      size_t buffer_len, size_t *count) {
     memset(buffer, 0xAA, sizeof buffer);
@@ -43,7 +43,7 @@ static inline uint32_t call(batch_call *tokens, const char *text, size_t len, st
     return tokens((const uint8_t *)text, len, place, buffer, buffer_len, count);
 }
 
-/* Whether the buffer from a token on still has these bytes. */
+/* Returns whether the buffer still has these bytes from a token on. */
 static inline bool is_untouched(size_t from) {
     const unsigned char *bytes = (const unsigned char *)&buffer[from];
     for (size_t i = 0; i < (BUFFER_LEN - from) * sizeof buffer[0]; i++)
@@ -56,18 +56,18 @@ static inline bool is_token(size_t number, uint8_t kind, uint32_t len) {
     return buffer[number].kind == kind && buffer[number].len == len;
 }
 
-/* More places than a text here has tokens. */
-#define PLACES 400
+/* More than the tokens of any text here. */
+#define MOST_TOKENS 400
 
-static struct rustc_lexer_token whole[PLACES];
+static struct rustc_lexer_token whole[MOST_TOKENS];
 
-/* Whether the text has so many tokens, which one call writes into `whole`. */
+/* Lexes the text into `whole` with one call, and returns whether it has this number of tokens. */
 static inline bool is_lexed(batch_call *tokens, const char *text, size_t len, uint32_t frontmatter_allowed,
                             size_t wanted) {
     struct rustc_lexer_place place = {0, frontmatter_allowed};
     size_t count = 99;
     memset(whole, 0xAA, sizeof whole);
-    return tokens((const uint8_t *)text, len, &place, whole, PLACES, &count) == RUSTC_LEXER_OK && count == wanted &&
+    return tokens((const uint8_t *)text, len, &place, whole, MOST_TOKENS, &count) == RUSTC_LEXER_OK && count == wanted &&
            place.at == len;
 }
 

@@ -1,5 +1,5 @@
-/* Texts and documents under edits, compared with lexing them anew: edits at the ends, bad edits, editions, and random
- * edits; lists that are put together. Exits with 1 at the first check that fails, and says which. */
+/* Compares relexed texts and documents with a full re-lex: edits at the ends, invalid edits, editions, and random
+ * edits; spliced lists. Prints the first failed check and exits with 1. */
 #include "checks.h"
 
 typedef uint32_t relex_call(const uint8_t *, size_t, const struct rustc_lexer_token *, size_t,
@@ -8,7 +8,7 @@ typedef uint32_t relex_call(const uint8_t *, size_t, const struct rustc_lexer_to
 
 #define MOST 200
 
-/* A text with its tokens, as a program in C keeps them. */
+/* A text with its tokens. */
 struct held {
     char text[MOST];
     size_t len;
@@ -17,7 +17,7 @@ struct held {
     struct rustc_lexer_relexing relexing;
 };
 
-/* Puts `insert` in place of the bytes from `start` up to `stop`, by buffers of so many tokens. */
+/* Replaces the bytes from `start` up to `stop` with `insert`, with buffers of `buffer_len` tokens. */
 static uint32_t edit_held(relex_call *relex, struct held *held, size_t start, size_t stop, const char *insert,
                           uint32_t edition, size_t buffer_len) {
     struct rustc_lexer_token lexed[MOST];
@@ -41,7 +41,7 @@ static uint32_t edit_held(relex_call *relex, struct held *held, size_t start, si
                               lexed, written);
 }
 
-/* Lexes the whole text, by one buffer. */
+/* Lexes the whole text with one buffer. */
 static uint32_t lex_whole(relex_call *relex, struct held *held, uint32_t edition) {
     struct rustc_lexer_edit all = {0, 0, (uint32_t)held->len};
     struct rustc_lexer_relexing relexing = {0};
@@ -49,7 +49,7 @@ static uint32_t lex_whole(relex_call *relex, struct held *held, uint32_t edition
                  &held->count);
 }
 
-/* Whether the tokens are those of the text from scratch. */
+/* Returns whether the tokens equal a full re-lex. */
 static bool is_from_scratch(const struct held *held) {
     struct rustc_lexer_token all[MOST];
     struct rustc_lexer_place place = {0, 0};
@@ -82,12 +82,12 @@ static void check_edits(relex_call *relex) {
     }
 }
 
-/* 300 symbols are put in between two, by buffers of so many tokens. What stands less than two characters before them is
- * lexed again. A call past the last token writes none. */
+/* Inserts 300 symbols between two, with buffers of several sizes. Tokens less than two characters before them are lexed
+ * again. A call after the last token writes none. */
 static void check_long_edit(relex_call *relex) {
     static const size_t lens[] = {40, 64, 300, 301, 400};
     static const struct rustc_lexer_edit edit = {1, 1, 301};
-    static struct rustc_lexer_token old[2], lexed[PLACES], part[PLACES];
+    static struct rustc_lexer_token old[2], lexed[MOST_TOKENS], part[MOST_TOKENS];
     char text[302];
     memset(text, ';', sizeof text);
     CHECK(is_lexed(rustc_lexer_tokens, text, 2, 0, 2));
@@ -130,10 +130,10 @@ static void check_editions(relex_call *relex) {
     CHECK(held.relexing.stage == RUSTC_LEXER_STAGE_BEGIN && held.relexing.at == 0);
 }
 
-/* Edits that cannot have made a text of five bytes of which the second and the third are one character. */
+/* Edits that cannot have resulted in a text of five bytes, of which the second and third are one character. */
 static const struct rustc_lexer_edit bad[] = {{3, 2, 3}, {3, 3, 1}, {2, 3, 3}, {1, 1, 2}, {0, 0, 6}, {9, 9, 9}};
 
-/* Edits that cannot be, numbers that no call left, and old tokens that are not those of any text. */
+/* Impossible edits, numbers that no call wrote, and old tokens of no text. */
 static void check_bad_edits(relex_call *relex) {
     static const uint8_t text[] = "a\xc3\xa9 b";
     static const uint32_t lens[] = {0, 1, 2, 3, 5, 0x7fffffff, UINT32_MAX};
@@ -152,7 +152,7 @@ static void check_bad_edits(relex_call *relex) {
     for (size_t i = 0; i < sizeof none / sizeof none[0]; i++)
         CHECK(relex(text, 5, old, 5, &good, 2024, &none[i], buffer, BUFFER_LEN, &count) == RUSTC_LEXER_BAD_EDIT &&
               count == 0);
-    /* a stage past the last counts as the one before */
+    /* a stage greater than _DONE counts as _MORE */
     static const size_t stages[] = {1, 3, 4, SIZE_MAX};
     for (size_t i = 0; i < sizeof stages / sizeof stages[0]; i++) {
         struct rustc_lexer_relexing begun = {0, 0, 0, 0, 0, 0, stages[i]};
@@ -175,8 +175,8 @@ static void check_bad_edits(relex_call *relex) {
     }
 }
 
-/* Lists of tokens of 1, 2, .. bytes, in a buffer of eight places, where tokens of 11, 12, .. bytes come in: more, as
- * many and fewer than go out, up to the last place. What is refused changes nothing. */
+/* Lists of tokens of 1, 2, .. bytes in a buffer for eight, into which tokens of 11, 12, .. bytes are spliced: more, as
+ * many and fewer than are removed, until the buffer is full. A call that fails changes nothing. */
 static void check_splices(void) {
     static const struct {
         size_t count, front, back, lexed;
@@ -231,13 +231,13 @@ static void check_splices(void) {
     CHECK(rustc_lexer_splice(NULL, 0, &count, 0, 0, NULL, 0) == RUSTC_LEXER_OK && count == 0);
 }
 
-/* Numbers that look as if drawn by chance, below a bound. */
+/* Returns a pseudorandom number below a limit. */
 static size_t below(uint64_t *random, size_t bound) {
     *random = *random * 6364136223846793005u + 1442695040888963407u;
     return (size_t)(*random >> 33) % bound;
 }
 
-/* A place between characters, at or past another. */
+/* Returns the next character boundary at or after an offset. */
 static size_t place_from(uint64_t *random, const struct held *held, size_t start, size_t most) {
     size_t left = held->len - start;
     size_t place = start + below(random, (left < most ? left : most) + 1);
@@ -246,14 +246,14 @@ static size_t place_from(uint64_t *random, const struct held *held, size_t start
     return place;
 }
 
-/* The ends of the tokens, behind a 0. */
+/* Writes 0 and the ends of the tokens. */
 static void fill_bounds(const struct held *held, size_t bounds[MOST + 1]) {
     bounds[0] = 0;
     for (size_t i = 0; i < held->count; i++)
         bounds[i + 1] = bounds[i] + held->tokens[i].len;
 }
 
-/* How many characters begin between two places. */
+/* Returns the number of characters that start between two offsets. */
 static size_t characters(const char *text, size_t start, size_t stop) {
     size_t count = 0;
     for (size_t i = start; i < stop; i++)
@@ -261,8 +261,8 @@ static size_t characters(const char *text, size_t start, size_t stop) {
     return count;
 }
 
-/* Whether the counts of an edit are the ones that docs/RELEXING.md says: the old tokens stay that end two characters
- * before the edit, and the first two bounds behind it that meet end what is lexed. */
+/* Returns whether the counts of an edit are those of docs/RELEXING.md: old tokens that end two characters before the
+ * edit are kept, and lexing ends at the first old token boundary after the edit at which a new token ends. */
 static bool has_counts(const struct held *old, const struct held *held, size_t start, size_t stop, size_t inserted) {
     size_t before[MOST + 1], now[MOST + 1], front = 0;
     fill_bounds(old, before);
@@ -277,7 +277,7 @@ static bool has_counts(const struct held *old, const struct held *held, size_t s
     return false;
 }
 
-/* 10,000 edits of one text, each compared with lexing the text anew. */
+/* 10,000 edits of one text, each compared with a full re-lex. */
 static void check_random_edits(relex_call *relex, uint32_t edition) {
     static const char *const bits[] = {
         "a",    "r",  "br", "c",  "1",   "0x", "e",  ".",      "_",   " ",   "\n",       "\xc3\xa9",
@@ -308,7 +308,7 @@ static void check_random_edits(relex_call *relex, uint32_t edition) {
 typedef uint32_t body_edit_call(const uint8_t *, size_t, const struct rustc_lexer_edit *, struct rustc_lexer_head *,
                                 struct rustc_lexer_edit *, uint32_t *);
 
-/* A document with its head, and its body with the tokens of that. */
+/* A document with its head, and the tokens of its body. */
 struct document {
     char text[MOST];
     size_t len;
@@ -317,7 +317,7 @@ struct document {
     struct held body;
 };
 
-/* Whether head and body have the tokens of the document from scratch. */
+/* Returns whether the tokens of head and body equal a full re-lex of the document. */
 static bool is_document(const struct document *document) {
     static const struct rustc_lexer_token none[2];
     const struct rustc_lexer_head *head = &document->head;
@@ -340,7 +340,7 @@ static bool is_document(const struct document *document) {
            memcmp(all + head->count, document->body.tokens, of_body * token) == 0;
 }
 
-/* Puts `insert` in place of the bytes from `start` up to `stop`, and makes the edit of the body that this is. */
+/* Replaces the bytes from `start` up to `stop` with `insert`, and applies the change of the body. */
 static void edit_document(body_edit_call *body_edit, struct document *document, size_t start, size_t stop,
                           const char *insert) {
     struct rustc_lexer_edit edit = {(uint32_t)start, (uint32_t)stop, (uint32_t)(start + strlen(insert))}, made;
@@ -361,7 +361,7 @@ static void edit_document(body_edit_call *body_edit, struct document *document, 
     CHECK(is_document(document));
 }
 
-/* A head that stays, one that an edit after it changes, and a shebang line that a `[` after it undoes. */
+/* A head that is kept, a head that an edit after it changes, and a shebang line that a `[` after it removes. */
 static void check_heads(body_edit_call *body_edit) {
     static struct document document;
     memset(&document, 0, sizeof document);
@@ -377,7 +377,7 @@ static void check_heads(body_edit_call *body_edit) {
     edit_document(body_edit, &document, 0, document.len, "#!\na = b");
     edit_document(body_edit, &document, 3, 3, "[");
     CHECK(document.head.tokens_start == 0 && document.head.body == 0 && document.head_kept == 0);
-    /* a byte order mark in front of a shebang line and a frontmatter, and of neither */
+    /* a byte order mark before a shebang line and a frontmatter, and before neither */
     edit_document(body_edit, &document, 0, document.len, "\xef\xbb\xbf#!/bin/sh\n---\n---\nb - c");
     CHECK(document.head.tokens_start == 12 && document.head.count == 2 && document.head.body == 20);
     edit_document(body_edit, &document, 23, 24, "+");
@@ -400,7 +400,7 @@ static void check_bad_heads(body_edit_call *body_edit) {
         CHECK(memcmp(&head, &before, sizeof head) == 0);
         CHECK(made.start == 10 && made.old_stop == 11 && made.new_stop == 12);
     }
-    /* with any head it answers, and then the body may be relexed by it */
+    /* the call accepts any head, and rustc_lexer_relex accepts its edit of the body */
     for (size_t i = 0; i < 10000; i++) {
         struct rustc_lexer_head head;
         struct rustc_lexer_edit edit = {(uint32_t)below(&random, 2), (uint32_t)below(&random, 9), 4}, made;
@@ -418,7 +418,7 @@ static void check_bad_heads(body_edit_call *body_edit) {
     }
 }
 
-/* 10,000 edits of a document, each compared with lexing it anew. */
+/* 10,000 edits of a document, each compared with a full re-lex. */
 static void check_random_documents(body_edit_call *body_edit) {
     static const char *const bits[] = {
         "#!", "[", "/", "-", "--", "---", "\n---\n", "\n", " ", "cargo", "use ", "//!", "#![", "\"", "\xc3\xa9", "/*",

@@ -1,4 +1,4 @@
-/* Tests edit_held of typing.c: after each edit its tokens are those of a full re-lex, also where the head changes. */
+/* Tests edit_held of typing.c: after each edit, its tokens equal a full re-lex, even if the head changes. */
 #define main main_of_typing
 #include "typing.c"
 #undef main

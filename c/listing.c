@@ -1,13 +1,13 @@
-/* Prints the tokens of a text from standard input: for each a line with its start, its length, its kind and the
- * fields of that, as lexdump prints them. With `listing front` the text may begin with a frontmatter, and `listing
- * shebang` prints the length of its shebang line. */
+/* Prints the tokens of a text from standard input as lexdump does: a line for each token, with its start, length,
+ * kind and fields. With `listing front`, the text can start with a frontmatter. `listing shebang` prints the length
+ * of the shebang line. */
 #include <stdio.h>
 #include <stdlib.h>
 #include <string.h>
 
 #include "rustc_lexer.h"
 
-/* How many tokens one call may write; the tests build with other numbers. */
+/* The number of tokens that one call can write; tests override it. */
 #ifndef BUFFER_LEN
 #define BUFFER_LEN 1024
 #endif
@@ -70,7 +70,7 @@ static void print_token(size_t start, const struct rustc_lexer_token *token) {
     putchar('\n');
 }
 
-/* The bytes of standard input, or null where memory is refused or the read fails. */
+/* Returns the bytes of standard input, or null if an allocation or the read fails. */
 static uint8_t *read_all(size_t *len) {
     size_t capacity = 1 << 16;
     uint8_t *text = malloc(capacity);

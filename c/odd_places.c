@@ -1,30 +1,29 @@
-/* Calls of the library with texts and buffers at odd places: right before a page that may not be read, right behind
- * one, and in a block of the heap that is as long as they are. Texts end anywhere, also inside a character; buffers
- * have few tokens, units or bytes, and edits and literals are random. Exits with 1 at the first check that fails, and
- * says which.
+/* Calls the library with texts and buffers directly before or after a page that must not be accessed, and in heap
+ * blocks of exactly their size. Texts end anywhere, even inside a character; buffers are small, and edits and
+ * literals are random. Prints the first failed check and exits with 1.
  *
  *     odd_places ROUNDS FILE..
  *
- * Each round takes random parts of the files. */
+ * Each round uses random parts of the files. */
 #define _DEFAULT_SOURCE
 #include <sys/mman.h>
 #include <unistd.h>
 
 #include "checks.h"
 
-/* The longest text, and so the most tokens. */
+/* The maximum length of a text, and so of its tokens. */
 #define MOST 400
 
 enum placement { BEFORE_A_PAGE, BEHIND_A_PAGE, HEAP, PLACEMENTS };
 
-/* How many edits were compared. */
+/* The number of compared edits. */
 static unsigned long edits;
 
-/* Bytes at a place, and what they are a part of. */
+/* Bytes in memory, and the mapping that contains them. */
 struct block {
     void *bytes;
     void *whole;
-    size_t whole_len; /* 0: of the heap */
+    size_t whole_len; /* 0 for the heap */
 };
 
 static struct block block_of(size_t len, enum placement placement) {
@@ -58,7 +57,7 @@ static void release(struct block block) {
         CHECK(munmap(block.whole, block.whole_len) == 0);
 }
 
-/* The next number of a linear congruential generator, below a limit that is not 0. */
+/* Returns the next number of a linear congruential generator, below a limit that is not 0. */
 static size_t below(size_t limit) {
     static uint64_t state = 1;
     state = state * 6364136223846793005u + 1442695040888963407u;
@@ -78,7 +77,7 @@ static bool is_same(const struct list *one, const struct list *other) {
     return one->count == other->count;
 }
 
-/* Adds what stands in the buffer to the list. */
+/* Appends the buffer to the list. */
 static void take(struct list *list, const struct rustc_lexer_token *buffer, size_t count) {
     CHECK(list->count + count <= MOST);
     if (count > 0)
@@ -86,7 +85,7 @@ static void take(struct list *list, const struct rustc_lexer_token *buffer, size
     list->count += count;
 }
 
-/* The tokens of a text by buffers of so many. */
+/* Lexes a text with small buffers. */
 static void lex(batch_call *tokens, const uint8_t *text, size_t len, uint32_t allowed, size_t buffer_len,
                 enum placement placement, struct list *list) {
     struct rustc_lexer_place at = {0, allowed};
@@ -108,7 +107,7 @@ static void lex(batch_call *tokens, const uint8_t *text, size_t len, uint32_t al
     release(count);
 }
 
-/* The token of a byte: it begins at or before the byte, and ends after it. */
+/* Checks the token at an offset: it starts at or before the byte, and ends after it. */
 static void find_token(const struct rustc_lexer_token *tokens, size_t count, size_t len, enum placement placement) {
     size_t none = 0, found, from, offset = below(len + 2);
     struct block number = copy_of(&none, sizeof none, placement), start = copy_of(&none, sizeof none, placement);
@@ -120,7 +119,7 @@ static void find_token(const struct rustc_lexer_token *tokens, size_t count, siz
     release(start);
 }
 
-/* The tokens of a text after an edit, by buffers of so many, from those before it, which become the new ones. */
+/* Updates the tokens of a text after an edit, with small buffers. */
 static void relex(const uint8_t *text, size_t len, struct rustc_lexer_edit made, size_t buffer_len,
                   enum placement placement, struct list *list) {
     struct list lexed = {.count = 0}, before = *list;
@@ -160,7 +159,7 @@ static void relex(const uint8_t *text, size_t len, struct rustc_lexer_edit made,
     release(relexing);
 }
 
-/* The head of a text, and the edit that puts the text in: what is written, and that it is no more than the head. */
+/* Checks the head of a text for the edit that inserts it: only the outputs are written. */
 static void find_head(const uint8_t *text, size_t len, uint32_t status, enum placement placement) {
     struct rustc_lexer_edit all = {0, 0, (uint32_t)len}, made;
     struct rustc_lexer_head none = {0}, found;
@@ -178,7 +177,7 @@ static void find_head(const uint8_t *text, size_t len, uint32_t status, enum pla
     release(kept);
 }
 
-/* The calls that take any bytes, on bytes at a place: they answer, and write no more than their answer. */
+/* Calls the functions that accept any bytes: they return, and write only their outputs. */
 static uint32_t call_all(const uint8_t *text, size_t len, enum placement placement) {
     uint32_t status = rustc_lexer_check(text, len);
     struct block end = block_of(sizeof(size_t), placement), is = block_of(sizeof(uint32_t), placement);
@@ -206,8 +205,7 @@ static uint32_t call_all(const uint8_t *text, size_t len, enum placement placeme
     return status;
 }
 
-/* What a literal of each kind stands for, and what is wrong in it, by small buffers: they are filled as one buffer is that
- * has room enough. */
+/* The value and the errors of a literal of each kind: small buffers have the same contents as a large one. */
 static void check_literal(const uint8_t *text, size_t len, enum placement placement) {
     static struct rustc_lexer_unit whole[MOST];
     struct block count = block_of(sizeof(size_t), placement);
@@ -232,7 +230,7 @@ static void check_literal(const uint8_t *text, size_t len, enum placement placem
     release(count);
 }
 
-/* A literal of random parts. */
+/* A literal of random fragments. */
 static void check_parts(void) {
     static const char *const parts[] = {
         "\\n", "\\0", "\\'", "\\q", "\\", "\\x41", "\\xff", "\\xg", "\\x4", "\\u{1F600}", "\\u{41}", "\\u{0}",
@@ -253,7 +251,7 @@ static void check_parts(void) {
     }
 }
 
-/* The class and the fault of the first token of a text, and of a token of any numbers. */
+/* The class and the error of the first token of a text, and of a token with random fields. */
 static void check_classes(const uint8_t *text, size_t len, enum placement placement) {
     struct block token = block_of(sizeof(struct rustc_lexer_token), placement);
     struct block number = block_of(sizeof(uint32_t), placement);
@@ -271,7 +269,7 @@ static void check_classes(const uint8_t *text, size_t len, enum placement placem
     release(token);
 }
 
-/* A text between its marks, in a buffer that may be too small. */
+/* Highlights a text into a buffer that can be too small. */
 static void check_marks(const uint8_t *text, size_t len, enum placement placement) {
     struct block count = block_of(sizeof(size_t), placement);
     for (uint32_t format = RUSTC_LEXER_FORMAT_HTML; format <= RUSTC_LEXER_FORMAT_NO_COLOURS; format++) {
@@ -286,8 +284,8 @@ static void check_marks(const uint8_t *text, size_t len, enum placement placemen
     release(count);
 }
 
-/* A text of 2 to the power of 32 bytes and one more, which the system gives without a look at them: it is too long, and no
- * part of it is taken for it. */
+/* A text of 2 to the power of 32 bytes and one more, which the system maps without touching them: it is too long,
+ * and its length is not truncated. */
 static void check_too_long(void) {
 #if SIZE_MAX > UINT32_MAX
     size_t len = (size_t)UINT32_MAX + 2;
@@ -308,7 +306,7 @@ static void check_too_long(void) {
 #endif
 }
 
-/* All calls on a text. */
+/* All functions on a text. */
 static void check_text(const uint8_t *bytes, size_t len) {
     static const size_t buffers[] = {1, 2, 3, 5, 8, 31, MOST};
     batch_call *const calls[] = {rustc_lexer_tokens, rustc_lexer_tokens_unchecked, tokens_in_newest,
@@ -333,14 +331,14 @@ static void check_text(const uint8_t *bytes, size_t len) {
     }
 }
 
-/* The last place at or before `at` that is between characters. */
+/* Returns the last character boundary at or before `at`. */
 static size_t boundary(const uint8_t *bytes, size_t len, size_t at) {
     while (at < len && at > 0 && (bytes[at] & 0xC0) == 0x80)
         at--;
     return at;
 }
 
-/* A random edit: where it makes a text of a text, the tokens by relexing are those from scratch. */
+/* A random edit: if the result is valid, the relexed tokens equal a full re-lex. */
 static void check_edit(const uint8_t *bytes, size_t len, const uint8_t *insert, size_t insert_len) {
     static struct list list, whole;
     uint8_t after[2 * MOST];

@@ -1,4 +1,4 @@
-/* Replaces one call of the library for a test of listing.c: each text is too long. */
+/* Replaces a function of the library in a test of listing.c: every text is too long. */
 #include "rustc_lexer.h"
 
 uint32_t rustc_lexer_check(const uint8_t *text, size_t len) {

@@ -1,17 +1,17 @@
-/* Keeps the tokens of a document while it is edited: makes one edit, and prints the tokens that were lexed again. */
+/* Updates the tokens of a document: applies one edit, and prints the tokens that were lexed again. */
 #include <stdio.h>
 #include <string.h>
 
 #include "rustc_lexer.h"
 
-/* The most bytes that the text may have, and so the most tokens. */
+/* The maximum length of the text, and so of its tokens. */
 #define MOST 1000
 
 struct held {
     uint8_t text[MOST];
     size_t len;
-    struct rustc_lexer_head head;           /* the shebang line and the frontmatter, with its tokens */
-    struct rustc_lexer_token tokens[MOST];  /* those of the body, which is all text behind the head */
+    struct rustc_lexer_head head;           /* the shebang line and the frontmatter, with their tokens */
+    struct rustc_lexer_token tokens[MOST];  /* the tokens of the body, which is the text after the head */
     size_t count;
     struct rustc_lexer_relexing relexing;
 };
@@ -25,13 +25,13 @@ static uint32_t edit_held(struct held *held, uint32_t start, uint32_t stop, cons
     memcpy(held->text + start, insert, strlen(insert));
     held->len = held->len - stop + edit.new_stop;
 
-    /* what changes in the body */
+    /* find the change of the body */
     uint32_t head_kept, status;
     status = rustc_lexer_body_edit(held->text, held->len, &edit, &held->head, &body_edit, &head_kept);
     if (status != RUSTC_LEXER_OK)
         return status;
 
-    /* there is room for one token more than a text can have, so one call writes them all */
+    /* the buffer has more entries than a text has tokens, so one call writes them all */
     struct rustc_lexer_token lexed[MOST + 1];
     size_t count;
     held->relexing.stage = RUSTC_LEXER_STAGE_BEGIN;
@@ -44,7 +44,7 @@ static uint32_t edit_held(struct held *held, uint32_t start, uint32_t stop, cons
 }
 
 int main(void) {
-    /* all zeros is an empty text with no tokens, so its first edit puts the whole text in */
+    /* zeros are an empty text without tokens, so the first edit inserts the whole text */
     static struct held held;
     if (edit_held(&held, 0, 0, "#!/bin/sh\nlet ab = cd + ef;") != RUSTC_LEXER_OK ||
         edit_held(&held, 22, 23, "- 1 -") != RUSTC_LEXER_OK)
