@@ -1,4 +1,5 @@
-// The page's check of itself: index.html#check runs it, and writes `check: passed` with what it tried, or what failed.
+// The self-test of the page: index.html#check runs it, and shows `check: passed` with the number of checks, or an
+// error.
 'use strict';
 const PIECES = ['a', 'r', 'k', '1', '.', '"', '/*', '*/', "'", 'é', '😀', '#', ' ', '\n', '\r', '0x', 'r#"', '"#', '---', '//', '\\', 'b',
   '\u{feff}', '&<>', '\u{1f}', '\u{2028}'];
@@ -6,7 +7,7 @@ const STARTS = ['', 'fn f<\'a>(x: &\'a str) -> u8 { 1.5e3; r#"é😀"# /* a */ }
   '"\\u{1f600}\\q" \'r#a k#b c"\\xff" #"x"# 0b 1e b\'é\' /* & < > */\n', '/*\n\n\n*/ let x = "a\n  b\\\n  c";\n'.repeat(12),
   `let ${'a'.repeat(300)} = 0x; k"\\q"#"b"#\n`];
 
-// Literals, and what the page says that they stand for.
+// Literals, and the values that the page shows for them.
 const WRONG = 'nothing: it is wrong';
 const LITERALS = [["'a'", '1 character: "a"'], ["'é'x", '1 character: "\\u{e9}"'], [`'"'`, '1 character: "\\""'], ["'ab'", WRONG],
   ["b'\\xff'", '1 byte: "\\xff"'], ["b'é'", WRONG], ['"aé\\n"', '3 characters: "a\\u{e9}\\n"'], ['""', '0 characters: ""'],
@@ -16,7 +17,7 @@ const LITERALS = [["'a'", '1 character: "a"'], ["'é'x", '1 character: "\\u{e9}"
   ['cr"\0"', WRONG], ['1u8', ''], ["'a", ''], ["b'a", ''], ['"a', ''], ['r#"a"', ''], ['b"a', ''], ['br#"a"', ''], ['c"a', ''], ['cr#"a"', ''],
   ['a', '']];
 
-// Numbers that are the same in each run.
+// Pseudorandom numbers, the same in each run.
 let seed = 1;
 const random = (below) => (seed = (seed * 48271) % 2147483647) % below;
 
@@ -24,29 +25,29 @@ function expect(holds, words) {
   if (!holds) throw new Error(`${words}\n${JSON.stringify(text.value.slice(0, 2000))}`);
 }
 
-// What the field holds, as the lexer has it: half of a pair is no character, and is read as U+FFFD.
+// The contents of the field as the lexer reads them: a lone surrogate becomes U+FFFD.
 const wanted = () => textOf(new TextEncoder().encode(text.value));
 const bytesOf = (words) => new TextEncoder().encode(words).length;
 const linesOf = (number) => ask('listing', number).split('\n').slice(0, -1);
-// The number of the edition, as its button is seen.
+// The index of the edition whose button is checked.
 const chosen = () => [...document.querySelectorAll('#edition input')].findIndex(({ checked }) => checked);
 const listing = () => linesOf(chosen());
 const textOf = (bytes) => new TextDecoder('utf-8', { ignoreBOM: true }).decode(bytes);
 
-// A part of a text in one line, as the page shows it.
+// A part of the text in one line, as the page shows it.
 function piece(part) {
   const escape = (c) => ({ '\t': '\\t', '\n': '\\n', '\r': '\\r' }[c] ?? `\\u{${c.codePointAt(0).toString(16)}}`);
   const characters = [...part];
   return characters.slice(0, 40).map((c) => (/\p{Cc}/u.test(c) ? escape(c) : c)).join('') + (characters.length > 40 ? '\u2026' : '');
 }
 
-// The line and the column of a byte.
+// The line and the column of an offset in bytes.
 function placeOf(bytes, at) {
   const lines = textOf(bytes.subarray(0, at)).split('\n');
   return `${lines.length}:${[...lines.at(-1)].length + 1}`;
 }
 
-// Where the listings of the editions differ, between places where all of them end a token.
+// The differences between the listings of the editions. Each ends where a token ends in all editions.
 function differences(begin) {
   const lists = years.map((_, number) => {
     let end = begin;
@@ -66,7 +67,7 @@ function differences(begin) {
   return { counts: lists.map((list) => list.length), found };
 }
 
-// The place of the caret in bytes. One that cuts a pair stands before it.
+// The offset of the caret in bytes. Inside a surrogate pair, it is before the pair.
 function caretByte() {
   const units = text.selectionStart;
   const isCut = /^[\ud800-\udbff][\udc00-\udfff]$/.test(text.value.slice(Math.max(units - 1, 0), units + 1));
@@ -74,11 +75,11 @@ function caretByte() {
 }
 
 const checks = {
-  // The tokens that are kept are those of lexing anew, in each edition.
+  // The tokens equal a full re-lex in each edition.
   kept() {
     expect(ask('as_lexed_anew') === 'yes', `tokens after edits are others: ${ask('as_lexed_anew')}`);
   },
-  // What is drawn is the text of these lines, where the field has them, and each as the lexer says now.
+  // The drawn lines have the text and the position of the visible lines, and the current highlighting.
   drawn() {
     const first = Math.floor(text.scrollTop / LINE);
     const lines = wanted().split('\n').slice(first, first + Math.ceil(text.clientHeight / LINE) + 1);
@@ -98,12 +99,12 @@ const checks = {
         `line ${first + number + 1} is drawn with old marks`);
     });
   },
-  // The marks of each line alone are those of all lines.
+  // Each line has the same highlighting alone as with all lines.
   marks() {
     const differs = ask('parts_alike', chosen());
     expect(differs === '', `line ${differs}: the marks of a part are not those of all`);
   },
-  // The tokens that are shown are those of the listing, which has the whole text. The token at the caret holds it.
+  // The shown tokens are those of the listing, which covers the whole text. The token at the caret contains it.
   listed() {
     const all = listing();
     const seen = show();
@@ -124,7 +125,8 @@ const checks = {
     const isIn = here && here.start <= place && (place < here.start + here.bytes || place === size);
     expect(isIn || place < seen.begin || seen.count === 0, `the caret is at byte ${place}, said is ${JSON.stringify(here)}`);
   },
-  // The sentence about the last edit, the bar, and the tokens that are drawn as lexed: as the listings before it and now.
+  // The message about the last edit, the bar, and the tokens drawn as lexed agree with the listings before and after
+  // it.
   bar() {
     const all = listing();
     const said = at('kept').textContent;
@@ -148,7 +150,7 @@ const checks = {
     [...at('bar').children].forEach((part, number) => expect(Math.abs(part.getBoundingClientRect().width - widths[number]) < 5,
       `part ${number} of the bar has a width of ${part.getBoundingClientRect().width}, not ${widths[number]}`));
   },
-  // How many tokens each edition has, and the table of what differs: as their listings.
+  // The number of tokens in each edition, and the table of differences, agree with the listings.
   editions() {
     drawEditions();
     const written = new TextEncoder().encode(wanted());
@@ -166,11 +168,11 @@ const checks = {
   },
 };
 
-// The listings before the last edit, in each edition.
+// The listing of each edition before the last edit.
 let before;
 const listings = () => years.map((_, number) => linesOf(number));
 
-// A text that no field can hold, like one with a carriage return: its lines as they would be drawn.
+// Checks a text that no field can contain, such as one with a carriage return.
 function beyondField(value) {
   change(value);
   const lines = value.split('\n');
@@ -182,7 +184,7 @@ function beyondField(value) {
   change(text.value);
 }
 
-// A change through the field, as typing makes it: any units are replaced, so pairs are cut too.
+// Edits the text through the field, like typing. It can split surrogate pairs.
 function type(start, stop, insert) {
   const old = wanted();
   const listed = listings();
@@ -194,7 +196,7 @@ function type(start, stop, insert) {
 const typeAll = (value) => type(0, text.value.length, value);
 const choose = (value) => [...document.querySelectorAll('#edition label')].find((label) => label.textContent.trim() === value).click();
 
-// What an event throws does not come back to the one who sent it.
+// Exceptions in event handlers are not rethrown to the code that dispatches the event.
 const failures = [];
 const tried = { edits: 0 };
 function run(...names) {
@@ -217,7 +219,7 @@ function round(number) {
   run(...number % 8 ? ['drawn', 'listed', 'bar'] : Object.keys(checks));
 }
 
-// Texts with a known answer, in the newest edition.
+// Texts with known results, in the newest edition.
 function known() {
   choose(String(years.at(-1)));
   for (const [literal, value] of LITERALS) {
@@ -234,14 +236,14 @@ function known() {
   type(50, 50, ' ');
   const [front, lexed, back] = [...at('bar').children].map((part) => Number(part.style.flexGrow));
   expect(front > 0 && lexed < 5 && back > 50, `an edit kept ${front}, lexed ${lexed}, and kept ${back}`);
-  // how much is listed, in colours and said of one line
+  // the limits for listed tokens, highlighted bytes, and messages of a line
   typeAll(';'.repeat(301));
   const listedRows = document.querySelectorAll('#tokens tbody tr').length;
   expect(listedRows === 300, `${listedRows} tokens are listed of 301`);
   typeAll(`//${'a'.repeat(4100)}`);
   const runs = [...at('lines').querySelectorAll('.code span')].map((run) => [run.className.split(' ')[0], run.textContent.length]);
   expect(JSON.stringify(runs) === '[["comment",4000],["",102]]', `a long line is drawn as ${JSON.stringify(runs)}`);
-  // a line has what is said of it beside it, if that is one sentence alone too
+  // messages are next to their line, even if there is only one
   typeAll('a\n0x');
   const beside = [...at('lines').children].map((line) => [...line.querySelectorAll('.said')].map((part) => `line 2: ${part.dataset.said}`).join());
   expect(beside[0] === '' && beside[1] === at('wrong').textContent && beside[1] !== '', `beside the lines stands ${JSON.stringify(beside)}`);
@@ -255,18 +257,18 @@ function known() {
 async function check() {
   await ready;
   addEventListener('error', ({ message }) => failures.push(message));
-  // no field gives a text with these to the page as it is, and JSON writes them in its own way
+  // a field changes these characters, and JSON escapes them
   const controls = Array.from({ length: 0xa0 }, (_, c) => String.fromCharCode(c)).join('') + '\u{2028}\u{2029}';
   for (const start of STARTS) {
     for (let turn = 0; turn < 2 * years.length; turn += 1) {
-      // the browser stays awake between
+      // let the browser handle events
       await new Promise((done) => setTimeout(done));
       choose(String(years[turn % years.length]));
       if (at('document').checked !== turn >= years.length) at('document').click();
       beyondField(`a\r\n"\r" \0 é\r${start}\r${controls}`);
       typeAll(start);
       for (let number = 0; number < 60; number += 1) round(number);
-      // the box is clicked after edits, and so is another edition
+      // toggle the document box and change the edition after edits
       for (const button of [at('document'), ...document.querySelectorAll('[name=edition]'), at('document')]) {
         button.click();
         run(...Object.keys(checks));
@@ -274,7 +276,7 @@ async function check() {
     }
   }
   known();
-  // the memory of the lexer grows, below a view of it too
+  // the memory of the lexer grows, which invalidates views of it
   typeAll(STARTS[1].repeat(20000));
   text.scrollTop = 12345;
   show();

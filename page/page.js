@@ -1,4 +1,4 @@
-// The page: what is typed goes to the lexer, and what it answers is drawn. Nothing here knows what a token is.
+// The page: passes the typed text to the lexer, and draws its results. Nothing here knows what a token is.
 'use strict';
 const at = (id) => document.getElementById(id);
 const text = at('text');
@@ -7,13 +7,13 @@ let lexer;
 let years;
 let caret = 0;
 
-// A call of the lexer, whose answer lies in its memory. A view of that holds only until memory grows.
+// Calls a function of the lexer, and returns the result from its memory. A view of the memory is valid until it grows.
 function ask(name, ...words) {
   const length = lexer[name](...words);
   return new TextDecoder().decode(new Uint8Array(lexer.memory.buffer, lexer.answer(), length));
 }
 
-// Gives the lexer a text, in UTF-8. Half of a pair becomes U+FFFD, which is one unit of UTF-16 too.
+// Passes a text to the lexer, in UTF-8. A lone surrogate becomes U+FFFD, which is one UTF-16 code unit too.
 function change(value) {
   const most = 3 * value.length;
   const room = lexer.room(most);
@@ -31,7 +31,7 @@ function element(name, words, ...inside) {
   return made;
 }
 
-// Puts items in place of those of a list. One that is the same as before keeps its element.
+// Replaces the items of a list. An unchanged item keeps its element.
 function draw(list, items, make) {
   items.forEach((item, number) => {
     const key = JSON.stringify(item);
@@ -57,7 +57,7 @@ const drawnToken = ([token, isHere]) => element('tr', isHere ? { 'aria-current':
 const drawnDifference = ({ place, text, editions }) => element('tr', {}, element('td', {}, place), element('td', {}, text),
   ...editions.map((tokens) => element('td', {}, tokens.map(([kind, shown]) => `${kind} ${shown}`).join('\n'))));
 
-// Makes what the page has of each edition: a button that chooses it, and a column.
+// Adds a radio button and a column for each edition.
 function drawYears() {
   years = JSON.parse(ask('years'));
   at('edition').append(...years.map((value) =>
@@ -66,7 +66,7 @@ function drawYears() {
   document.querySelector('#differences thead tr').append(...years.map((value) => element('th', { scope: 'col' }, value)));
 }
 
-// Draws the lines that are seen, their tokens, and what is said of the token at the caret.
+// Draws the visible lines, their tokens, and the details of the token at the caret.
 function show() {
   const first = Math.floor(text.scrollTop / LINE);
   caret = text.selectionStart;
@@ -74,7 +74,7 @@ function show() {
   draw(at('lines'), seen.lines.map((line, number) => [first + number + 1, line]), drawnLine);
   const { style } = at('lines');
   style.transform = `translate(${-text.scrollLeft}px, ${first * LINE - text.scrollTop}px)`;
-  // messages have what the code leaves of the width that is seen, and all of them are listed below
+  // messages use the visible width that the code leaves, and all of them are listed below
   style.setProperty('--right', `${at('field').clientWidth - text.clientWidth - text.scrollLeft + 8}px`);
   style.setProperty('--wide', `${text.clientWidth + text.scrollLeft - 70}px`);
   const here = seen.tokens.find(({ number }) => number === seen.at) ?? seen.elsewhere[0];
@@ -90,7 +90,7 @@ function show() {
   return seen;
 }
 
-// Draws what the last edit kept.
+// Draws the counts of the last edit.
 function drawKept({ kept, bytes, lines }, count) {
   at('bar').className = kept ? '' : 'anew';
   const [front, lexed, back] = kept || [0, count, 0];
@@ -115,7 +115,7 @@ function changed() {
   later = setTimeout(drawEditions, answer.bytes < 1e5 ? 0 : 300);
 }
 
-// A link carries text and edition: #edition=2018&document&text=..
+// A link contains the edition and the text: #edition=2018&document&text=..
 function read() {
   const words = new URLSearchParams(location.hash.slice(1));
   const chosen = [...document.querySelectorAll('[name=edition]')].find(({ value }) => value === words.get('edition'));
@@ -139,7 +139,7 @@ function save() {
   setTimeout(() => URL.revokeObjectURL(file));
 }
 
-// Gives the text so many hundredths of the width, and its tokens the rest.
+// Sets the width of the text in percent; the tokens use the rest.
 function split(share) {
   const held = Math.min(80, Math.max(20, Math.round(share)));
   const { style } = at('split').parentElement;
@@ -163,7 +163,7 @@ function drag(event) {
   split(100 * (event.clientX - left) / width);
 }
 
-// The keys of the whole page, which its dialog lists.
+// The keyboard shortcuts of the page, which its dialog lists.
 function pressed(event) {
   const call = { F1: () => at('keys').open || at('keys').showModal(), 's with Control': save }[
     event.key + (event.ctrlKey || event.metaKey ? ' with Control' : '')];

@@ -1,4 +1,4 @@
-//! The years of the editions, and where their tokens differ.
+//! The years of the editions, and the differences between their tokens.
 
 use crate::json::{push_list, push_name, push_number, push_text, push_word};
 use crate::seen::{piece, push_place};
@@ -7,10 +7,10 @@ use rustc_lexer::{Edition, Token};
 use std::array::from_fn;
 use std::ops::Range;
 
-/// How many places are written.
+/// The maximum number of differences that are written.
 const MOST: usize = 50;
 
-/// The tokens of an edition, met one by one.
+/// A position in the tokens of an edition.
 struct Walk<'a> {
     tokens: &'a [Token],
     number: usize,
@@ -24,13 +24,13 @@ impl Walk<'_> {
     }
 }
 
-/// A stretch of the text whose tokens are not the same in each edition, and the numbers of its tokens in each.
+/// A range of the text whose tokens differ between editions, with the indices of its tokens in each edition.
 struct Difference {
     bytes: Range<usize>,
     numbers: [Range<usize>; EDITIONS],
 }
 
-/// The stretches in order: each ends where a token ends in all editions.
+/// Returns the differences in order. Each ends where a token ends in all editions.
 fn differences(source: &Source) -> Vec<Difference> {
     let mut walks = from_fn(|edition| Walk {
         tokens: source.tokens(edition),
@@ -58,13 +58,13 @@ fn differences(source: &Source) -> Vec<Difference> {
     found
 }
 
-/// The first walk that is behind another.
+/// Returns the first walk that is behind another.
 fn behind<'a, 'b>(walks: &'b mut [Walk<'a>; EDITIONS]) -> Option<&'b mut Walk<'a>> {
     let most = walks.iter().map(|walk| walk.end).max()?;
     walks.iter_mut().find(|walk| walk.end < most)
 }
 
-/// The years, in the order of the editions' numbers.
+/// Returns the years as JSON, in the order of `Edition::ALL`.
 pub fn years() -> String {
     let mut out = String::new();
     push_list(&mut out, Edition::ALL, |out, edition| {
@@ -73,7 +73,7 @@ pub fn years() -> String {
     out
 }
 
-/// How many tokens each edition has, and where they differ.
+/// Returns the number of tokens in each edition and their differences, as JSON.
 pub fn write(source: &Source) -> String {
     let found = differences(source);
     let mut out = "{".to_string();

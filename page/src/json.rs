@@ -1,6 +1,6 @@
-//! Texts and lists in JSON.
+//! Strings, lists and fields in JSON.
 
-/// Appends a text as JSON writes it.
+/// Appends a text as a JSON string.
 pub fn push_text(out: &mut String, text: &str) {
     out.push('"');
     for c in text.chars() {
@@ -15,7 +15,7 @@ pub fn push_text(out: &mut String, text: &str) {
     out.push('"');
 }
 
-/// Appends a list, whose items `push` appends.
+/// Appends a list, with `push` for each item.
 pub fn push_list<T>(
     out: &mut String,
     items: impl IntoIterator<Item = T>,
@@ -39,13 +39,13 @@ pub fn push_name(out: &mut String, name: &str) {
     out.push(':');
 }
 
-/// Appends a text with its name.
+/// Appends a field with a text.
 pub fn push_word(out: &mut String, name: &str, text: &str) {
     push_name(out, name);
     push_text(out, text);
 }
 
-/// Appends a number with its name.
+/// Appends a field with a number.
 pub fn push_number(out: &mut String, name: &str, number: usize) {
     push_name(out, name);
     *out += &number.to_string();

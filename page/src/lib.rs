@@ -1,5 +1,5 @@
-//! What the page calls. A call reads what was put into the room, if it takes a text, and answers the length of its
-//! answer, which lies at `answer()`. The number of an edition is its place in `Edition::ALL`.
+//! The functions that the page calls. A text is passed in the buffer at `room()`. A function returns the length of its
+//! result, which is at `answer()`. An edition is passed as its index in `Edition::ALL`.
 
 #![deny(missing_docs)]
 
@@ -31,7 +31,7 @@ thread_local! {
     });
 }
 
-/// Keeps an answer, and answers its length.
+/// Stores a result, and returns its length.
 fn answered(call: impl FnOnce(&mut Source, &[u8]) -> String) -> usize {
     PAGE.with_borrow_mut(|page| {
         page.answer = call(&mut page.source, &page.room);
@@ -39,7 +39,7 @@ fn answered(call: impl FnOnce(&mut Source, &[u8]) -> String) -> usize {
     })
 }
 
-/// Where so many bytes of a text may be put.
+/// Returns a buffer for a text of `len` bytes.
 #[unsafe(no_mangle)]
 pub extern "C" fn room(len: usize) -> *mut u8 {
     PAGE.with_borrow_mut(|page| {
@@ -48,14 +48,14 @@ pub extern "C" fn room(len: usize) -> *mut u8 {
     })
 }
 
-/// Where the last answer lies.
+/// Returns the address of the last result.
 #[unsafe(no_mangle)]
 pub extern "C" fn answer() -> *const u8 {
     PAGE.with_borrow(|page| page.answer.as_ptr())
 }
 
-/// The first `len` bytes of the room are the text now, which may be a whole document. Answers what was kept of the
-/// tokens, in JSON.
+/// Replaces the text by the first `len` bytes of the buffer, as a fragment or a whole document. The result says how
+/// many tokens were kept, as JSON.
 #[unsafe(no_mangle)]
 pub extern "C" fn change(len: usize, document: bool, edition: usize) -> usize {
     answered(|source, room| {
@@ -64,39 +64,40 @@ pub extern "C" fn change(len: usize, document: bool, edition: usize) -> usize {
     })
 }
 
-/// Some lines of the text between their marks, the tokens there, and that at the caret, which is a number of units of
-/// UTF-16. In JSON.
+/// Returns some highlighted lines, their tokens, and the token at the caret, as JSON. `caret` is an offset in UTF-16
+/// code units.
 #[unsafe(no_mangle)]
 pub extern "C" fn show(first_line: usize, count: usize, caret: usize, edition: usize) -> usize {
     answered(|source, _| seen::show(source, first_line, count, caret, edition))
 }
 
-/// The years of the editions, in the order of their numbers. In JSON.
+/// Returns the years of the editions, in the order of `Edition::ALL`, as JSON.
 #[unsafe(no_mangle)]
 pub extern "C" fn years() -> usize {
     answered(|_, _| editions::years())
 }
 
-/// How many tokens each edition has, and where they differ, in JSON.
+/// Returns the number of tokens in each edition and their differences, as JSON.
 #[unsafe(no_mangle)]
 pub extern "C" fn editions() -> usize {
     answered(|source, _| editions::write(source))
 }
 
-/// The listing that `lexdump` writes of the tokens of the text. Of a whole document their places begin past its shebang line.
+/// Returns the tokens of the text as `lexdump` prints them. In a whole document, offsets count from the end of the
+/// shebang line.
 #[unsafe(no_mangle)]
 pub extern "C" fn listing(edition: usize) -> usize {
     answered(|source, _| listing::write(source, 0..source.tokens(edition).len(), edition))
 }
 
-/// The marks of all lines of the text, and of each line alone, are the same: what `show` draws of a part is what it
-/// would draw of all. Answers the number of the first line where they differ, or nothing.
+/// Checks that each line has the same highlighting alone as with all lines, so that `show` can draw any part of the
+/// text. Returns the number of the first line with a difference, or an empty result.
 #[unsafe(no_mangle)]
 pub extern "C" fn parts_alike(edition: usize) -> usize {
     answered(|source, _| seen::parts_alike(source, edition))
 }
 
-/// Whether the tokens that are kept are those of lexing the text anew, in each edition: `yes`, or the year where not.
+/// Compares the tokens with a full re-lex in each edition. Returns `yes`, or the first year with a difference.
 #[unsafe(no_mangle)]
 pub extern "C" fn as_lexed_anew() -> usize {
     answered(|source, _| source.as_lexed_anew())

@@ -1,4 +1,4 @@
-//! The listing of tokens, as the program `lexdump` writes it.
+//! The listing of tokens, as the program `lexdump` prints it.
 
 use crate::source::Source;
 use ends::Watched;
@@ -6,7 +6,7 @@ use lexdump_run::write_listing;
 use rattle_std::io;
 use std::ops::Range;
 
-/// Takes the bytes of a listing.
+/// A writer that collects the bytes of a listing.
 #[derive(Default)]
 struct Text(Vec<u8>);
 
@@ -21,10 +21,10 @@ impl io::Write for Text {
     }
 }
 
-/// The lines of the tokens of these numbers. Their places begin at 0.
+/// Returns the lines for a range of tokens, by index. Their offsets start at 0.
 pub fn write(source: &Source, numbers: Range<usize>, edition: usize) -> String {
     let mut output = Watched::new(Text::default());
     let tokens = &source.tokens(edition)[numbers];
-    write_listing(&mut output, 0, tokens).expect("a list takes all that is written to it");
+    write_listing(&mut output, 0, tokens).expect("writing to a list succeeds");
     String::from_utf8(output.into_inner().0).expect("a listing is a text")
 }

@@ -1,4 +1,4 @@
-//! What the page shows: lines with their marks, tokens, and what an edit kept.
+//! The visible state of the page: highlighted lines, tokens, and the counts of the last edit.
 
 use crate::json::{push_list, push_name, push_number, push_text, push_word};
 use crate::listing;
@@ -7,12 +7,12 @@ use crate::value::value;
 use crate::window::{Line, lines_of};
 use std::ops::Range;
 
-/// How many tokens are listed at once.
+/// The maximum number of listed tokens.
 const MOST_TOKENS: usize = 300;
-/// How many characters of a token are shown.
+/// The maximum number of characters that are shown of a token.
 const MOST_SHOWN: usize = 40;
 
-/// A piece of the text in one line: characters of control are written as escapes, and a long piece is cut.
+/// Returns a text in one line: control characters are escaped, and a long text is shortened.
 pub fn piece(text: &str) -> String {
     let mut shown = String::new();
     for c in text.chars().take(MOST_SHOWN) {
@@ -28,7 +28,8 @@ pub fn piece(text: &str) -> String {
     shown
 }
 
-/// How long the text is, and how many tokens the last edit kept in front, lexed, and kept at the back.
+/// Returns the length of the text, and how many tokens the last edit kept at the front, lexed, and kept at the back, as
+/// JSON.
 pub fn kept(source: &Source, edition: usize) -> String {
     let mut out = "{".to_string();
     push_number(&mut out, "bytes", source.text().len());
@@ -43,7 +44,7 @@ pub fn kept(source: &Source, edition: usize) -> String {
     out + "}"
 }
 
-/// The bytes that the last edit lexed, where it kept some too.
+/// Returns the range that the last edit lexed, or an empty one if it kept no tokens.
 fn fresh(source: &Source, edition: usize) -> Range<usize> {
     let Some(last) = source
         .last(edition)
@@ -59,42 +60,42 @@ fn fresh(source: &Source, edition: usize) -> Range<usize> {
     first.start as usize..end.start as usize + end.text.len()
 }
 
-/// The bytes of some lines, without the end of the last.
+/// Returns the range of some lines, without the newline of the last one.
 fn bytes_of_lines(source: &Source, first: usize, count: usize) -> Range<usize> {
     let (start, end) = (source.line_start(first), source.line_start(first + count));
     start..end - usize::from(first + count < source.line_count())
 }
 
-/// Some lines, their tokens, and the token at the caret, where it is not among these.
+/// Returns some lines, their tokens, and the token at the caret if it is not one of these, as JSON.
 pub fn show(source: &Source, first: usize, count: usize, caret: usize, edition: usize) -> String {
     let range = bytes_of_lines(source, first, count);
     let fresh = fresh(source, edition);
     let lines = lines_of(source, range.clone(), fresh.clone(), edition);
     let (begin, _) = source.token_start_at(edition, range.start);
     let (end, _) = source.token_start_at(edition, range.end.max(1) - 1);
-    let there = source.tokens(edition).len();
-    let past = (end + 1).min(there).max(begin);
+    let count_of_tokens = source.tokens(edition).len();
+    let end = (end + 1).min(count_of_tokens).max(begin);
     let caret = source.byte_of(caret);
     let (at, _) = source.token_start_at(edition, caret);
-    let at = at.min(there.max(1) - 1);
+    let at = at.min(count_of_tokens.max(1) - 1);
     let mut out = "{".to_string();
     push_name(&mut out, "lines");
     push_list(&mut out, &lines, push_line);
-    push_number(&mut out, "count", there);
+    push_number(&mut out, "count", count_of_tokens);
     push_number(&mut out, "begin", source.begin());
     push_name(&mut out, "tokens");
-    let listed = begin..past.min(begin + MOST_TOKENS);
+    let listed = begin..end.min(begin + MOST_TOKENS);
     push_tokens(&mut out, source, listed.clone(), &fresh, edition);
     push_number(&mut out, "at", at);
     push_name(&mut out, "elsewhere");
-    let is_elsewhere = at < there && !listed.contains(&at);
+    let is_elsewhere = at < count_of_tokens && !listed.contains(&at);
     let elsewhere = at..at + usize::from(is_elsewhere);
     push_tokens(&mut out, source, elsewhere, &fresh, edition);
     push_place(&mut out, source, caret);
     out + "}"
 }
 
-/// Pushes the line and the column of a byte, with their name.
+/// Appends a field with the line and the column of an offset.
 pub fn push_place(out: &mut String, source: &Source, at: usize) {
     let (line, column) = source.place(at);
     push_word(out, "place", &format!("{line}:{column}"));
@@ -114,7 +115,7 @@ fn push_line(out: &mut String, line: &Line) {
     out.push('}');
 }
 
-/// Some tokens, each by its number, its place, and what `lexdump` writes of it.
+/// Appends a list of tokens, each with its index, its position, and the fields that `lexdump` prints.
 fn push_tokens(
     out: &mut String,
     source: &Source,
@@ -144,8 +145,8 @@ fn push_tokens(
     });
 }
 
-/// The number of the first line, from 1, whose marks alone are not those that all lines together give it; empty where
-/// there is none.
+/// Returns the number, from 1, of the first line whose highlighting alone differs from that with all lines, or an empty
+/// text.
 pub fn parts_alike(source: &Source, edition: usize) -> String {
     let fresh = fresh(source, edition);
     let lines = |first, count| {

@@ -7,13 +7,13 @@ use rustc_lexer::{
 use std::array::from_fn;
 use std::ops::Range;
 
-/// How many editions there are.
+/// The number of editions.
 pub const EDITIONS: usize = Edition::ALL.len();
 
 /// The text, with its tokens in each edition.
 pub struct Source {
     held: Held,
-    /// Where each line begins.
+    /// The offset at which each line starts.
     lines: Vec<usize>,
     last: Option<[Relexed; EDITIONS]>,
 }
@@ -44,7 +44,7 @@ impl Held {
 
 #[cfg(test)]
 impl Source {
-    /// A text whose tokens are those of these editions, in place of each edition: they are wrong where it is another.
+    /// Returns a text whose tokens are lexed in these editions instead of those of `Edition::ALL`.
     pub fn in_editions(text: &str, document: bool, editions: [Edition; EDITIONS]) -> Source {
         let mut source = Source::new();
         source.change(text, document);
@@ -72,7 +72,7 @@ impl Source {
         }
     }
 
-    /// Its tokens in an edition, from `begin` on.
+    /// Returns the tokens in an edition, from `begin` on.
     pub fn tokens(&self, edition: usize) -> &[Token] {
         match &self.held {
             Held::Part(texts) => texts[edition].tokens(),
@@ -80,7 +80,7 @@ impl Source {
         }
     }
 
-    /// The tokens of these numbers, with their places and texts.
+    /// Returns the pieces of a range of tokens, by index.
     pub fn pieces_of_tokens(&self, edition: usize, numbers: Range<usize>) -> Pieces<'_> {
         match &self.held {
             Held::Part(texts) => texts[edition].pieces_of_tokens(numbers),
@@ -88,7 +88,7 @@ impl Source {
         }
     }
 
-    /// Where its first token begins: past a shebang line.
+    /// Returns the offset of the first token: after a shebang line.
     pub fn begin(&self) -> usize {
         match &self.held {
             Held::Part(_) => 0,
@@ -96,12 +96,12 @@ impl Source {
         }
     }
 
-    /// Whether the text is a whole document.
+    /// Returns whether the text is a whole document.
     pub fn is_document(&self) -> bool {
         matches!(self.held, Held::Document(_))
     }
 
-    /// What the last change kept and lexed in an edition; `None` where all was lexed anew.
+    /// Returns the counts of the last change in an edition, or `None` if it was a full re-lex.
     pub fn last(&self, edition: usize) -> Option<Relexed> {
         self.last.map(|last| last[edition])
     }
@@ -110,19 +110,19 @@ impl Source {
         self.lines.len()
     }
 
-    /// Where a line begins, or the length of the text where there are fewer.
+    /// Returns the offset at which a line starts, or the length of the text if there are fewer lines.
     pub fn line_start(&self, line: usize) -> usize {
         self.lines.get(line).copied().unwrap_or(self.text().len())
     }
 
-    /// The line and the column of a byte, from 1. A column is a number of characters.
+    /// Returns the line and the column of an offset, from 1. Columns count characters.
     pub fn place(&self, at: usize) -> (usize, usize) {
         let line = self.lines.partition_point(|start| *start <= at);
         let before = &self.text()[self.lines[line - 1]..at];
         (line, before.chars().count() + 1)
     }
 
-    /// The byte of a place in units of UTF-16.
+    /// Converts an offset in UTF-16 code units to one in bytes.
     pub fn byte_of(&self, units: usize) -> usize {
         let mut left = units;
         let found = self.text().char_indices().find(|(_, c)| {
@@ -133,7 +133,7 @@ impl Source {
         found.map_or(self.text().len(), |(at, _)| at)
     }
 
-    /// The number and the start of the first token that ends past the byte.
+    /// Returns the index and the start of the first token that ends after an offset.
     pub fn token_start_at(&self, edition: usize, byte: usize) -> (usize, usize) {
         let byte = byte.max(self.begin());
         let found = match &self.held {
@@ -145,15 +145,15 @@ impl Source {
         })
     }
 
-    /// Whether no shebang line and no frontmatter can stand where the token of this number begins, so that what is from
-    /// there on is read as a part.
+    /// Returns whether neither a shebang line nor a frontmatter can be at a token, so that the text from there on can
+    /// be lexed as a fragment.
     pub fn is_part(&self, edition: usize, number: usize) -> bool {
         let mut before = self.tokens(edition)[..number].iter();
         !self.is_document() || before.any(|token| token.kind != TokenKind::Whitespace)
     }
 
-    /// Puts a text in the place of the old one, by one edit of what is between the bytes that both have in front and
-    /// at the back.
+    /// Replaces the text, and re-lexes only the part that differs. Strips the common prefix, then the common suffix,
+    /// and applies the rest as one edit.
     pub fn change(&mut self, new: &str, document: bool) {
         let old = self.text();
         let front = shared_front(old, new);
@@ -170,7 +170,7 @@ impl Source {
         self.lines = std::iter::once(0).chain(starts).collect();
     }
 
-    /// `yes`, or the first year whose tokens are not those of lexing the text anew.
+    /// Returns `yes`, or the first year whose tokens differ from a full re-lex.
     pub fn as_lexed_anew(&self) -> String {
         let text = self.text();
         for (number, &edition) in Edition::ALL.iter().enumerate() {
@@ -190,7 +190,7 @@ impl Source {
     }
 }
 
-/// How many bytes both texts have in front, in whole characters.
+/// Returns the length of the common prefix of two texts, in whole characters.
 fn shared_front(old: &str, new: &str) -> usize {
     let pairs = old.bytes().zip(new.bytes());
     let mut front = pairs.take_while(|(a, b)| a == b).count();
@@ -200,7 +200,7 @@ fn shared_front(old: &str, new: &str) -> usize {
     front
 }
 
-/// How many bytes both texts have at the back, in whole characters.
+/// Returns the length of the common suffix of two texts, in whole characters.
 fn shared_back(old: &str, new: &str) -> usize {
     let pairs = old.bytes().rev().zip(new.bytes().rev());
     let mut back = pairs.take_while(|(a, b)| a == b).count();

@@ -1,4 +1,4 @@
-//! What the page calls, without a browser: `tests/manual/page` has the page itself.
+//! Tests the functions that the page calls. `tests/manual/page` tests the page itself.
 
 use crate::editions;
 use crate::json::push_text;
@@ -9,7 +9,7 @@ use crate::value::value;
 use crate::window::{Line, lines_of};
 use rustc_lexer::{Edition, FrontmatterAllowed, tokenize};
 
-/// The number of the newest edition.
+/// The index of the newest edition.
 const NEWEST: usize = EDITIONS - 1;
 
 fn source(text: &str, document: bool) -> Source {
@@ -18,31 +18,31 @@ fn source(text: &str, document: bool) -> Source {
     source
 }
 
-/// All lines of a text, in the newest edition.
+/// Returns all lines of a text, in the newest edition.
 fn lines(source: &Source) -> Vec<Line> {
     lines_of(source, 0..source.text().len(), 0..0, NEWEST)
 }
 
-/// The answer has this part.
+/// Checks that a result contains a part.
 #[track_caller]
 fn has(answer: &str, part: &str) {
     assert!(answer.contains(part), "no {part} in {answer}");
 }
 
-/// The answer ends so.
+/// Checks that a result ends with a part.
 #[track_caller]
 fn ends(answer: &str, part: &str) {
     assert!(answer.ends_with(part), "no {part} at the end of {answer}");
 }
 
-/// The classes and the texts of a line.
+/// Returns the classes and the texts of a line.
 fn runs(line: &Line) -> Vec<(&str, &str)> {
     let runs = line.runs.iter();
     runs.map(|run| (&*run.class, &*run.text)).collect()
 }
 
 #[test]
-fn what_literals_stand_for() {
+fn values_of_literals() {
     let wrong = Some("nothing: it is wrong");
     for (literal, wanted) in [
         ("'é'x", Some(r#"1 character: "\u{e9}""#)),
@@ -54,7 +54,7 @@ fn what_literals_stand_for() {
         ("br\"\r\n\"", Some(r#"1 byte: "\n""#)),
         ("\"a\r\r\n\"", wrong),
         (r#""\q""#, wrong),
-        // wrong stays wrong, though a warning follows: a line end that is skipped, and then an empty line
+        // an error followed by a warning: a skipped line end, and then an empty line
         ("\"\\q\\\n\n\"", wrong),
         ("b\"\\q\\\n\n\"", wrong),
         ("c\"\\q\\\n\n\"", wrong),
@@ -74,7 +74,7 @@ fn what_literals_stand_for() {
     }
 }
 
-/// A line ends at its line feed alone.
+/// Only a line feed ends a line.
 #[test]
 fn line_ends() {
     let source = source("a\r\nb\rc", false);
@@ -82,7 +82,7 @@ fn line_ends() {
     assert_eq!(lines(&source).len(), 2);
 }
 
-/// What JSON writes in its own way, by RFC 8259; two ends of lines of JavaScript are escaped as well.
+/// Escapes of JSON, by RFC 8259; two line terminators of JavaScript are escaped as well.
 #[test]
 fn texts_in_json() {
     let mut out = String::new();
@@ -95,7 +95,7 @@ fn places() {
     let source = source("aé\n\n😀b", false);
     assert_eq!((source.line_count(), source.line_start(2)), (3, 5));
     assert_eq!(source.line_start(3), source.text().len());
-    // A byte is of the token that ends past it.
+    // A byte belongs to the first token that ends after it.
     assert_eq!(source.token_start_at(NEWEST, 3), (1, 3));
     assert_eq!(source.token_start_at(NEWEST, 10), (3, 10));
     for (at, place) in [
@@ -108,7 +108,7 @@ fn places() {
     ] {
         assert_eq!(source.place(at), place, "byte {at}");
     }
-    // The caret counts units of UTF-16. Between the two of a character it stands before that.
+    // The caret counts UTF-16 code units. Inside a surrogate pair, it is before the character.
     for (units, byte) in [
         (0, 0),
         (1, 1),
@@ -123,7 +123,7 @@ fn places() {
     }
 }
 
-/// Each text in the place of the one before: the tokens are those of lexing it anew, and few are lexed.
+/// Each text replaces the previous one: the tokens equal a full re-lex, and few are lexed.
 #[test]
 fn changes() {
     let mut source = source("#!/a\nlet x = 'b';", true);
@@ -148,14 +148,14 @@ fn changes() {
     let all = r#"{ "bytes":11,"lines":1,"kept":null}"#;
     assert_eq!(seen::kept(&source, NEWEST), all);
     source.change("ab cd xef gh", false);
-    // What an edit keeps, by docs/RELEXING.md.
+    // The kept tokens, by docs/RELEXING.md.
     let kept = r#"{ "bytes":12,"lines":1,"kept":[2,3,2]}"#;
     assert_eq!(seen::kept(&source, NEWEST), kept);
     assert_eq!(source.as_lexed_anew(), "yes");
 }
 
 #[test]
-fn marks_of_lines() {
+fn highlighting_of_lines() {
     let source = source("fn f() {\n  \"<&é>\" // x\n}\n", false);
     let lines = lines(&source);
     assert_eq!(lines.len(), 4);
@@ -167,9 +167,9 @@ fn marks_of_lines() {
     assert_eq!(seen::parts_alike(&source, NEWEST), "");
 }
 
-/// The classes are those of docs/HIGHLIGHT.md: in front of a document stand a shebang line and a frontmatter.
+/// The classes are those of docs/HIGHLIGHT.md: a document starts with a shebang line and a frontmatter.
 #[test]
-fn marks_of_a_document() {
+fn highlighting_of_a_document() {
     let text = "#!/a\n---\nb\n---\nfn\n---";
     let (whole, part) = (source(text, true), source(text, false));
     let of_whole = ["comment", "doc", "doc", "doc", "keyword", ""];
@@ -181,7 +181,7 @@ fn marks_of_a_document() {
     assert_eq!(seen::parts_alike(&whole, NEWEST), "");
 }
 
-/// How much is in colours, and said of one line: as docs/PLAYGROUND.md has it.
+/// The limits for highlighting and messages of a line, as in docs/PLAYGROUND.md.
 #[test]
 fn limits() {
     for rest in ["a".repeat(4100), "é".repeat(2050)] {
@@ -203,7 +203,7 @@ fn limits() {
     assert_eq!(piece(&more), cut);
     assert_eq!(piece("\t\u{7f}é"), "\\t\\u{7f}é");
     assert_eq!(piece("\0\u{85}\u{a0}"), "\\u{0}\\u{85}\u{a0}");
-    // What was lexed is not marked behind the part in colours, either.
+    // Lexed tokens are not marked after the highlighted part, either.
     let long = source(&"a".repeat(4102), false);
     let fresh = lines_of(&long, 0..4102, 0..4102, NEWEST)[0].runs.clone();
     let fresh = fresh.iter().map(|run| (run.fresh, run.text.len()));
@@ -225,14 +225,14 @@ fn where_editions_differ() {
         r#"["UnknownPrefix","q"]"#
     );
     assert_eq!(editions::write(&source("\nq#a", false)), wanted);
-    // Three tokens of one edition are one of another: the place ends where a token ends in all.
+    // Three tokens of one edition are one of another: the difference ends where a token ends in all editions.
     let older = r##"[["Lifetime","'r"],["Pound","#"],["Ident","foo"]]"##;
     let newer = r##"[["RawLifetime","'r#foo"]]"##;
     let wanted = format!(
         r##"{{ "counts":[5,5,3,3],"differ":1,"places":[{{ "place":"1:1","text":"'r#foo","editions":[{older},{older},{newer},{newer}]}}]}}"##
     );
     assert_eq!(editions::write(&source("'r#foo a", false)), wanted);
-    // A second place has the tokens with its own numbers.
+    // A second difference has its own tokens.
     let place = |column, name| {
         let older = format!(r##"[["Lifetime","'r"],["Pound","#"],["Ident","{name}"]]"##);
         let newer = format!(r##"[["RawLifetime","'r#{name}"]]"##);
@@ -245,29 +245,29 @@ fn where_editions_differ() {
     assert_eq!(editions::write(&source("'r#a 'r#b", false)), wanted);
 }
 
-/// The listing is that of `lexdump`, whose places begin past a shebang line.
+/// The listing is that of `lexdump`, whose offsets count from the end of a shebang line.
 #[test]
 fn listings() {
     let source = source("#!/a\nb+", true);
     let listed = listing::write(&source, 0..3, NEWEST);
     assert_eq!(listed, "0 1 Whitespace\n1 1 Ident\n2 1 Plus\n");
-    // A long listing comes in blocks of 65536 bytes.
+    // A long listing is written in blocks of 65536 bytes.
     let count = 70_000;
     let source = self::source(&";".repeat(count), false);
     let wanted: String = (0..count).map(|at| format!("{at} 1 Semi\n")).collect();
     assert!(listing::write(&source, 0..count, NEWEST) == wanted);
 }
 
-/// A text that is put into the room, which may be larger, and what is answered of it.
+/// Each function, with a text in a buffer that can be larger.
 #[test]
 fn calls_of_the_page() {
     let answered = |len| {
-        // SAFETY: so many bytes lie there, and no other call is made meanwhile.
+        // SAFETY: the result has `len` bytes, and no other function is called meanwhile.
         unsafe {
             String::from_utf8_lossy(std::slice::from_raw_parts(crate::answer(), len)).into_owned()
         }
     };
-    // SAFETY: the room has nine bytes.
+    // SAFETY: the buffer has nine bytes.
     unsafe { crate::room(9).copy_from(b"a\xff+cdefgh".as_ptr(), 9) };
     let kept = r#"{ "bytes":5,"lines":1,"kept":[0,3,0]}"#;
     assert_eq!(answered(crate::change(3, false, NEWEST)), kept);
@@ -278,7 +278,7 @@ fn calls_of_the_page() {
     assert_eq!(answered(crate::years()), "[2015,2018,2021,2024]");
     let shown = answered(crate::show(0, 1, 2, NEWEST));
     ends(&shown, r#""place":"1:3"}"#);
-    // Nothing was kept, so nothing stands out as lexed.
+    // Nothing was kept, so nothing is marked as lexed.
     let is_fresh = shown.contains(r#""fresh":true"#) || shown.contains(" fresh");
     assert!(!is_fresh, "{shown}");
     has(
@@ -286,30 +286,30 @@ fn calls_of_the_page() {
         r#"{ "number":0,"start":0,"bytes":1,"place":"1:1","text":"a","#,
     );
     assert!(answered(crate::editions()).starts_with(r#"{ "counts":[3,3,3,3],"differ":0,"#));
-    // A byte order mark is of the text.
-    // SAFETY: the room has four bytes.
+    // A byte order mark is part of the text.
+    // SAFETY: the buffer has four bytes.
     unsafe { crate::room(4).copy_from("\u{feff}b".as_ptr(), 4) };
     answered(crate::change(4, false, NEWEST));
     let listed = answered(crate::listing(NEWEST));
     assert_eq!(listed, "0 3 Unknown\n3 1 Ident\n");
-    // What HTML has as an entity is of the text, too.
-    // SAFETY: the room has three bytes.
+    // Characters that are entities in HTML.
+    // SAFETY: the buffer has three bytes.
     unsafe { crate::room(3).copy_from("\0\r<".as_ptr(), 3) };
     answered(crate::change(3, false, NEWEST));
     has(
         &answered(crate::show(0, 1, 0, NEWEST)),
         r#"[[" wrong","\u0000"],["","\u000d<"]]"#,
     );
-    // Each line is shown, however many are asked for.
+    // The number of lines has no limit.
     let long = "a\n".repeat(150);
-    // SAFETY: the room has so many bytes.
+    // SAFETY: the buffer has `long.len()` bytes.
     unsafe { crate::room(long.len()).copy_from(long.as_ptr(), long.len()) };
     answered(crate::change(long.len(), false, NEWEST));
     let shown = answered(crate::show(0, 150, 0, NEWEST));
     assert_eq!(shown.matches(r#""runs":"#).count(), 150);
-    // Each call that takes an edition answers of that.
+    // Each function with an edition uses it.
     for (edition, count) in [3, 3, 1, 1].into_iter().enumerate() {
-        // SAFETY: the room has four bytes.
+        // SAFETY: the buffer has four bytes.
         unsafe { crate::room(4).copy_from(b"'r#a".as_ptr(), 4) };
         let kept = format!(r#"{{ "bytes":4,"lines":1,"kept":[0,{count},0]}}"#);
         assert_eq!(answered(crate::change(4, false, edition)), kept);
@@ -322,9 +322,9 @@ fn calls_of_the_page() {
     }
 }
 
-/// The line that is seen, its token at the caret, and one that is elsewhere.
+/// The visible line, the token at the caret, and a token elsewhere.
 #[test]
-fn what_is_seen() {
+fn visible_line() {
     let mut source = source("a\nb\nc", false);
     source.change("a\nbd\nc", false);
     let seen = seen::show(&source, 1, 1, 0, NEWEST);
@@ -341,9 +341,9 @@ fn what_is_seen() {
     ends(&seen, r#""place":"1:1"}"#);
 }
 
-/// A caret below the lines that are seen; a literal counts bytes, and stands for characters; a line begins behind each end of one.
+/// A caret below the visible lines; the bytes and the value of a literal; a line starts after each newline.
 #[test]
-fn what_is_seen_of_a_caret_and_of_a_literal() {
+fn caret_and_literal() {
     let seen = seen::show(&source("a\nb\nc", false), 0, 1, 4, NEWEST);
     has(
         &seen,
@@ -361,9 +361,9 @@ fn what_is_seen_of_a_caret_and_of_a_literal() {
     );
 }
 
-/// Many lines are drawn at once, of many more, and tokens far behind are listed.
+/// Many visible lines in a long text, and tokens far from its start.
 #[test]
-fn what_is_seen_of_many_lines() {
+fn many_visible_lines() {
     let source = source(&";\n".repeat(35_000), false);
     let seen = seen::show(&source, 30_000, 150, 0, NEWEST);
     assert_eq!(seen.matches(r#""runs":[["",";"]]"#).count(), 150);
@@ -399,7 +399,7 @@ fn characters_typed_side_by_side() {
 
 /// Line 201 of 400. Each is a word and its end: three bytes in lines 1 to 10, four up to line 100, and then five.
 #[test]
-fn what_is_seen_far_down() {
+fn visible_line_far_down() {
     let text: String = (0..400).map(|number| format!("x{number}\n")).collect();
     let seen = seen::show(&source(&text, false), 200, 1, 4, NEWEST);
     let lines = r#"{ "lines":[{ "runs":[["","x200"]],"said":[]}],"count":800,"begin":0,"#;
@@ -411,9 +411,9 @@ fn what_is_seen_far_down() {
     assert_eq!(seen, wanted);
 }
 
-/// Places and texts of a document begin past its shebang line, and count that.
+/// The positions of tokens in a document count its shebang line.
 #[test]
-fn what_is_seen_of_a_document() {
+fn visible_lines_of_a_document() {
     let mut document = source("#!/é\nq#b", true);
     let seen = seen::show(&document, 0, 2, 5, NEWEST);
     let lines = r##""lines":[{ "runs":[["comment","#!/é"]],"said":[]},{ "runs":[[" wrong","q"],["","#b"]],"said":["##;
@@ -436,7 +436,7 @@ fn what_is_seen_of_a_document() {
     has(&seen, lines);
 }
 
-/// An edit in the first token keeps none in front of it, and all others.
+/// An edit in the first token keeps all tokens after it.
 #[test]
 fn an_edit_of_the_first_token() {
     let mut source = source("ab cd", false);
@@ -450,7 +450,7 @@ fn an_edit_of_the_first_token() {
     );
 }
 
-/// What an edit lexes is marked from its first token to its last. What it keeps is told by docs/RELEXING.md.
+/// Lexed tokens are marked from the first to the last. docs/RELEXING.md says which tokens are kept.
 #[test]
 fn an_edit_that_lexes_three_tokens() {
     let mut source = source("ab cd ef gh", false);
@@ -463,9 +463,9 @@ fn an_edit_that_lexes_three_tokens() {
     assert_eq!(seen.matches(r#""fresh":true"#).count(), 3, "{seen}");
 }
 
-/// A fault inside a literal is marked there alone.
+/// For an error inside a literal, only the escape is marked.
 #[test]
-fn faults_inside_literals() {
+fn errors_inside_literals() {
     let source = source(r#""a\q\n""#, false);
     let line = &lines(&source)[0];
     let runs: Vec<_> = line
@@ -486,10 +486,10 @@ fn faults_inside_literals() {
     );
 }
 
-/// The page's checks of itself answer where tokens are wrong, here those of an older edition: there a raw string begins in
-/// the first line, and since 2021 a string, in which the second line has a fault.
+/// The self-tests of the page find wrong tokens, here those of an older edition: there, a raw string starts in the
+/// first line, and since 2021 a string, in which the second line has an error.
 #[test]
-fn checks_that_answer() {
+fn self_tests_find_wrong_tokens() {
     use Edition::{E2015, E2018, E2021, E2024};
     for document in [false, true] {
         let held = |editions| Source::in_editions("'r#r\"\n\\q\"", document, editions);
@@ -510,7 +510,7 @@ fn checks_that_answer() {
     }
 }
 
-/// A caret behind all tokens is at the last of them, and at none where there is none.
+/// A caret after all tokens belongs to the last token, if there is one.
 #[test]
 fn a_caret_at_the_end() {
     let seen = seen::show(&source("a+", false), 0, 1, 2, NEWEST);
@@ -519,9 +519,9 @@ fn a_caret_at_the_end() {
     assert_eq!(seen::show(&source("", false), 0, 1, 0, NEWEST), empty);
 }
 
-/// What is wrong with a token of many lines is said beside that where it begins, also where another is seen alone.
+/// The message for a token of several lines is next to its first line, even if only another line is visible.
 #[test]
-fn faults_over_lines() {
+fn errors_over_lines() {
     let source = source("\"a\nb", false);
     let said: Vec<_> = lines(&source).iter().map(|line| line.said.len()).collect();
     assert_eq!(said, [1, 0]);

@@ -1,4 +1,4 @@
-//! What a literal stands for.
+//! The value of a literal.
 
 use marks::literal_contents;
 use rustc_lexer::TokenKind;
@@ -8,8 +8,8 @@ use rustc_literal_escaper::{
     unescape_str,
 };
 
-/// What a literal with quotes stands for, written with escapes; CR LF is a newline. `None` for what is no such literal, or
-/// is not closed.
+/// Returns the value of a literal with quotes, with escapes; CR LF is a newline. Returns `None` if the token is not
+/// such a literal, or is unterminated.
 pub fn value(kind: TokenKind, text: &str) -> Option<String> {
     let (mode, range) = literal_contents(kind, text)?;
     let inside = &text[range].replace("\r\n", "\n");
@@ -30,7 +30,7 @@ pub fn value(kind: TokenKind, text: &str) -> Option<String> {
     Some(read.sentence(matches!(mode, Mode::Char | Mode::Str | Mode::RawStr)))
 }
 
-/// What was read of a literal.
+/// The value of a literal while its units are read.
 #[derive(Default)]
 struct Read {
     text: String,
@@ -61,7 +61,7 @@ impl Read {
         }
     }
 
-    /// The count, of characters or bytes, and what is there between quotes.
+    /// Returns the number of characters or bytes, and the value between quotes.
     fn sentence(&self, of_characters: bool) -> String {
         if self.is_wrong {
             return "nothing: it is wrong".to_string();

@@ -1,4 +1,4 @@
-//! Lines of a text between their marks: what `marks` writes, as runs of characters with a class.
+//! Highlighted lines of a text: the output of `marks`, parsed into runs of characters with a class.
 
 use crate::source::Source;
 use marks::{Format, write_first_tokens, write_marked};
@@ -6,31 +6,32 @@ use rustc_lexer::Edition;
 use std::fmt;
 use std::ops::Range;
 
-/// How many bytes of a line are in colours, and how many sentences stand beside it.
+/// The maximum number of highlighted bytes in a line, and of messages next to it.
 const LONG: usize = 4000;
 const MOST_SAID: usize = 10;
 
-/// A run of characters that look alike.
+/// A run of characters with the same style.
 #[derive(Clone, Debug, Default, PartialEq, Eq)]
 pub struct Run {
     /// The class, such as `keyword`; empty for plain text.
     pub class: String,
-    /// Whether a fault is marked there.
+    /// Whether it is marked as an error.
     pub wrong: bool,
     /// Whether the last edit lexed it.
     pub fresh: bool,
     pub text: String,
 }
 
-/// A line: its runs, and the sentences of the faults that begin there.
+/// A line: its runs, and the messages of the errors that start there.
 #[derive(Clone, Debug, Default, PartialEq, Eq)]
 pub struct Line {
-    /// The runs, without the end of the line.
+    /// The runs, without the newline.
     pub runs: Vec<Run>,
     pub said: Vec<String>,
 }
 
-/// The lines that lie in a range of bytes, which ends at the end of a line. `fresh` is what the last edit lexed.
+/// Returns the lines in a range of bytes, which ends at the end of a line. `fresh` is the range that the last edit
+/// lexed.
 pub fn lines_of(
     source: &Source,
     range: Range<usize>,
@@ -46,7 +47,7 @@ pub fn lines_of(
     };
     window.lines.push(Line::default());
     let year = Edition::ALL[edition];
-    // the window stops the writing where it ends
+    // writing fails at the end of the window, which is not an error
     let _ = if source.is_part(edition, number) {
         let (count, rest) = (
             source.tokens(edition).len() - number,
@@ -60,18 +61,18 @@ pub fn lines_of(
     window.lines
 }
 
-/// Reads the marks again, as they are written.
+/// Parses the HTML while it is written.
 #[derive(Default)]
 struct Window {
     range: Range<usize>,
     fresh: Range<usize>,
-    /// The byte of the text that is written next.
+    /// The offset in the text of the next character.
     at: usize,
     class: String,
     wrong: bool,
-    /// How many bytes its line has so far.
+    /// The number of bytes in the line so far.
     in_line: usize,
-    /// A tag or an entity that has begun.
+    /// An incomplete tag or entity.
     held: String,
     lines: Vec<Line>,
 }
@@ -96,7 +97,7 @@ impl fmt::Write for Window {
 }
 
 impl Window {
-    /// A tag has ended.
+    /// Handles a complete tag.
     fn tag(&mut self) {
         let tag = std::mem::take(&mut self.held);
         let value = tag.split('"').nth(1).unwrap_or("");
@@ -114,10 +115,10 @@ impl Window {
     }
 
     fn line(&mut self) -> &mut Line {
-        self.lines.last_mut().expect("there is one from the start")
+        self.lines.last_mut().expect("there is always a line")
     }
 
-    /// An entity has ended.
+    /// Handles a complete entity.
     fn entity(&mut self) {
         let entity = std::mem::take(&mut self.held);
         self.put(match &entity[1..] {
@@ -129,7 +130,7 @@ impl Window {
         });
     }
 
-    /// A character of the text.
+    /// Appends a character of the text.
     fn put(&mut self, c: char) {
         let at = self.at;
         self.at += c.len_utf8();

@@ -1,4 +1,4 @@
-//! `rustc_literal_escaper` under the name and the version of the original, for `[patch]`.
+//! `rustc_literal_escaper` under the name and version of the original crate, for `[patch]`.
 
 #![no_std]
 

@@ -1,5 +1,5 @@
-//! The parts of Rattle's `itoa` that `lexdump` uses. Written by hand, and trusted: each item must do what the contract
-//! of its namesake in Rattle says.
+//! The parts of Rattle's `itoa` that `lexdump` uses. This crate is hand-written and trusted: each item must meet the
+//! contract of the item with the same name in Rattle.
 
 #![forbid(unsafe_code)]
 
@@ -14,8 +14,12 @@ const PAIRS: [[u8; 2]; 100] = {
     pairs
 };
 
-/// Writes the decimal digits of a number, without leading zeros, so that they end before index `end`, and returns the
-/// index where they start. The rest of the buffer stays as it was. The digits must fit.
+/// Writes the decimal digits of a number, without leading zeros, before index `end`, and returns the index at which
+/// they start. The rest of the buffer is unchanged.
+///
+/// # Panics
+///
+/// Panics if the digits do not fit.
 #[inline]
 pub fn write_digits(n: u64, buf: &mut [u8], end: usize) -> usize {
     let (mut left, mut at) = (n, end);
@@ -34,22 +38,22 @@ pub fn write_digits(n: u64, buf: &mut [u8], end: usize) -> usize {
     at
 }
 
-/// The most digits of a `u64`.
-const ROOM: usize = 20;
+/// The maximum number of digits of a `u64`.
+const MAX_DIGITS: usize = 20;
 
-/// Room for the digits of a number.
-pub struct Buffer([u8; ROOM]);
+/// A buffer for the digits of a number.
+pub struct Buffer([u8; MAX_DIGITS]);
 
 impl Buffer {
-    /// Makes an empty buffer.
+    /// Returns an empty buffer.
     #[allow(clippy::new_without_default)]
     pub fn new() -> Buffer {
-        Buffer([0; ROOM])
+        Buffer([0; MAX_DIGITS])
     }
 
     /// Returns the number in decimal, without leading zeros.
     pub fn format(&mut self, n: usize) -> &str {
-        let start = write_digits(n as u64, &mut self.0, ROOM);
+        let start = write_digits(n as u64, &mut self.0, MAX_DIGITS);
         core::str::from_utf8(&self.0[start..]).expect("digits are text")
     }
 }
@@ -59,7 +63,7 @@ mod tests {
     use super::*;
 
     #[test]
-    fn digits_are_those_that_rust_writes() {
+    fn digits_equal_those_of_rust() {
         let powers = (0..20).map(|power| 10u64.pow(power));
         let near = powers.flat_map(|n| [n - 1, n, n + 1, n.saturating_mul(9)]);
         for n in near.chain(0..20_000).chain([u64::MAX, u64::from(u32::MAX)]) {

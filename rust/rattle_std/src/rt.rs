@@ -1,12 +1,12 @@
 //! The argument of `main`: the allocator and the standard streams.
 //!
-//! Rust's own streams do not serve: standard output holds lines back, and a write to a closed stream succeeds. So this
-//! has a copy of each descriptor, and each call is one system call.
+//! Rust's own streams cannot be used: standard output is line-buffered, and a write to a closed stream succeeds. So
+//! this module uses a copy of each descriptor, and each call is one system call.
 //!
-//! If a stream is closed when the process begins, Rust's runtime opens `/dev/null` in its place before `main`, and
-//! output is lost. So the copies are made before that, when the system runs the functions in `.init_array`. That takes
-//! the one `unsafe` attribute, since such a function runs before Rust's runtime is set up. It is sound here, because
-//! the function does not need the runtime: it calls `fcntl`, and allocates twice.
+//! If a stream is closed when the process starts, Rust's runtime replaces it with `/dev/null` before `main`, and output
+//! is lost. So the copies are made earlier, by a function in `.init_array`. This requires the only `unsafe` attribute,
+//! because such a function runs before Rust's runtime is initialized. It is sound, because the function does not need
+//! the runtime: it calls `fcntl`, and allocates twice.
 
 use crate::alloc::Global;
 use crate::io::{Error, IsTerminal, Read, Result, Write};
@@ -14,13 +14,13 @@ use std::fs::File;
 use std::io::ErrorKind;
 use std::sync::OnceLock;
 
-/// Copies of standard input, output and error. `None` for one that is closed, or if the process may open no more.
+/// Copies of standard input, output and error. `None` if the stream is closed, or the process cannot open more files.
 static STREAMS: OnceLock<[Option<File>; 3]> = OnceLock::new();
 
-/// Returns the copies, which the first call makes.
+/// Returns the copies, which the first call creates.
 fn streams() -> &'static [Option<File>; 3] {
     STREAMS.get_or_init(|| {
-        // Where the process may open few more, it is left with the stream that says so.
+        // If the process can open only one more file, standard error is needed to report that.
         let errors = copy(&std::io::stderr());
         [copy(&std::io::stdin()), copy(&std::io::stdout()), errors]
     })
@@ -38,13 +38,13 @@ fn copy(stream: &impl std::os::windows::io::AsHandle) -> Option<File> {
     stream.as_handle().try_clone_to_owned().ok().map(File::from)
 }
 
-/// On other targets, like in a browser, no stream is open.
+/// Returns `None`, because other targets, such as a browser, have no streams.
 #[cfg(not(any(unix, windows)))]
 fn copy<S>(_: &S) -> Option<File> {
     None
 }
 
-/// Makes the copies.
+/// Creates the copies.
 #[cfg(unix)]
 extern "C" fn at_start() {
     streams();
@@ -60,37 +60,37 @@ extern "C" fn at_start() {
 )]
 static AT_START: extern "C" fn() = at_start;
 
-/// What a program may use.
+/// The resources that a program can use.
 pub struct HostRuntime(());
 
-/// The argument of `main` in Rattle.
+/// Returns the argument that `main` has in Rattle.
 pub fn start() -> HostRuntime {
     HostRuntime(())
 }
 
 impl HostRuntime {
-    /// The allocator.
+    /// Returns the allocator.
     pub fn alloc(&self) -> Global {
         Global
     }
 
-    /// Standard input.
+    /// Returns standard input.
     pub fn stdin(&self) -> Stream {
         Stream(&streams()[0])
     }
 
-    /// Standard output.
+    /// Returns standard output.
     pub fn stdout(&self) -> Stream {
         Stream(&streams()[1])
     }
 
-    /// Standard error.
+    /// Returns standard error.
     pub fn stderr(&self) -> Stream {
         Stream(&streams()[2])
     }
 }
 
-/// A standard stream without a buffer. If it is closed, each call fails except a flush, which does nothing.
+/// An unbuffered standard stream. If it is closed, each call fails except `flush`, which does nothing.
 pub struct Stream(&'static Option<File>);
 
 impl Stream {

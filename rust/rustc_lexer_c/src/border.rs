@@ -1,4 +1,5 @@
-//! The calls from C. Each makes slices of its pointers and lengths, and calls the erased function of its name.
+//! The exported C functions. Each builds slices from its pointers and lengths, and calls the generated function with
+//! the same name.
 
 use crate::erased::batch::CPlace;
 use crate::erased::escapes::CUnit;
@@ -9,47 +10,47 @@ use crate::erased::token::CToken;
 use core::panic::PanicInfo;
 use core::slice::{from_raw_parts, from_raw_parts_mut};
 
-/// Cuts a length to the longest that a slice of `T` may have. No object is longer, so a true length stays as it is.
+/// Limits a length to the maximum of a slice of `T`. No object is longer, so a valid length does not change.
 fn short<T>(len: usize) -> usize {
     len.min(isize::MAX as usize / size_of::<T>())
 }
 
-/// Returns the items at a pointer, to be read. It may be null if the length is 0.
+/// Returns a slice of the items at a pointer, which can be null if the length is 0.
 unsafe fn read<'a, T>(items: *const T, len: usize) -> &'a [T] {
     if len == 0 {
         return &[];
     }
-    // SAFETY: the caller promises so many items.
+    // SAFETY: the caller guarantees `len` items.
     unsafe { from_raw_parts(items, short::<T>(len)) }
 }
 
-/// Returns the items at a pointer, to be written. It may be null if the length is 0.
+/// Returns a mutable slice of the items at a pointer, which can be null if the length is 0.
 unsafe fn write<'a, T>(items: *mut T, len: usize) -> &'a mut [T] {
     if len == 0 {
         return &mut [];
     }
-    // SAFETY: the caller promises so many items, which nothing else uses.
+    // SAFETY: the caller guarantees `len` items, which nothing else uses.
     unsafe { from_raw_parts_mut(items, short::<T>(len)) }
 }
 
-/// The calls by module, with their parameters there. A slice crosses as a pointer and a length.
+/// Defines the functions of each module, from their parameters there. A slice is passed as a pointer and a length.
 macro_rules! calls {
     ($($module:ident { $(fn $name:ident($($parameters:tt)*) -> $answer:ty;)* })*) => {
         $($(calls!(@ $module $name $answer [] [] $($parameters)*,);)*)*
     };
     (@ $module:ident $name:ident $answer:ty [$($crossing:tt)*] [$($passed:tt)*] $(,)?) => {
-        /// The call of this name in `rustc_lexer.h`.
+        /// The function with this name in `rustc_lexer.h`.
         #[unsafe(no_mangle)]
         unsafe extern "C" fn $name($($crossing)*) -> $answer {
             crate::erased::$module::$name($($passed)*)
         }
     };
     (@ $m:ident $n:ident $a:ty [$($c:tt)*] [$($p:tt)*] $item:ident: &[$type:ty], $($rest:tt)*) => {
-        // SAFETY: the header asks the caller for it.
+        // SAFETY: the header requires it of the caller.
         calls!(@ $m $n $a [$($c)* $item: *const $type, len: usize,] [$($p)* unsafe { read($item, len) },] $($rest)*);
     };
     (@ $m:ident $n:ident $a:ty [$($c:tt)*] [$($p:tt)*] $item:ident: &mut [$type:ty], $($rest:tt)*) => {
-        // SAFETY: the header asks the caller for it.
+        // SAFETY: the header requires it of the caller.
         calls!(@ $m $n $a [$($c)* $item: *mut $type, len: usize,] [$($p)* unsafe { write($item, len) },] $($rest)*);
     };
     (@ $m:ident $n:ident $a:ty [$($c:tt)*] [$($p:tt)*] $item:ident: $type:ty, $($rest:tt)*) => {
@@ -151,13 +152,13 @@ calls! {
     }
 }
 
-// A shared library names the C library that it takes `abort` and `memcpy` from.
+// A shared library must name the C library, from which it uses `abort` and `memcpy`.
 #[cfg_attr(unix, link(name = "c"))]
 unsafe extern "C" {
     safe fn abort() -> !;
 }
 
-/// A panic ends the process. It is proved of the source that none happens if the caller keeps the header's promises.
+/// Aborts the process. The source is proved not to panic if the caller meets the requirements of the header.
 #[panic_handler]
 fn stop(_: &PanicInfo<'_>) -> ! {
     abort()

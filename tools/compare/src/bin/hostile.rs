@@ -1,8 +1,8 @@
 //! Times the lexer on adversarial input, 1 MB and 4 MB of each shape: `cargo run --release --bin hostile`.
 //!
-//! Only this finds a lexer that is slower than linear, or too deep. It fails if a byte of the long text takes more
-//! than three times as long as a byte of the short one. A busy machine may also slow down ordinary Rust, the first
-//! shape: then more.
+//! Only this finds a lexer that is slower than linear, or that recurses too deeply. It fails if a byte of the long text
+//! takes more than three times as long as a byte of the short one. If ordinary Rust, the first shape, is also slower on
+//! a busy machine, the limit is higher.
 
 use rustc_lexer::{FrontmatterAllowed, tokenize};
 use std::hint::black_box;
@@ -17,7 +17,7 @@ const HASHES: &str = concat!(
     "##########"
 );
 
-/// How a text begins, and pieces of which each is repeated for an equal share of the rest.
+/// The start of a text, and pieces, each repeated for an equal share of the rest.
 type Shape<'a> = (&'a str, &'a [&'a str]);
 
 #[rustfmt::skip]
@@ -28,7 +28,7 @@ const SHAPES: [Shape; 27] = [
     ("", &["'a "]), ("", &["1a "]), ("", &["k'a "]), ("", &["a\u{200d}"]), ("", &["a\"b\" c'd e#f 1.2 /*x*/ "]), ("", &["\0"]),
 ];
 
-/// The minimum time for one byte of the shape, in picoseconds.
+/// Returns the minimum time for one byte of a shape, in picoseconds.
 fn byte_time((start, pieces): Shape, len: usize) -> f64 {
     let share = len / pieces.len();
     let pieces = pieces

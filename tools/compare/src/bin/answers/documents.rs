@@ -1,4 +1,4 @@
-//! Whole documents that are kept with their tokens under edits.
+//! Incrementally lexed documents.
 
 use crate::same;
 use crate::texts::Random;
@@ -10,20 +10,20 @@ use std::ops::Range;
 pub struct Documents(Vec<LexedDocument>);
 
 impl Documents {
-    /// A document that begins with what scripts begin with, or not.
+    /// Returns a document, which can start with a shebang line or a frontmatter.
     pub fn new(random: &mut Random) -> Documents {
         let text = random.document();
         let lexed = |edition: &Edition| LexedDocument::new_in(&text, *edition);
         Documents(Edition::ALL.iter().map(lexed).collect())
     }
 
-    /// The text.
+    /// Returns the text.
     pub fn text(&self) -> &str {
         self.0[0].text()
     }
 
-    /// Makes the same edit in each edition. Answers how many answers were compared, or the first that differ: in each
-    /// edition with what lexing the text anew gives, and in the newest one with what the original gives.
+    /// Applies an edit in each edition, and compares the tokens with a full re-lex, and in the newest edition with the
+    /// original. Returns the number of compared lines, or the first lines that differ.
     pub fn edit(&mut self, range: Range<usize>, insert: &str) -> Result<usize, [String; 2]> {
         let mut made = self.text().to_owned();
         made.replace_range(range.clone(), insert);
@@ -45,7 +45,7 @@ impl Documents {
     }
 }
 
-/// A text, where its tokens begin, and its tokens, as lines.
+/// Returns a text, the start of its tokens, and its tokens, as lines.
 fn answers(text: &str, start: usize, tokens: impl Iterator<Item = impl Debug>) -> String {
     let mut lines = format!("text {text:?}\nstart {start}\n");
     for token in tokens {

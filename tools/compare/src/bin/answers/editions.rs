@@ -1,11 +1,13 @@
-//! The tokens of a text in each edition, by each way to take them, beside what the original's tokens make of it.
+//! Compares the tokens of a text in each edition, by every way to lex it, with those derived from the original's
+//! tokens.
 
 use std::fmt::{Debug, Write};
 
 use rustc_lexer::{Edition, FrontmatterAllowed, Stepper, Steps, Token, TokenKind, tokenize_as};
 
-/// The first token of a text by the original, as an edition has it. What the newest edition alone has is cut off and read
-/// alone: of a guarded string's prefix the hash, of a raw lifetime the letter, of other prefixes all but the hash behind.
+/// Returns the first token of a text in an edition, by the original, which only has the newest edition. A token that an
+/// older edition does not have is shortened and lexed again: a guarded string's prefix to its hash, a raw lifetime to
+/// the quote and the letter, and a prefix to the text before its hash.
 fn first(text: &str, year: u16, allowed: bool) -> Option<original::Token> {
     use original::TokenKind::*;
     let read = |text: &str, allowed: bool| {
@@ -26,10 +28,10 @@ fn first(text: &str, year: u16, allowed: bool) -> Option<original::Token> {
 }
 
 fn line(lines: &mut String, kind: impl Debug, len: u32) {
-    writeln!(lines, "{kind:?} {len}").expect("a String takes all that is written");
+    writeln!(lines, "{kind:?} {len}").expect("writing to a String succeeds");
 }
 
-/// Writes the tokens of each edition, with and without a frontmatter, as the original's make them.
+/// Writes the tokens of each edition, with and without a frontmatter, derived from the original's tokens.
 fn theirs(text: &str, lines: &mut String) {
     for &edition in Edition::ALL {
         for is_document in [false, true] {
@@ -43,7 +45,7 @@ fn theirs(text: &str, lines: &mut String) {
     }
 }
 
-/// The tokens by a `for` loop, by `next` and `fill` in turns, and by a stepper, which must be the same.
+/// Returns the tokens by a `for` loop, and checks that alternating `next` and `fill`, and a stepper, give the same.
 fn tokens(text: &str, edition: Edition, allowed: FrontmatterAllowed) -> Vec<Token> {
     let read = || tokenize_as(text, allowed, edition);
     let mut by_for = Vec::new();
@@ -75,7 +77,7 @@ fn tokens(text: &str, edition: Edition, allowed: FrontmatterAllowed) -> Vec<Toke
     by_for
 }
 
-/// Writes the tokens of each edition, with and without a frontmatter, as ours gives them.
+/// Writes the tokens of each edition, with and without a frontmatter, by our crate.
 fn ours(text: &str, lines: &mut String) {
     for &edition in Edition::ALL {
         for allowed in [FrontmatterAllowed::No, FrontmatterAllowed::Yes] {
@@ -86,5 +88,5 @@ fn ours(text: &str, lines: &mut String) {
     }
 }
 
-/// What both have of a text in each edition, one after the other.
+/// The functions that write the tokens of the original and of our crate.
 pub const ANSWERS: [fn(&str, &mut String); 2] = [theirs, ours];

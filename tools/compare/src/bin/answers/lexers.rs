@@ -1,4 +1,4 @@
-//! What a lexer answers of a text, as lines, so that the answers of two lexers with types of their own can be compared.
+//! The results of a lexer for a text, as lines, because the two lexers have different types.
 
 use std::fmt::{Debug, Write};
 
@@ -7,7 +7,7 @@ pub fn line(lines: &mut String, name: &str, value: impl Debug) {
     writeln!(lines, "{name} {value:?}").expect("a String takes all that is written");
 }
 
-/// Writes in which order neighbours of a list are, for types that can be sorted.
+/// Writes the ordering of each two neighbours in a list.
 fn order<T: Ord>(lines: &mut String, name: &str, list: &[T]) {
     for two in list.windows(2) {
         line(lines, name, two[0].cmp(&two[1]));
@@ -17,9 +17,9 @@ fn order<T: Ord>(lines: &mut String, name: &str, list: &[T]) {
 /// The classes of a character.
 #[derive(PartialEq)]
 pub struct Classes {
-    /// Of white space, and of that within a line. They are the same in each version of Unicode.
+    /// Whether it is whitespace, and horizontal whitespace, which are the same in each version of Unicode.
     pub spaces: [bool; 2],
-    /// Of what words begin with, and go on with.
+    /// Whether a word can start with it, and continue with it.
     pub words: [bool; 2],
     pub is_emoji: bool,
 }
@@ -33,14 +33,14 @@ macro_rules! answers_of {
             };
             use $lexer::{LiteralKind, RawStrError, TokenKind};
 
-            /// Writes what the check of raw strings says of the one that the rest of a text begins with.
+            /// Writes the result of validating the raw string at the start of the remaining text.
             fn raw(rest: &str, prefix_len: u32, lines: &mut String) -> Option<RawStrError> {
                 let checked = validate_raw_str(rest, prefix_len);
                 line(lines, "raw string", &checked);
                 checked.err()
             }
 
-            /// Writes the number of a literal's base, or what its check says.
+            /// Writes the number of a literal's base, or the result of validating the literal.
             fn literal(kind: LiteralKind, rest: &str, lines: &mut String) -> Option<RawStrError> {
                 match kind {
                     LiteralKind::Int { base, .. } | LiteralKind::Float { base, .. } => {
@@ -55,7 +55,7 @@ macro_rules! answers_of {
                 }
             }
 
-            /// Writes the tokens by `tokenize`, with what there is to ask of their literals.
+            /// Writes the tokens of `tokenize`, with the details of literals.
             fn tokens(text: &str, allowed: fn() -> FrontmatterAllowed, lines: &mut String) {
                 let mut rest = text;
                 let (mut literals, mut errors) = (Vec::new(), Vec::new());
@@ -71,7 +71,7 @@ macro_rules! answers_of {
                 order(lines, "order of errors", &errors);
             }
 
-            /// Writes what a cursor sees before each token, and at the end.
+            /// Writes the state of a cursor before each token, and at the end.
             fn cursor(text: &str, allowed: fn() -> FrontmatterAllowed, lines: &mut String) {
                 let mut cursor = Cursor::new(text, allowed());
                 loop {
@@ -85,8 +85,8 @@ macro_rules! answers_of {
                 }
             }
 
-            /// Writes the guarded string at the front, and at each hash that follows none, and the token behind what was
-            /// read.
+            /// Writes the guarded string at the start and at each hash that does not follow another, with the token
+            /// after it.
             fn guarded(text: &str, lines: &mut String) {
                 let mut strings = Vec::new();
                 let mut before = ' ';
@@ -105,7 +105,7 @@ macro_rules! answers_of {
                 order(lines, "order of guarded strings", &strings);
             }
 
-            /// Writes all answers of a text.
+            /// Writes all results for a text.
             pub fn answers(text: &str, lines: &mut String) {
                 line(lines, "shebang", strip_shebang(text));
                 line(lines, "ident", is_ident(text));
@@ -116,7 +116,7 @@ macro_rules! answers_of {
                 guarded(text, lines);
             }
 
-            /// The classes of a character. What is no word and lexes as an invalid one is an emoji.
+            /// Returns the classes of a character. An emoji is not an identifier, and lexes as an invalid one.
             pub fn classes(c: char) -> Classes {
                 let first = tokenize(c.encode_utf8(&mut [0; 4]), FrontmatterAllowed::No).next();
                 Classes {
@@ -135,10 +135,10 @@ macro_rules! answers_of {
 answers_of!(theirs, original);
 answers_of!(ours, rustc_lexer);
 
-/// The classes of a character, by the original and by the proved lexer.
+/// Returns the classes of a character in the original and in our crate.
 pub fn classes(c: char) -> [Classes; 2] {
     [theirs::classes(c), ours::classes(c)]
 }
 
-/// What both answer of a text, one after the other.
+/// The functions that write the results of the original and of our crate.
 pub const ANSWERS: [fn(&str, &mut String); 2] = [theirs::answers, ours::answers];

@@ -1,4 +1,4 @@
-//! What literals stand for, by two escapers with types of their own, as lines that can be compared.
+//! The values of literals, as lines, because the two escapers have different types.
 
 use crate::lexers::line;
 
@@ -22,7 +22,7 @@ macro_rules! answers_of {
                 Mode::RawCStr,
             ];
 
-            /// Writes all answers of a text that stands between the quotes of a literal of each kind.
+            /// Writes all results for a text between the quotes of each kind of literal.
             pub fn answers(text: &str, lines: &mut String) {
                 line(lines, "char", unescape_char(text));
                 line(lines, "byte", unescape_byte(text));
@@ -49,5 +49,5 @@ macro_rules! answers_of {
 answers_of!(theirs, original_escaper);
 answers_of!(ours, rustc_literal_escaper);
 
-/// What both answer of what stands between the quotes of a literal, one after the other.
+/// The functions that write the results of the original and of our crate.
 pub const ANSWERS: [fn(&str, &mut String); 2] = [theirs::answers, ours::answers];

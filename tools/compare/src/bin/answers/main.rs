@@ -1,12 +1,12 @@
-//! Lexes texts by the original and by the crate for plain Rust, in one process, and compares all that they answer. Prints
-//! counts, and each of the first differences. Ends with status 1 where there is one.
+//! Lexes texts with the original crates and with our Rust crates in one process, and compares all results. Prints
+//! counts and the first differences. Exits with status 1 if there are any.
 //!
 //!     answers [--texts N] [--seed N] [--every N] PATH..
 //!
-//! Compared are each character, each file of a PATH (of a folder those that end in `.rs`, at any depth), and N random
-//! texts (200,000, if not given), of which half are parts of the files with something put in. Then come each character
-//! and N random texts as what stands between the quotes of a literal, and N random edits of documents. With `--every N`
-//! one of N characters is in texts, and the classes of all are compared.
+//! It compares each character, each file of a PATH (in a folder, the files with the extension `.rs`, at any depth), and
+//! N random texts (200,000 by default), of which half are fragments of the files with insertions. Then it compares each
+//! character and N random texts as the contents of a literal, and N random edits of documents. With `--every N`, only
+//! one of N characters is lexed in texts, and the classes of all characters are compared.
 
 mod documents;
 mod editions;
@@ -23,23 +23,23 @@ use std::{env, fs, io};
 use documents::Documents;
 use texts::Random;
 
-/// How many differences are shown.
+/// The number of differences that are printed.
 const SHOWN: usize = 20;
 
-/// How many edits are made of one document.
+/// The number of edits of one document.
 const EDITS: u64 = 12;
 
-/// Takes an option and its number out of the words; else it is the one that is given.
-fn option(words: &mut Vec<OsString>, name: &str, else_: u64) -> Result<u64, String> {
+/// Removes an option with its number from the arguments, and returns the number, or the default.
+fn option(words: &mut Vec<OsString>, name: &str, default: u64) -> Result<u64, String> {
     let Some(at) = words.iter().position(|word| word == name) else {
-        return Ok(else_);
+        return Ok(default);
     };
     let number = words.drain(at..(at + 2).min(words.len())).nth(1);
     let number = number.and_then(|word| word.to_str()?.parse().ok());
-    number.ok_or_else(|| format!("{name} wants a number"))
+    number.ok_or_else(|| format!("{name} needs a number"))
 }
 
-/// The texts of the files at and below a path. Files that are not UTF-8 are passed over, for both lexers take `&str`.
+/// Reads the files at and below a path. Skips files that are not UTF-8, because both lexers need a `&str`.
 fn read(path: &Path, files: &mut Vec<(PathBuf, String)>) -> io::Result<()> {
     if path.is_dir() {
         let entries = fs::read_dir(path)?.map(|entry| Ok(entry?.path()));
@@ -55,7 +55,7 @@ fn read(path: &Path, files: &mut Vec<(PathBuf, String)>) -> io::Result<()> {
     Ok(())
 }
 
-/// What both answer: how many lines it has where it is the same, or the first lines that differ.
+/// Returns the number of lines if both results are the same, or the first lines that differ.
 fn same(answers: &[String; 2]) -> Result<usize, [String; 2]> {
     let [theirs, ours] = answers;
     if theirs == ours {
@@ -80,7 +80,7 @@ struct Counts {
 }
 
 impl Counts {
-    /// Compares what both answer of a text, and shows where they differ.
+    /// Compares the results for a text, and prints the first difference.
     fn compare(&mut self, answers: [fn(&str, &mut String); 2], name: &str, text: &str) {
         let mut lines = [const { String::new() }; 2];
         for which in 0..2 {
@@ -104,7 +104,7 @@ impl Counts {
         }
     }
 
-    /// Prints the counts, and answers how many differences there are.
+    /// Prints the counts, and returns the number of differences.
     fn print(self, name: &str) -> u64 {
         let (texts, bytes, answers) = (self.texts, self.bytes, self.answers);
         print!("{name}: {texts} texts, {bytes} bytes, {answers} answers, ");
@@ -113,9 +113,9 @@ impl Counts {
     }
 }
 
-/// Compares each character: its classes, and for one of so many the tokens of texts with it. Answers those of which the
-/// classes differ, which is a difference but for two reasons: other versions of Unicode, and that ours has a table of
-/// emoji of its own.
+/// Compares the classes of each character, and for one of `every` characters the tokens of texts with it. Returns the
+/// characters whose classes differ. That is an error, unless the two versions of Unicode differ or the character is an
+/// emoji, because our crate has its own table of emoji.
 fn characters(counts: &mut Counts, every: usize) -> HashSet<char> {
     let versions = [original::UNICODE_VERSION, rustc_lexer::UNICODE_VERSION];
     let (mut unsettled, mut emoji) = (HashSet::new(), 0);
@@ -143,7 +143,7 @@ fn characters(counts: &mut Counts, every: usize) -> HashSet<char> {
     unsettled
 }
 
-/// Compares all that was asked for, and answers how many differences there are.
+/// Compares everything that the arguments name, and returns the number of differences.
 fn differences() -> Result<u64, String> {
     let mut words = env::args_os().skip(1).collect();
     let texts = option(&mut words, "--texts", 200_000)?;

@@ -1,10 +1,10 @@
-//! Random texts, full of what lexers trip over.
+//! Random texts with many edge cases of lexers.
 
 use std::collections::HashSet;
 use std::ops::Range;
 use std::path::PathBuf;
 
-/// What texts are put together from, beside characters of any kind.
+/// Pieces of texts, in addition to arbitrary characters.
 #[rustfmt::skip]
 const PIECES: &[&str] = &[
     " ", " ", "\n", "\r\n", "\t", "\u{b}", "\u{85}", "\u{200e}", "\u{2028}", "\u{a0}", "\u{feff}", "\0",
@@ -18,7 +18,7 @@ const PIECES: &[&str] = &[
     "😀", "👩", "\u{fe0f}", "1😀", "'😀", "€", "№", "\u{301}", "\u{10ffff}",
 ];
 
-/// What is put between the quotes of a literal, beside those.
+/// Additional pieces of the contents of literals.
 #[rustfmt::skip]
 const ESCAPES: &[&str] = &[
     "\\n", "\\r", "\\t", "\\0", "\\\\", "\\'", "\\\"", "\\q", "\\é", "\\\r", "\\", "\r", "\0", "é", "😀",
@@ -28,21 +28,21 @@ const ESCAPES: &[&str] = &[
     "\\\n", "\\\n\n", "\\\n  ", "\\\n \t\r\n", "\\\r\n", "\u{a0}", "\u{b}", "\u{c}", "\u{2028}",
 ];
 
-/// What documents and their edits are put together from, beside those.
+/// Additional pieces of documents and their edits.
 #[rustfmt::skip]
 const HEADS: &[&str] = &[
     "#!", "#", "!", "/", "[", "#![", "\n#![", "bin/sh", "\n", "\n", "\n", "\r\n", " ", "---", "---\n", "\n---", "----", "--", "-",
     "---a\n", "--- a.b\n", "cargo", "use ", "\nuse ", "//!", "\n//!", "//", "/*", "*/", "\"", "'", "r#\"", "\"#", "'r#a", "a",
 ];
 
-/// The source of random texts.
+/// A generator of random texts.
 pub struct Random<'a> {
     state: u64,
     unsettled: &'a HashSet<char>,
 }
 
 impl<'a> Random<'a> {
-    /// The texts of a seed, with none of the unsettled characters.
+    /// Returns a generator for a seed, whose texts contain none of the `unsettled` characters.
     pub fn new(seed: u64, unsettled: &'a HashSet<char>) -> Random<'a> {
         Random {
             state: seed,
@@ -50,7 +50,7 @@ impl<'a> Random<'a> {
         }
     }
 
-    /// The next number, of Steele, Lea and Flood's generator "SplitMix".
+    /// Returns the next number of Steele, Lea and Flood's generator "SplitMix".
     fn number(&mut self) -> u64 {
         self.state = self.state.wrapping_add(0x9e37_79b9_7f4a_7c15);
         let mut mixed = self.state;
@@ -59,12 +59,12 @@ impl<'a> Random<'a> {
         mixed ^ (mixed >> 31)
     }
 
-    /// A number below a limit, which is not 0.
+    /// Returns a number below a limit, which is not 0.
     fn below(&mut self, limit: usize) -> usize {
         (self.number() % limit as u64) as usize
     }
 
-    /// A piece, or now and then any character that is settled.
+    /// Appends a piece, or sometimes an arbitrary character.
     fn put_piece(&mut self, text: &mut String) {
         if self.below(16) > 0 {
             let piece = PIECES[self.below(PIECES.len())];
@@ -80,7 +80,7 @@ impl<'a> Random<'a> {
         }
     }
 
-    /// What may stand between the quotes of a literal. Now and then it is long.
+    /// Returns the contents of a literal, which are sometimes long.
     pub fn literal(&mut self) -> String {
         let most = if self.below(50) == 0 { 400 } else { 8 };
         let mut text = String::new();
@@ -93,14 +93,14 @@ impl<'a> Random<'a> {
         text
     }
 
-    /// A part of a text, from one character to another, of up to about 300 bytes.
+    /// Returns a fragment of a text, of at most about 300 bytes.
     fn part<'t>(&mut self, text: &'t str) -> &'t str {
         let start = text.floor_char_boundary(self.below(text.len() + 1));
         let end = text.floor_char_boundary(start + self.below(300));
         &text[start..end]
     }
 
-    /// Pieces that begin, end and break a shebang line or a frontmatter, and others.
+    /// Returns pieces that start, end or break a shebang line or a frontmatter, and others.
     pub fn insert(&mut self, most: usize) -> String {
         let mut text = String::new();
         for _ in 0..self.below(most + 1) {
@@ -112,14 +112,14 @@ impl<'a> Random<'a> {
         text
     }
 
-    /// A document, which begins with a shebang line and a frontmatter, or with one of them, or none.
+    /// Returns a document, which can start with a shebang line and a frontmatter.
     pub fn document(&mut self) -> String {
         let line = ["", "#!/bin/sh\n", "#!\n"][self.below(3)];
         let front = ["", "---\na\n---\n", "\n---a\n---\n", " \n----\n---\n----\n"][self.below(4)];
         [line, front, &self.insert(20)].concat()
     }
 
-    /// A range of a text, from one character to another, often at the front, and often short.
+    /// Returns a range of a text on char boundaries, often near the start, and often short.
     pub fn range(&mut self, text: &str) -> Range<usize> {
         let near = if self.below(2) == 0 { 24 } else { text.len() };
         let start = text.floor_char_boundary(self.below(near.min(text.len()) + 1));
@@ -128,7 +128,7 @@ impl<'a> Random<'a> {
         start..text.ceil_char_boundary(end)
     }
 
-    /// A text: pieces alone, or parts of files with pieces between them.
+    /// Returns a text of pieces, or of fragments of files with pieces between them.
     pub fn text(&mut self, files: &[(PathBuf, String)]) -> String {
         let mut text = String::new();
         let count = 1 + self.below(12);

@@ -1,6 +1,6 @@
-//! Times edits of kept texts and texts that are written, which the original does not have, beside lexing the whole text:
-//! `cargo run --release --bin edits -- FILE [ROUNDS]`, on Linux with 64 bits. Edited are the file's first 970,000 bytes.
-//! Times are the least of all rounds, those of single edits by the clock, of what takes longer by the processor's time.
+//! Times edits of lexed texts and the joining of texts, which the original does not support, compared with a full
+//! re-lex: `cargo run --release --bin edits -- FILE [ROUNDS]`, on 64-bit Linux. It edits the first 970,000 bytes of the
+//! file. Times are the minimum of all rounds: wall-clock time for single edits, CPU time for everything else.
 
 use marks::{Edition, Format, class_of, keyword_kind, write_marked};
 use rustc_lexer::{
@@ -10,7 +10,7 @@ use std::hint::black_box;
 use std::time::Instant;
 use std::{env, fs};
 
-/// Seconds and nanoseconds, as the system has them.
+/// The `timespec` of the system.
 #[repr(C)]
 struct TimeSpec(i64, i64);
 
@@ -18,7 +18,7 @@ unsafe extern "C" {
     fn clock_gettime(clock: i32, time: &mut TimeSpec) -> i32;
 }
 
-/// How many microseconds this thread has had of a processor.
+/// Returns the CPU time of this thread in microseconds.
 fn now() -> f64 {
     const OF_THE_THREAD: i32 = 3;
     let mut time = TimeSpec(0, 0);
@@ -28,7 +28,7 @@ fn now() -> f64 {
     time.0 as f64 * 1e6 + time.1 as f64 / 1e3
 }
 
-/// The least time of something, of which it is told what it is made of, and which is made anew each time.
+/// Returns the minimum time of a function whose argument is built again for each round.
 fn least<M>(rounds: usize, make: impl Fn() -> M, what: impl Fn(&mut M)) -> f64 {
     let mut least = f64::MAX;
     for _ in 0..rounds {
@@ -44,8 +44,8 @@ fn row(name: &str, time: f64, whole: f64) {
     println!("| {name} | {time:.3} | {:.6} |", time / whole);
 }
 
-/// The least times to put something in at each of the offsets of a kept text of either type, and to take it out again, as
-/// the mean over the offsets.
+/// Returns the minimum times of an insertion into a lexed text of either type and of its deletion, as the mean over the
+/// offsets.
 macro_rules! in_and_out {
     ($Kept:ident, $text:expr, $places:expr, $insert:expr, $rounds:expr) => {{
         let mut kept = $Kept::new(&$text);
@@ -64,7 +64,7 @@ macro_rules! in_and_out {
     }};
 }
 
-/// So many offsets inside words, spread over the text.
+/// Returns `count` offsets inside words, spread over the text.
 fn in_words(text: &str, count: usize) -> Vec<usize> {
     let (mut found, mut start) = (Vec::new(), 0);
     for token in tokenize(text, FrontmatterAllowed::No) {

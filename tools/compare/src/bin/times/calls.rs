@@ -1,16 +1,15 @@
-//! Each call alone, by both: of texts that are at hand, with `black_box` at both ends; and calls for strings over long
-//! texts.
+//! Single calls of both crates, with `black_box` around arguments and results, and calls on long strings.
 
 use crate::{Sum, Use};
 use std::hint::black_box;
 
-/// A call: its name with what it is given, and a function that makes it: many times, or of a long text.
+/// A name with the input, and a function that makes the call many times, or on a long text.
 pub type Call = (&'static str, Use);
 
-/// How often a call is made of each item.
+/// The number of calls for each item.
 const TIMES: u64 = 256;
 
-/// Makes the call of each of the items, and counts the calls.
+/// Calls a function for each item, and counts the calls.
 #[inline(always)]
 fn each<T: Copy, A>(items: &[T], call: impl Fn(T) -> A) -> Sum {
     for _ in 0..TIMES {
@@ -59,14 +58,14 @@ const STRINGS: &[&str] = &[
 ];
 const RAW_STRINGS: &[&str] = &["a message", "^[a-z]+$", "C:\\path\\to", ""];
 
-/// A call of each of the items.
+/// A call for each of the items.
 macro_rules! call {
     ($name:literal, $items:ident, $call:expr) => {
         ($name, |_| each($items, $call))
     };
 }
 
-/// A call whose closure is told of each unit.
+/// A call that passes each unit to a closure.
 macro_rules! units {
     ($call:ident, $texts:ident $(, $of:literal)?) => {
         (concat!("`", stringify!($call), "`" $(, " of ", $of)?), |_| {
@@ -79,7 +78,7 @@ macro_rules! units {
     };
 }
 
-/// The search for errors in a mode, of what is named.
+/// The search for errors in a mode, for each of the items.
 macro_rules! errors {
     ($mode:ident, $texts:ident $(, $of:literal)?) => {
         (concat!("`check_for_errors` with `", stringify!($mode), "`" $(, " of ", $of)?), |_| {
@@ -92,7 +91,7 @@ macro_rules! errors {
     };
 }
 
-/// The same of a long text.
+/// The same for a long text.
 macro_rules! long {
     ($call:ident) => {
         (concat!("`", stringify!($call), "`"), |text| {
@@ -105,7 +104,7 @@ macro_rules! long {
     };
 }
 
-/// The search for errors of a long text.
+/// The search for errors in a long text.
 macro_rules! long_errors {
     ($mode:ident) => {
         (
@@ -249,7 +248,7 @@ macro_rules! calls {
 calls!(theirs, original, original_escaper);
 calls!(ours, rustc_lexer, rustc_literal_escaper);
 
-/// What stands between the quotes, of each kind of text.
+/// The contents of literals, for each kind of text.
 #[rustfmt::skip]
 pub const TEXTS: [(&str, &str); 9] = [
     ("plain", "some words that stand for themselves, and no other. "),

@@ -1,10 +1,10 @@
-//! Texts of one kind of token, and of lines.
+//! Texts of one kind of token, and lines of frontmatters.
 
-/// How long a text of one kind is, in bytes.
+/// The length of a text of one kind, in bytes.
 const LEN: usize = 1 << 16;
 
-/// A kind of text: its name, and pieces of which one after another is taken at random. In them `%` and a letter stand for
-/// some characters of a set.
+/// A kind of text: its name, and pieces that are chosen at random. In a piece, `%` and a letter are replaced by some
+/// characters of a set.
 pub type Kind = (&'static str, &'static [&'static str]);
 
 #[rustfmt::skip]
@@ -37,7 +37,7 @@ pub const KINDS: [Kind; 26] = [
     ("unknown prefixes", &["%w\"%w\" ", "%w'%w "]),
 ];
 
-/// What a text begins with, and what it has again and again: shapes that make a careless lexer slow.
+/// The start of a text, and a repeated piece: shapes for which a lexer can be slow.
 #[rustfmt::skip]
 pub const SHAPES: [(&str, &str); 14] = [
     ("", "/*"), ("", "/ * "), ("", "\""), ("\"", "\\\\"), ("\"", "\\\""), ("", "r#~"), ("", "#\"a\""), ("", "1e+"),
@@ -45,7 +45,7 @@ pub const SHAPES: [(&str, &str); 14] = [
     ("", "a\"b\" c'd e#f 1.2 /*x*/ "),
 ];
 
-/// What a line of a frontmatter has that nothing closes.
+/// Lines of an unclosed frontmatter.
 pub const LINES: [(&str, &str); 4] = [
     ("lines with one letter", "a\n"),
     (
@@ -56,12 +56,12 @@ pub const LINES: [(&str, &str); 4] = [
     ("empty lines", "\n"),
 ];
 
-/// A text of a shape.
+/// Returns a text of a shape.
 pub fn again(start: &str, unit: &str) -> String {
     format!("{start}{}", unit.repeat(LEN / unit.len()))
 }
 
-/// A text of a kind, the same each time.
+/// Returns a text of a kind, which is the same in each run.
 pub fn text(pieces: &[&str]) -> String {
     let mut random = 1u64;
     let mut below = |count: usize| {

@@ -1,9 +1,9 @@
-//! Times each use of the crates beside the originals, in one process, and prints a table of nanoseconds:
+//! Times our crates and the originals in one process, and prints a table of nanoseconds:
 //! `cargo run --release --bin times -- FILE [ROUNDS]`. `tools/compare/measure` writes some into docs/SPEED.md.
 //!
-//! First each way to take the tokens of the file's first 256 KB, for each token, with each consumer; then texts of one
-//! kind and frontmatters that nothing closes; then each call alone, and calls for strings over 100 KB. Both run in turns,
-//! and the least time of all rounds counts. Both must give their consumer the same numbers.
+//! It times each way to lex the first 256 KB of the file, per token and with each consumer; then texts of one kind, and
+//! unclosed frontmatters; then single calls, and calls on strings of 100 KB. The two crates run alternately, and the
+//! minimum time of all rounds counts. Both must pass the same numbers to their consumers.
 
 mod calls;
 mod kinds;
@@ -14,7 +14,7 @@ use std::hint::black_box;
 use std::time::{Duration, Instant};
 use std::{env, fs};
 
-/// What a consumer made of a text: a number of items, and a sum that each changes.
+/// The result of a consumer: the number of items, and a checksum of them.
 #[derive(Clone, Copy, Debug, Default, PartialEq)]
 struct Sum {
     count: u64,
@@ -33,25 +33,25 @@ impl Sum {
         Sum::new(self.count + 1, sum.wrapping_add(u64::from(len) << 32))
     }
 
-    /// The same for each byte of a text, with the number of items in the sum.
+    /// Returns the result per byte of a text, with the number of items in the checksum.
     fn of_bytes(self, text: &str) -> Sum {
         let sum = self.sum.wrapping_mul(31).wrapping_add(self.count);
         Sum::new(text.len() as u64, sum)
     }
 }
 
-/// What is timed: a function of a text.
+/// A timed function of a text.
 type Use = fn(&str) -> Sum;
 
-/// All that is timed is called here, by a name that `measure` gives callgrind, which counts the instructions.
+/// Calls a timed function. `measure` passes the name of this function to callgrind, which counts its instructions.
 #[unsafe(no_mangle)]
 #[inline(never)]
 fn counted(what: Use, text: &str) -> Sum {
     black_box(what(black_box(text)))
 }
 
-/// Prints a row: a use, what it is with, and the least time of each of both in turns, in nanoseconds for each item that
-/// they count. More than one round take as many milliseconds at least.
+/// Prints a row: the use, its input, and the minimum time of the original and of our crate in nanoseconds per item.
+/// With more than one round, it takes at least as many milliseconds.
 fn row(name: &str, with: &str, uses: [Use; 2], text: &str, rounds: usize) {
     let mut least = [Duration::MAX; 2];
     let mut sums = [Sum::default(); 2];
@@ -65,7 +65,7 @@ fn row(name: &str, with: &str, uses: [Use; 2], text: &str, rounds: usize) {
             least[which] = least[which].min(start.elapsed());
         }
     }
-    assert_eq!(sums[0], sums[1], "both give the same: {name} {with}");
+    assert_eq!(sums[0], sums[1], "results differ: {name} {with}");
     let [theirs, ours] = least.map(|least| least.as_secs_f64() * 1e9 / sums[0].count as f64);
     let ratio = ours / theirs;
     println!("| {name} | {with} | {theirs:.3} | {ours:.3} | {ratio:.3} |");

@@ -1,4 +1,4 @@
-//! Each way to take the tokens of a text, by both, with each consumer.
+//! Each way to lex a text, with each consumer, in both crates.
 
 use crate::{Sum, Use};
 use ours::Consumer;
@@ -6,24 +6,24 @@ use rustc_lexer::{
     Edition, FrontmatterAllowed, LexedText, Token, TokenKind, tokenize, tokenize_in,
 };
 
-/// What consumers do with tokens: they read all fields, have a `match` with an arm for each kind, read the lengths of those
-/// that are not `Eof`, or keep all in a `Vec`.
+/// The consumers of tokens: they read all fields, `match` on each kind, read the lengths of tokens other than `Eof`, or
+/// collect them in a `Vec`.
 pub const CONSUMERS: [&str; 4] = ["all fields", "`match`", "lengths", "`push`"];
 
-/// A way to take tokens: its name, and what each consumer makes of the tokens of a text.
+/// A way to lex: its name, and a function for each consumer.
 pub type Way = (&'static str, [Use; 4]);
 
-/// The functions of a way by both, the original's first, for each consumer.
+/// The functions of the original and of our crate, for each consumer.
 type Pairs = Vec<[Use; 2]>;
 
-/// A way by a function that takes the number of the consumer.
+/// A way from a function that is generic over the number of the consumer.
 macro_rules! way {
     ($name:literal, $by:ident) => {
         ($name, [$by::<0>, $by::<1>, $by::<2>, $by::<3>])
     };
 }
 
-/// A `match` with an arm for each kind: those with fields, and their numbers; and the others, which it numbers.
+/// A `match` with an arm for each kind: kinds with fields have given numbers, and the others are numbered here.
 macro_rules! numbers {
     ($kind:ident; $($fields:pat => $number:expr),*; $($plain:ident)*) => {{
         enum Number { $($plain),* }
@@ -36,7 +36,7 @@ macro_rules! numbers {
     }};
 }
 
-/// The ways that both have, word for word.
+/// The ways that both crates have, from the same source.
 macro_rules! ways {
     ($module:ident, $lexer:ident) => {
         mod $module {
@@ -78,7 +78,7 @@ macro_rules! ways {
                 }
             }
 
-            /// A number of the kind, with all its fields or alone; 0 for a kind that only one of the two lexers has.
+            /// Returns a number for the kind, with or without its fields; 0 for a kind that only one crate has.
             #[rustfmt::skip]
             fn number<const FIELDS: bool>(kind: TokenKind) -> u64 {
                 let with = |number, fields| if FIELDS { number + fields } else { number };
@@ -97,7 +97,7 @@ macro_rules! ways {
                 )
             }
 
-            /// The consumer of a number.
+            /// The consumer with a number.
             pub struct Consumer<const NUMBER: usize> {
                 sum: Sum,
                 kinds: [u64; 64],
@@ -196,21 +196,20 @@ macro_rules! ways {
                 consumer.sum()
             }
 
-            /// The first token of a document.
+            /// Lexes the first token of a document.
             pub fn with_yes(text: &str) -> Sum {
                 let first = tokenize(text, FrontmatterAllowed::Yes).next();
                 Sum::new(1, first.map_or(0, |token| u64::from(token.len)))
             }
 
-            /// All tokens, by the iterator's own `collect`.
+            /// Collects all tokens with the iterator's `collect`.
             pub fn collected(text: &str) -> Sum {
                 let mut consumer = Consumer::<3>::new();
                 consumer.tokens = tokenize(text, FrontmatterAllowed::No).collect();
                 consumer.sum()
             }
 
-            /// The number of each token's kind with its fields, and where the token begins, in two lists, as a parser
-            /// keeps them.
+            /// Collects the kinds with their fields, and the starts of the tokens, in two lists, as parsers do.
             pub fn kinds_and_starts(text: &str) -> Sum {
                 let (mut kinds, mut starts) = (Vec::new(), Vec::new());
                 let mut start = 0;
@@ -238,7 +237,7 @@ macro_rules! ways {
 ways!(theirs, original);
 ways!(ours, rustc_lexer);
 
-/// Many tokens at once, which ours alone has.
+/// Lexes many tokens at once, which only our crate supports.
 fn by_fill<const CONSUMER: usize>(text: &str) -> Sum {
     let mut consumer = Consumer::<CONSUMER>::new();
     let (kind, len) = (TokenKind::Eof, 0);
@@ -253,7 +252,7 @@ fn by_fill<const CONSUMER: usize>(text: &str) -> Sum {
     consumer.sum()
 }
 
-/// The tokens of an edition, which ours alone has.
+/// Lexes in an edition, which only our crate supports.
 #[inline(always)]
 fn by_for_in<const CONSUMER: usize>(text: &str, edition: Edition) -> Sum {
     let mut consumer = Consumer::<CONSUMER>::new();
@@ -271,7 +270,7 @@ fn by_for_2021<const CONSUMER: usize>(text: &str) -> Sum {
     by_for_in::<CONSUMER>(text, Edition::E2021)
 }
 
-/// A `for` loop that reads all fields, and the first token of a document, by both.
+/// A `for` loop that reads all fields, and the first token of a document, in both crates.
 pub const FOR_LOOP: [Use; 2] = [theirs::by_for::<0>, ours::by_for::<0>];
 pub const WITH_YES: [Use; 2] = [theirs::with_yes, ours::with_yes];
 
@@ -285,7 +284,7 @@ fn into_vec(text: &str) -> Sum {
     Sum::new(std::hint::black_box(&tokens).len() as u64, 0)
 }
 
-/// Each way with its functions. What the original has not is beside what it has.
+/// Returns each way with its functions. Functions that the original lacks are compared with its closest one.
 pub fn ways() -> Vec<(&'static str, Pairs)> {
     let pairs = |(name, ours): Way, theirs: [Use; 4]| {
         (name, theirs.into_iter().zip(ours).map(Into::into).collect())
