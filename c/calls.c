@@ -203,7 +203,7 @@ static void check_editions(void) {
         CHECK(rustc_lexer_tokens_in(text, 20, year, &document, whole, 2, &count) == RUSTC_LEXER_OK && count == 2);
         CHECK(whole[0].kind == RUSTC_LEXER_FRONTMATTER && whole[0].len == 9 && document.at == 10);
         CHECK(whole[1].kind == RUSTC_LEXER_WHITESPACE && document.frontmatter_allowed == 0);
-        CHECK(rustc_lexer_tokens_in_unchecked(text, 20, year, &unchecked, whole, MANY, &count) == RUSTC_LEXER_OK);
+        CHECK(rustc_lexer_tokens_in_unchecked(text, 20, year, &unchecked, whole, WHOLE_LEN, &count) == RUSTC_LEXER_OK);
         CHECK(count == rows[i].count + 2 && unchecked.at == 20 && unchecked.frontmatter_allowed == 0);
         CHECK(memcmp(whole + 2, buffer, rows[i].count * sizeof buffer[0]) == 0);
     }

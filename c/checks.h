@@ -57,9 +57,9 @@ static inline bool is_token(size_t number, uint8_t kind, uint32_t len) {
 }
 
 /* More than the tokens of any text here. */
-#define MANY 400
+#define WHOLE_LEN 400
 
-static struct rustc_lexer_token whole[MANY];
+static struct rustc_lexer_token whole[WHOLE_LEN];
 
 /* Lexes the text into `whole` with one call, and returns whether it has this number of tokens. */
 static inline bool is_lexed(batch_call *tokens, const char *text, size_t len, uint32_t frontmatter_allowed,
@@ -67,7 +67,7 @@ static inline bool is_lexed(batch_call *tokens, const char *text, size_t len, ui
     struct rustc_lexer_place place = {0, frontmatter_allowed};
     size_t count = 99;
     memset(whole, 0xAA, sizeof whole);
-    return tokens((const uint8_t *)text, len, &place, whole, MANY, &count) == RUSTC_LEXER_OK && count == wanted &&
+    return tokens((const uint8_t *)text, len, &place, whole, WHOLE_LEN, &count) == RUSTC_LEXER_OK && count == wanted &&
            place.at == len;
 }
 

@@ -87,7 +87,7 @@ static void check_edits(relex_call *relex) {
 static void check_long_edit(relex_call *relex) {
     static const size_t lens[] = {40, 64, 300, 301, 400};
     static const struct rustc_lexer_edit edit = {1, 1, 301};
-    static struct rustc_lexer_token old[2], lexed[MANY], part[MANY];
+    static struct rustc_lexer_token old[2], lexed[WHOLE_LEN], part[WHOLE_LEN];
     char text[302];
     memset(text, ';', sizeof text);
     CHECK(is_lexed(rustc_lexer_tokens, text, 2, 0, 2));
