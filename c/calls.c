@@ -315,9 +315,9 @@ static void check_symbols(batch_call *tokens) {
 /* Literals have the numbers of the header, 1 to 10. */
 static void check_literals(batch_call *tokens) {
     static const char text[] = "1 2.5 'a' b'a' \"a\" b\"a\" c\"a\" r\"a\" br\"a\" cr\"a\"";
-    static const uint8_t kinds[] = {RUSTC_LEXER_INT, RUSTC_LEXER_FLOAT, RUSTC_LEXER_CHAR, RUSTC_LEXER_BYTE, RUSTC_LEXER_STR,
-                                    RUSTC_LEXER_BYTE_STR, RUSTC_LEXER_C_STR, RUSTC_LEXER_RAW_STR, RUSTC_LEXER_RAW_BYTE_STR,
-                                    RUSTC_LEXER_RAW_C_STR};
+    static const uint8_t kinds[] = {RUSTC_LEXER_INT, RUSTC_LEXER_FLOAT, RUSTC_LEXER_CHAR, RUSTC_LEXER_BYTE,
+                                    RUSTC_LEXER_STR, RUSTC_LEXER_BYTE_STR, RUSTC_LEXER_C_STR, RUSTC_LEXER_RAW_STR,
+                                    RUSTC_LEXER_RAW_BYTE_STR, RUSTC_LEXER_RAW_C_STR};
     uint8_t number = 0;
     CHECK(is_lexed(tokens, text, sizeof text - 1, 0, 19));
     for (size_t i = 0; i < 19; i++)
@@ -454,18 +454,18 @@ static void check_marks(void) {
     static const struct {
         const char *text;
         uint32_t format, edition, status;
-    } refused[] = {
+    } invalid[] = {
         {"\xff", 0, 0, RUSTC_LEXER_NOT_UTF8},
         {"a", 0, 2022, RUSTC_LEXER_BAD_EDITION},
         {"a", 1, 2024 + 65536, RUSTC_LEXER_BAD_EDITION},
         {"a", 0, 2024, RUSTC_LEXER_BAD_FORMAT},
         {"a", 4, 2024, RUSTC_LEXER_BAD_FORMAT},
     };
-    for (size_t i = 0; i < sizeof refused / sizeof refused[0]; i++) {
+    for (size_t i = 0; i < sizeof invalid / sizeof invalid[0]; i++) {
         written = 99;
         memset(bytes, 0xAA, sizeof bytes);
-        CHECK(rustc_lexer_marks((const uint8_t *)refused[i].text, 1, refused[i].format, refused[i].edition, 1, bytes, 8,
-                                &written) == refused[i].status);
+        CHECK(rustc_lexer_marks((const uint8_t *)invalid[i].text, 1, invalid[i].format, invalid[i].edition, 1, bytes, 8,
+                                &written) == invalid[i].status);
         CHECK(written == 0 && memcmp(bytes, "\xaa\xaa\xaa\xaa\xaa\xaa\xaa\xaa", 8) == 0);
     }
 }

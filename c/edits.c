@@ -197,7 +197,7 @@ static void check_splices(void) {
     static const struct {
         size_t count, front, back, lexed;
         uint32_t status;
-    } refused[] = {
+    } invalid[] = {
         {5, 2, 2, 5, RUSTC_LEXER_SMALL_BUFFER},        {0, 0, 0, 9, RUSTC_LEXER_SMALL_BUFFER},
         {5, 3, 3, 0, RUSTC_LEXER_BAD_EDIT},            {5, 6, 0, 0, RUSTC_LEXER_BAD_EDIT},
         {5, 0, 6, 9, RUSTC_LEXER_BAD_EDIT},            {5, SIZE_MAX, 2, 0, RUSTC_LEXER_BAD_EDIT},
@@ -220,12 +220,12 @@ static void check_splices(void) {
         for (size_t k = 0; k < count; k++)
             CHECK(is_token(k, rows[i].lens[k] > 10 ? RUSTC_LEXER_WHITESPACE : RUSTC_LEXER_IDENT, rows[i].lens[k]));
     }
-    for (size_t i = 0; i < sizeof refused / sizeof refused[0]; i++) {
+    for (size_t i = 0; i < sizeof invalid / sizeof invalid[0]; i++) {
         memcpy(buffer, old, sizeof old);
-        count = refused[i].count;
-        CHECK(rustc_lexer_splice(buffer, BUFFER_LEN, &count, refused[i].front, refused[i].back, lexed,
-                                 refused[i].lexed) == refused[i].status);
-        CHECK(count == refused[i].count && memcmp(buffer, old, sizeof old) == 0);
+        count = invalid[i].count;
+        CHECK(rustc_lexer_splice(buffer, BUFFER_LEN, &count, invalid[i].front, invalid[i].back, lexed,
+                                 invalid[i].lexed) == invalid[i].status);
+        CHECK(count == invalid[i].count && memcmp(buffer, old, sizeof old) == 0);
     }
     count = 0;
     CHECK(rustc_lexer_splice(NULL, 0, &count, 0, 0, NULL, 0) == RUSTC_LEXER_OK && count == 0);
@@ -284,7 +284,7 @@ static void check_random_edits(relex_call *relex, uint32_t edition) {
         "\"",   "'",  "#",  "##", "r#",  "\\", "/",  "//",     "/*",  "*/",  "k#",       "\xf0\x9f\x98\x80",
         "!",    "'r#", "b'", "->", "x = 1;", "///", "\"#", "\xe2\x80\xa8",
     };
-    static struct held held, old, anew;
+    static struct held held, old, full;
     uint64_t random = edition;
     memset(&held, 0, sizeof held);
     for (size_t edits = 0; edits < 10000; edits++) {
@@ -297,10 +297,10 @@ static void check_random_edits(relex_call *relex, uint32_t edition) {
             continue;
         old = held;
         CHECK(edit_held(relex, &held, start, stop, insert, edition, 1 + below(&random, BUFFER_LEN)) == RUSTC_LEXER_OK);
-        memcpy(anew.text, held.text, held.len);
-        anew.len = held.len;
-        CHECK(lex_whole(relex, &anew, edition) == RUSTC_LEXER_OK);
-        CHECK(anew.count == held.count && memcmp(anew.tokens, held.tokens, held.count * sizeof buffer[0]) == 0);
+        memcpy(full.text, held.text, held.len);
+        full.len = held.len;
+        CHECK(lex_whole(relex, &full, edition) == RUSTC_LEXER_OK);
+        CHECK(full.count == held.count && memcmp(full.tokens, held.tokens, held.count * sizeof buffer[0]) == 0);
         CHECK(has_counts(&old, &held, start, stop, strlen(insert)));
     }
 }

@@ -14,7 +14,7 @@
 /* The maximum length of a text, and so of its tokens. */
 #define MOST 400
 
-enum placement { BEFORE_A_PAGE, BEHIND_A_PAGE, HEAP, PLACEMENTS };
+enum placement { BEFORE_A_PAGE, AFTER_A_PAGE, HEAP, PLACEMENTS };
 
 /* The number of compared edits. */
 static unsigned long edits;
@@ -235,7 +235,8 @@ static void check_parts(void) {
     static const char *const parts[] = {
         "\\n", "\\0", "\\'", "\\q", "\\", "\\x41", "\\xff", "\\xg", "\\x4", "\\u{1F600}", "\\u{41}", "\\u{0}",
         "\\u{D800}", "\\u{110000}", "\\u{1234567}", "\\u{_1}", "\\u{}", "\\u{4", "\\u", "\\\n  ", "\\\n\n x",
-        "\\\n\xc2\xa0", "a", "\"", "'", "\r", "\n", "\xc3\xa9", "\xf0\x9f\x98\x80", "thirty-two bytes of plain text, and more",
+        "\\\n\xc2\xa0", "a", "\"", "'", "\r", "\n", "\xc3\xa9", "\xf0\x9f\x98\x80",
+        "thirty-two bytes of plain text, and more",
     };
     uint8_t bytes[MOST];
     size_t len = 0;

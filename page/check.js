@@ -77,7 +77,7 @@ function caretByte() {
 const checks = {
   // The tokens equal a full re-lex in each edition.
   kept() {
-    expect(ask('as_lexed_anew') === 'yes', `tokens after edits are others: ${ask('as_lexed_anew')}`);
+    expect(ask('as_lexed_anew') === 'yes', `tokens differ from a full re-lex in ${ask('as_lexed_anew')}`);
   },
   // The drawn lines have the text and the position of the visible lines, and the current highlighting.
   drawn() {
@@ -102,7 +102,7 @@ const checks = {
   // Each line has the same highlighting alone as with all lines.
   marks() {
     const differs = ask('parts_alike', chosen());
-    expect(differs === '', `line ${differs}: the marks of a part are not those of all`);
+    expect(differs === '', `line ${differs} alone has other highlighting than with all lines`);
   },
   // The shown tokens are those of the listing, which covers the whole text. The token at the caret contains it.
   listed() {
@@ -110,7 +110,7 @@ const checks = {
     const seen = show();
     const ends = all.map((line) => line.split(' ').slice(0, 2).reduce((start, length) => Number(start) + Number(length)));
     const size = bytesOf(wanted());
-    expect(seen.begin + (ends.at(-1) ?? 0) === size, 'the listing is not of the text');
+    expect(seen.begin + (ends.at(-1) ?? 0) === size, 'the listing does not cover the text');
     expect(all.every((line, number) => line.startsWith(`${ends[number - 1] ?? 0} `)), 'the listing has a gap');
     const written = new TextEncoder().encode(wanted());
     for (const { number, start, bytes, kind, fields, text: shown } of [...seen.tokens, ...seen.elsewhere]) {
@@ -119,11 +119,11 @@ const checks = {
       expect(shown === piece(textOf(written.subarray(start, start + bytes))), `token ${number} is shown with the text ${shown}`);
     }
     const first = seen.tokens[0];
-    expect(!first || first.place === placeOf(written, first.start), `the first token is said to be at ${first?.place}`);
+    expect(!first || first.place === placeOf(written, first.start), `the first token is shown at ${first?.place}`);
     const place = caretByte();
     const here = [...seen.tokens, ...seen.elsewhere].find((token) => token.number === seen.at);
     const isIn = here && here.start <= place && (place < here.start + here.bytes || place === size);
-    expect(isIn || place < seen.begin || seen.count === 0, `the caret is at byte ${place}, said is ${JSON.stringify(here)}`);
+    expect(isIn || place < seen.begin || seen.count === 0, `the caret is at byte ${place}, shown is ${JSON.stringify(here)}`);
   },
   // The message about the last edit, the bar, and the tokens drawn as lexed agree with the listings before and after
   // it.
@@ -133,11 +133,11 @@ const checks = {
     const counts = said.match(/^The last edit kept (\d+) tokens in front, lexed (\d+), and kept (\d+) at the back/);
     const [front, lexed, back] = counts ? counts.slice(1).map(Number) : [0, all.length, 0];
     const size = `: ${all.length} tokens, ${bytesOf(wanted())} bytes, ${wanted().split('\n').length} lines.`;
-    expect(said === (counts ? counts[0] : 'All was lexed') + size && front + lexed + back === all.length, `it says ${said}, and not ${size}`);
+    expect(said === (counts ? counts[0] : 'All was lexed') + size && front + lexed + back === all.length, `the message is ${said}, not ${size}`);
     const old = before[chosen()];
     const withoutPlace = (lines) => lines.map((line) => line.slice(line.indexOf(' '))).join();
     expect(all.slice(0, front).join() === old.slice(0, front).join()
-      && withoutPlace(all.slice(front + lexed)) === withoutPlace(old.slice(old.length - back)), `it says ${said}, of other tokens`);
+      && withoutPlace(all.slice(front + lexed)) === withoutPlace(old.slice(old.length - back)), `${said} counts other tokens`);
     const seen = show();
     const drawn = document.querySelectorAll('#tokens tbody tr');
     seen.tokens.forEach(({ number }, row) => {
@@ -158,13 +158,13 @@ const checks = {
     const places = found.length ? `They differ in ${found.length} place${found.length > 1 ? 's' : ''}` : 'They are the same';
     const wantedWords = `Tokens: ${years.map((value, number) => `${counts[number]} in ${value}`).join(', ')}. `
       + places + (found.length > 50 ? '; the first 50 are here.' : '.');
-    expect(at('differ').textContent === wantedWords, `it says ${at('differ').textContent}, not ${wantedWords}`);
+    expect(at('differ').textContent === wantedWords, `the message is ${at('differ').textContent}, not ${wantedWords}`);
     const rows = [...document.querySelectorAll('#differences tr')].map((row) => [...row.children].map((cell) => cell.textContent));
     const wantedRows = found.slice(0, 50).map(({ start, end, groups }) => [placeOf(written, start), piece(textOf(written.subarray(start, end))),
       ...groups.map((group) => group.map((token) => `${token.words[0]} ${piece(textOf(written.subarray(token.start, token.end)))}`).join('\n'))]);
     wantedRows.unshift(['Place', 'Text', ...years.map(String)]);
     wantedRows.concat(rows).forEach((_, number) => expect(JSON.stringify(rows[number]) === JSON.stringify(wantedRows[number]),
-      `row ${number} of what differs is ${JSON.stringify(rows[number])}, not ${JSON.stringify(wantedRows[number])}`));
+      `row ${number} of the differences is ${JSON.stringify(rows[number])}, not ${JSON.stringify(wantedRows[number])}`));
   },
 };
 
@@ -178,7 +178,7 @@ function beyondField(value) {
   const lines = value.split('\n');
   const seen = JSON.parse(ask('show', 0, lines.length, 0, chosen()));
   const drawn = seen.lines.map((line, number) => drawnLine([number + 1, line]).textContent);
-  expect(JSON.stringify(drawn) === JSON.stringify(lines), `drawn is ${JSON.stringify(drawn)}`);
+  expect(JSON.stringify(drawn) === JSON.stringify(lines), `drawn as ${JSON.stringify(drawn)}`);
   for (const name of ['kept', 'marks']) checks[name]();
   before = listings();
   change(text.value);
@@ -225,7 +225,7 @@ function known() {
   for (const [literal, value] of LITERALS) {
     typeAll(literal);
     const drawn = document.querySelector('#tokens tbody td:last-child').textContent;
-    expect(drawn === value, `${literal} is said to stand for ${drawn}`);
+    expect(drawn === value, `the value of ${literal} is shown as ${drawn}`);
   }
   // characters that share their first byte, or their last
   for (const next of 'é©ê') {
@@ -245,10 +245,11 @@ function known() {
   expect(JSON.stringify(runs) === '[["comment",4000],["",102]]', `a long line is drawn as ${JSON.stringify(runs)}`);
   // messages are next to their line, even if there is only one
   typeAll('a\n0x');
-  const beside = [...at('lines').children].map((line) => [...line.querySelectorAll('.said')].map((part) => `line 2: ${part.dataset.said}`).join());
-  expect(beside[0] === '' && beside[1] === at('wrong').textContent && beside[1] !== '', `beside the lines stands ${JSON.stringify(beside)}`);
+  const messages = [...at('lines').children].map((line) => [...line.querySelectorAll('.said')].map((part) => `line 2: ${part.dataset.said}`).join());
+  expect(messages[0] === '' && messages[1] === at('wrong').textContent && messages[1] !== '',
+    `the messages next to the lines are ${JSON.stringify(messages)}`);
   typeAll('0x '.repeat(11));
-  expect(at('wrong').children.length === 10, `${at('wrong').children.length} faults are said of 11`);
+  expect(at('wrong').children.length === 10, `${at('wrong').children.length} errors are listed of 11`);
   typeAll('q#b '.repeat(60));
   run(...Object.keys(checks));
   expect(/in 60 places; the first 50 are here/.test(at('differ').textContent), `60 differences: ${at('differ').textContent}`);

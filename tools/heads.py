@@ -38,8 +38,7 @@ def split(text):
 
 
 def owner(line):
-    """Returns the type or the trait of the block that starts in a line, and whether all its functions are as public as
-    the type or the trait. Returns None if no block starts there."""
+    """Returns the owner of the block that starts in a line, and whether its functions are as public as it, or None."""
     found = BLOCK.match(line)
     if not found:
         return None

@@ -383,7 +383,7 @@ fn many_visible_lines() {
     assert_eq!(source.as_lexed_anew(), "yes");
 }
 
-/// Characters that a token looks at behind its end, typed side by side, and taken out again.
+/// Lookahead characters of tokens, typed next to each other and deleted again.
 #[test]
 fn characters_typed_side_by_side() {
     let typed = ["r", "#", "\"", "'", "k", "1", ".", "/"];
@@ -397,7 +397,7 @@ fn characters_typed_side_by_side() {
     }
 }
 
-/// Line 201 of 400. Each is a word and its end: three bytes in lines 1 to 10, four up to line 100, and then five.
+/// Line 201 of 400. A line has a word and a newline: three bytes in lines 1 to 10, four up to line 100, and then five.
 #[test]
 fn visible_line_far_down() {
     let text: String = (0..400).map(|number| format!("x{number}\n")).collect();

@@ -30,10 +30,10 @@ impl Documents {
         let mut count = 0;
         for lexed in &mut self.0 {
             lexed.edit(range.clone(), insert);
-            let anew = tokenize_document(&made, lexed.edition());
-            let start = made.len() - anew.as_str().len();
+            let full = tokenize_document(&made, lexed.edition());
+            let start = made.len() - full.as_str().len();
             let kept = answers(lexed.text(), lexed.tokens_start(), lexed.tokens().iter());
-            count += same(&[answers(&made, start, anew), kept.clone()])?;
+            count += same(&[answers(&made, start, full), kept.clone()])?;
             if lexed.edition() == Edition::NEWEST {
                 let mark = if made.starts_with('\u{feff}') { 3 } else { 0 };
                 let start = mark + original::strip_shebang(&made[mark..]).unwrap_or(0);

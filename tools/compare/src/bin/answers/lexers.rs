@@ -96,8 +96,8 @@ macro_rules! answers_of {
                         let string = cursor.guarded_double_quoted_string();
                         line(lines, "guarded", (&string, cursor.as_str().len()));
                         let token = cursor.advance_token();
-                        let behind = (token.kind, token.len, cursor.as_str().len());
-                        line(lines, "behind it", behind);
+                        let after = (token.kind, token.len, cursor.as_str().len());
+                        line(lines, "after it", after);
                         strings.extend(string);
                     }
                     before = c;

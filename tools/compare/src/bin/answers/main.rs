@@ -128,8 +128,8 @@ fn characters(counts: &mut Counts, every: usize) -> HashSet<char> {
             let excused = same_words || versions[0] != versions[1];
             counts.differences += u64::from(!excused || theirs.spaces != ours.spaces);
         } else if number % every == 0 {
-            for [before, behind] in [["", ""], ["a", "b"], ["'", ""], ["1", ""], ["", "#"]] {
-                let text = format!("{before}{c}{behind}");
+            for [before, after] in [["", ""], ["a", "b"], ["'", ""], ["1", ""], ["", "#"]] {
+                let text = format!("{before}{c}{after}");
                 counts.compare(lexers::ANSWERS, "character", &text);
             }
         }

@@ -87,7 +87,7 @@ fn edits(text: &str, whole: f64, rounds: usize) {
         ("a letter at the front", "x", vec![0]),
         ("a letter in a word in the middle", "x", vec![middle]),
         ("a letter in words here and there", "x", here_and_there),
-        ("a letter beside a space in the middle", "x", vec![space]),
+        ("a letter next to a space in the middle", "x", vec![space]),
         ("`/*` in front", "/*", vec![0]),
     ] {
         let times = in_and_out!(LexedText, text, places, insert, rounds);

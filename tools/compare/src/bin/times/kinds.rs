@@ -9,7 +9,7 @@ pub type Kind = (&'static str, &'static [&'static str]);
 
 #[rustfmt::skip]
 pub const KINDS: [Kind; 26] = [
-    ("white space", &[";\n%s", ";%s"]),
+    ("whitespace", &[";\n%s", ";%s"]),
     ("identifiers", &["%w "]),
     ("long identifiers", &["%w%w%w_%w%w%w "]),
     ("identifiers of two-byte letters", &["%g "]),
