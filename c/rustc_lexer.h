@@ -40,7 +40,7 @@ enum {
     RUSTC_LEXER_BAD_PLACE = 3, /* the position is past the end of the text, or inside a character */
     RUSTC_LEXER_NOT_RAW = 4,   /* character number prefix_len of the text, counted from 1, is not an r */
     RUSTC_LEXER_BAD_EDITION = 5, /* no edition of Rust has this year */
-    RUSTC_LEXER_BAD_EDIT = 6,  /* the edit cannot have resulted in the text, or the numbers are invalid */
+    RUSTC_LEXER_BAD_EDIT = 6,  /* the edit cannot have resulted in the text, or relexing cannot continue */
     RUSTC_LEXER_BAD_MODE = 7,  /* the mode is not one of RUSTC_LEXER_CHAR to RUSTC_LEXER_RAW_C_STR */
     RUSTC_LEXER_BAD_FORMAT = 8, /* the format is not one of RUSTC_LEXER_FORMAT_.. */
     RUSTC_LEXER_SMALL_BUFFER = 9 /* the buffer is too small for the output */
@@ -471,10 +471,9 @@ uint32_t rustc_lexer_settled_unchecked(const uint8_t *text, size_t len, size_t *
 bool rustc_lexer_token_start_at(const struct rustc_lexer_token *tokens, size_t tokens_len, size_t offset,
                                 size_t *number, size_t *start);
 
-/* Writes 1 if byte `at` is a boundary between two independent pieces, otherwise 0: whether the tokens of the text are
- * those of the text before `at`, followed by those of the text after `at`. A program that prints tokens can use this
- * to decide whether it must print a space between two tokens. The edition is a year, as in rustc_lexer_tokens_in. No
- * frontmatter is allowed.
+/* Writes 1 if the tokens of the text are those of the text before byte `at`, followed by those of the text after it,
+ * otherwise 0. A program that prints tokens can use this to decide whether it must print a space between two tokens.
+ * The edition is a year, as in rustc_lexer_tokens_in. No frontmatter is allowed.
  *
  * The text before `at` can be shortened at its start: it can start at the end of any token that is followed by at
  * least two characters of this part. For example, its last two tokens are enough. */
@@ -503,9 +502,9 @@ uint32_t rustc_lexer_guarded_str_unchecked(const uint8_t *text, size_t len,
  * and their number into `count`. Skips the first `passed` units. `mode` is the kind of the literal, from
  * RUSTC_LEXER_CHAR to RUSTC_LEXER_RAW_C_STR, as in the field `literal_kind` of its token.
  *
- * Between double quotes, the ranges are in order and do not overlap. A backslash at the end of a line, with the
- * whitespace that it skips, has no unit, except that a warning can start there. Between single quotes there is one
- * unit, whose range is the whole text.
+ * Between double quotes, the ranges follow one another. A backslash at the end of a line, with the whitespace that it
+ * skips, has no unit, except that a warning can start there. Between single quotes there is one unit, whose range is
+ * the whole text.
  *
  * CR LF is two characters here. rustc converts it to a newline before it lexes, so convert it before the call.
  *
@@ -543,8 +542,8 @@ uint32_t rustc_lexer_fault(const uint8_t *text, size_t len, const struct rustc_l
  * year, as in rustc_lexer_tokens_in. The output is UTF-8 without a terminating zero; the rest of the buffer is
  * unchanged.
  *
- * A token does not depend on the text before it, and on at most two characters after it. So you can pass only the
- * visible part of a text, from the start of a token to two characters after the last visible token.
+ * A token depends on no text before it, and on at most two characters after it. So you can pass only the visible part
+ * of a text, from the start of a token to two characters after the last visible token.
  *
  * If the status is RUSTC_LEXER_SMALL_BUFFER, the contents of the buffer are unspecified: call again with a larger
  * one. If it is any other status except 0, the buffer is unchanged. In both cases `written` is 0. */
