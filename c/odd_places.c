@@ -383,6 +383,6 @@ int main(int count, char **words) {
     check_text(file, 0);
     check_too_long();
     CHECK(edits > 0);
-    printf("odd_places: all calls answer as they should, %lu edits among them\n", edits);
+    printf("odd_places: all checks pass, with %lu edits\n", edits);
     return 0;
 }
