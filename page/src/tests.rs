@@ -217,20 +217,19 @@ fn limits() {
 #[test]
 fn where_editions_differ() {
     assert_eq!(editions::years(), "[2015,2018,2021,2024]");
-    let wanted = format!(
-        r#"{{ "counts":[4,4,4,4],"differ":1,"places":[{{ "place":"2:1","text":"q","editions":[[{}],[{}],[{}],[{}]]}}]}}"#,
-        r#"["Ident","q"]"#,
-        r#"["Ident","q"]"#,
-        r#"["UnknownPrefix","q"]"#,
-        r#"["UnknownPrefix","q"]"#
-    );
+    let older = r#"[["Ident","q"]]"#;
+    let newer = r#"[["UnknownPrefix","q"]]"#;
+    let place =
+        format!(r#"{{ "place":"2:1","text":"q","editions":[{older},{older},{newer},{newer}]}}"#);
+    let wanted = format!(r#"{{ "counts":[4,4,4,4],"differ":1,"places":[{place}]}}"#);
     assert_eq!(editions::write(&source("\nq#a", false)), wanted);
     // Three tokens of one edition are one of another: the difference ends where a token ends in all editions.
     let older = r##"[["Lifetime","'r"],["Pound","#"],["Ident","foo"]]"##;
     let newer = r##"[["RawLifetime","'r#foo"]]"##;
-    let wanted = format!(
-        r##"{{ "counts":[5,5,3,3],"differ":1,"places":[{{ "place":"1:1","text":"'r#foo","editions":[{older},{older},{newer},{newer}]}}]}}"##
+    let place = format!(
+        r##"{{ "place":"1:1","text":"'r#foo","editions":[{older},{older},{newer},{newer}]}}"##
     );
+    let wanted = format!(r#"{{ "counts":[5,5,3,3],"differ":1,"places":[{place}]}}"#);
     assert_eq!(editions::write(&source("'r#foo a", false)), wanted);
     // A second difference has its own tokens.
     let place = |column, name| {
@@ -336,7 +335,10 @@ fn visible_line() {
     );
     has(
         &seen,
-        r#"{ "number":2,"start":2,"bytes":2,"place":"2:1","text":"bd","kind":"Ident","fields":"","value":"","fresh":true}"#,
+        concat!(
+            r#"{ "number":2,"start":2,"bytes":2,"place":"2:1","text":"bd","kind":"Ident","#,
+            r#""fields":"","value":"","fresh":true}"#
+        ),
     );
     ends(&seen, r#""place":"1:1"}"#);
 }
@@ -515,7 +517,10 @@ fn self_tests_find_wrong_tokens() {
 fn a_caret_at_the_end() {
     let seen = seen::show(&source("a+", false), 0, 1, 2, NEWEST);
     ends(&seen, r#""at":1,"elsewhere":[],"place":"1:3"}"#);
-    let empty = r#"{ "lines":[{ "runs":[],"said":[]}],"count":0,"begin":0,"tokens":[],"at":0,"elsewhere":[],"place":"1:1"}"#;
+    let empty = concat!(
+        r#"{ "lines":[{ "runs":[],"said":[]}],"count":0,"begin":0,"tokens":[],"at":0,"#,
+        r#""elsewhere":[],"place":"1:1"}"#
+    );
     assert_eq!(seen::show(&source("", false), 0, 1, 0, NEWEST), empty);
 }
 

@@ -180,8 +180,8 @@ fn runs() {
 }
 
 /// The end of the message for an argument that the program does not take.
-const TAKEN: &str = "it takes a source on standard input, as < FILE does, --html or --raw, --edition 2015, 2018, 2021 or 2024, \
-    --color auto, always or never, --help, --version";
+const TAKEN: &str = "it takes a source on standard input, as < FILE does, --html or --raw, \
+    --edition 2015, 2018, 2021 or 2024, --color auto, always or never, --help, --version";
 
 /// A process, its input, its status and its message. `TAKEN` follows a message that ends in `; `.
 #[rustfmt::skip]

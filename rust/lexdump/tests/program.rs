@@ -11,7 +11,8 @@ const ROWS: [Row; 22] = [
     ("printf 'fn a' | $P", "0 2 Ident\n2 1 Whitespace\n3 1 Ident\n", "", 0),
     ("$P < /dev/null", "", "", 0),
     (r"printf '\357\273\277a' | $P", "0 3 Unknown\n3 1 Ident\n", "", 0),
-    ("printf -- '---' | $P front", "0 3 Frontmatter has_invalid_preceding_whitespace=false invalid_infostring=true\n", "", 0),
+    ("printf -- '---' | $P front",
+        "0 3 Frontmatter has_invalid_preceding_whitespace=false invalid_infostring=true\n", "", 0),
     ("printf '#!/bin/sh\nfn' | $P shebang", "9\n", "", 0),
     ("printf ab | $P edit 2 2 c 3 3 ' d'", "0 3 Ident\n3 1 Whitespace\n4 1 Ident\n", "", 0),
     ("head -c 131073 /dev/zero | tr '\\0' x | $P", "0 131073 Ident\n", "", 0),
@@ -30,7 +31,8 @@ const ROWS: [Row; 22] = [
     (r#"$P "$(printf '\377')" < /dev/null"#, "", "no memory", 6),
     ("(ulimit -v 24000; head -c 40000000 /dev/zero | $P)", "", "no memory", 6),
     // the reader of the pipe has ended by then
-    ("mkfifo lexdump_f; : < lexdump_f & exec 3> lexdump_f; wait; rm lexdump_f; printf a | $P >&3", "", "write failed", 7),
+    ("mkfifo lexdump_f; : < lexdump_f & exec 3> lexdump_f; wait; rm lexdump_f; printf a | $P >&3",
+        "", "write failed", 7),
 ];
 
 #[test]

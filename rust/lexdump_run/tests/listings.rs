@@ -13,7 +13,8 @@ use rustc_lexer::{Token, TokenKind};
 /// lists wrong.
 #[rustfmt::skip]
 const LISTED: [(&str, &str, &str); 21] = [
-    ("", "fn main() {}\n", "0 2 Ident\n2 1 Whitespace\n3 4 Ident\n7 1 OpenParen\n8 1 CloseParen\n9 1 Whitespace\n10 1 OpenBrace\n11 1 CloseBrace\n12 1 Whitespace\n"),
+    ("", "fn main() {}\n", "0 2 Ident\n2 1 Whitespace\n3 4 Ident\n7 1 OpenParen\n8 1 CloseParen\n9 1 Whitespace\n\
+        10 1 OpenBrace\n11 1 CloseBrace\n12 1 Whitespace\n"),
     ("", "", ""),
     ("--edition|2021", "#\"a\"", "0 1 Pound\n1 3 Literal kind=Str terminated=true suffix_start=3\n"),
     ("front", "##a", "0 2 GuardedStrPrefix\n2 1 Ident\n"),
@@ -22,7 +23,8 @@ const LISTED: [(&str, &str, &str); 21] = [
     ("shebang", "#!/bin/sh\nfn", "9\n"),
     ("shebang", "fn", "none\n"),
     ("shebang", "#![no_std]\n", "none\n"),
-    ("front", "---\n//!d\nuse a", "0 8 Frontmatter has_invalid_preceding_whitespace=false invalid_infostring=false\n8 1 Whitespace\n9 3 Ident\n12 1 Whitespace\n13 1 Ident\n"),
+    ("front", "---\n//!d\nuse a", "0 8 Frontmatter has_invalid_preceding_whitespace=false invalid_infostring=false\n\
+        8 1 Whitespace\n9 3 Ident\n12 1 Whitespace\n13 1 Ident\n"),
     ("edit|8|8|z", "ab cd ef", "0 2 Ident\n2 1 Whitespace\n3 2 Ident\n5 1 Whitespace\n6 3 Ident\n"),
     ("edit|8|8|z|0|3|", "ab cd ef", "0 2 Ident\n2 1 Whitespace\n3 3 Ident\n"),
     ("--edition|2018|edit|6|6|x", "'r#foo", "0 2 Lifetime starts_with_number=false\n2 1 Pound\n3 4 Ident\n"),
@@ -44,9 +46,12 @@ type Repeated<'a> = (&'a str, &'a [(&'a str, usize)], &'a str);
 const REPEATED: [Repeated<'_>; 5] = [
     ("", &[("/*", 100_000)], "0 200000 BlockComment doc_style=none terminated=false\n"),
     ("", &[("/*", 100_000), ("*/", 100_000)], "0 400000 BlockComment doc_style=none terminated=true\n"),
-    ("front", &[("-", 70_000), ("\na\n", 1), ("-", 70_000)], "0 140003 Frontmatter has_invalid_preceding_whitespace=false invalid_infostring=false\n"),
-    ("front", &[("-", 70_000), ("\na\n", 1), ("-", 69_999)], "0 140002 Frontmatter has_invalid_preceding_whitespace=false invalid_infostring=false\n"),
-    ("", &[("r", 1), ("#", 300), ("\"a\"", 1), ("#", 300), ("x", 1)], "0 604 Literal kind=RawStr n_hashes=none suffix_start=604\n604 1 Ident\n"),
+    ("front", &[("-", 70_000), ("\na\n", 1), ("-", 70_000)],
+        "0 140003 Frontmatter has_invalid_preceding_whitespace=false invalid_infostring=false\n"),
+    ("front", &[("-", 70_000), ("\na\n", 1), ("-", 69_999)],
+        "0 140002 Frontmatter has_invalid_preceding_whitespace=false invalid_infostring=false\n"),
+    ("", &[("r", 1), ("#", 300), ("\"a\"", 1), ("#", 300), ("x", 1)],
+        "0 604 Literal kind=RawStr n_hashes=none suffix_start=604\n604 1 Ident\n"),
 ];
 
 /// The writer after a run that succeeds.

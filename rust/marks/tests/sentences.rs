@@ -28,7 +28,8 @@ const WRITTEN: [&str; 83] = [
     "'ab [<- more than one character is between these quotes]'",
     "b'\\q [<- there is no such escape: a backslash itself is written twice]';",
     "\"a\\q [<- there is no such escape: a backslash itself is written twice]b\"",
-    "\"é\\q [<- there is no such escape: a backslash itself is written twice]\\w [<- there is no such escape: a backslash itself is written twice]\"",
+    "\"é\\q [<- there is no such escape: a backslash itself is written twice]\\w [<- there is no such escape: a \
+     backslash itself is written twice]\"",
     "\"a [<- a carriage return cannot stand here itself: it is written as \\r]\rb\"",
     "'\t [<- this character cannot stand here itself: it is written as an escape]'",
     "\"\\x4 [<- this escape ends too early: \\x takes two hexadecimal digits]\"",

@@ -4,8 +4,8 @@
 use rattle_std::io::{ErrorKind, IsTerminal, Read, Write};
 use rattle_std::rt;
 
-/// Non-blocking streams: a write can be partial, and an input without bytes is not at its end. The test runs itself as a
-/// process with such streams.
+/// Non-blocking streams: a write can be partial, and an input without bytes is not at its end. The test runs itself as
+/// a process with such streams.
 #[cfg(unix)]
 #[test]
 fn non_blocking_streams() {

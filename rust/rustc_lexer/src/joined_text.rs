@@ -110,7 +110,7 @@ impl JoinedText {
     /// ```
     /// use rustc_lexer::JoinedText;
     ///
-    /// // A formatter collapses two newlines into one, but cannot do so here: `b'`, a newline and `'` are a byte literal.
+    /// // A formatter collapses two newlines into one, but not here: `b'`, a newline and `'` are a byte literal.
     /// let mut text = JoinedText::new();
     /// text.push("b'");
     /// let len = text.len();

@@ -155,8 +155,8 @@ fn a_document_in_each_edition() {
     check(&tried, Edition::E2021, "where memory is given");
 }
 
-/// Another edition has tokens of its own behind the same head, by the call that makes a document anew and by that of the
-/// proved source. Room is given back with nothing else changed.
+/// In another edition, a document with the same head has other tokens, both when it is created anew and by the call of
+/// the proved source. Unused memory is given back, and nothing else changes.
 #[test]
 fn another_edition() {
     macro_rules! rows {
@@ -186,8 +186,8 @@ fn another_edition() {
     assert!(pieces.eq([(3, "\n"), (4, "---\n---")]));
 }
 
-/// Edits behind the head, which is kept, and at each place that changes it: how many tokens are kept in front, and where
-/// the body begins.
+/// Edits after the head, which is kept, and at each place that changes it: how many tokens are kept at the front, and
+/// where the body starts.
 #[test]
 fn edits_of_the_head() {
     for (range, insert, front, body) in [

@@ -798,8 +798,8 @@ fn debug_output() {
     assert_eq!(format!("{pieces:?}"), "Pieces { left: 0, .. }");
 }
 
-/// A lexed text keeps every byte: a byte order mark at its start and at the start of an insertion, and U+0000 at the end.
-/// A mark at the start of a document is not a token.
+/// A lexed text keeps every byte: a byte order mark at its start or at the start of an insertion, and U+0000 at the
+/// end. A mark at the start of a document is not a token.
 #[test]
 fn byte_order_marks_and_nul() {
     macro_rules! keeps_them {

@@ -27,8 +27,8 @@ static EXAMPLES: LazyLock<PathBuf> = LazyLock::new(|| {
         let built = cargo.arg("--target-dir").arg(&target).output();
         built.unwrap().status.success()
     };
-    // The dependencies are in Cargo's cache or among the stand-ins. With other settings Cargo cannot find them here, and
-    // the examples are those that `cargo test` has built.
+    // The dependencies are in Cargo's cache or among the stand-ins. With other settings Cargo cannot find them here,
+    // and the examples are those that `cargo test` has built.
     if build(&[]) || build(&["--config", "../../stand_ins/offline.toml"]) {
         target.join(profile).join("examples")
     } else {
@@ -264,8 +264,10 @@ fn kinds() {
 
 /// A shebang line, a frontmatter, comments and doc comments, `r#` at the end of a line, a form feed, a string of
 /// several lines, a tab before CRLF, indentation, and trailing whitespace.
-const LINED: &str = "#!/bin/sh \n---\na \n---\n\n// b  \n/// g\n/** h */\nr#\n \ni \x0c \nfn \t\r\n  f() {  \n\n\t\n    \"c  // d\n\n\" /* e \n\n */ } \n \t";
-const TRIMMED: &str = "#!/bin/sh \n---\na \n---\n\n// b  \n/// g\n/** h */\nr#\n\ni \x0c\nfn\r\n  f() {\n\n\n    \"c  // d\n\n\" /* e \n\n */ }\n";
+const LINED: &str = "#!/bin/sh \n---\na \n---\n\n// b  \n/// g\n/** h */\nr#\n \ni \x0c \n\
+    fn \t\r\n  f() {  \n\n\t\n    \"c  // d\n\n\" /* e \n\n */ } \n \t";
+const TRIMMED: &str = "#!/bin/sh \n---\na \n---\n\n// b  \n/// g\n/** h */\nr#\n\ni \x0c\n\
+    fn\r\n  f() {\n\n\n    \"c  // d\n\n\" /* e \n\n */ }\n";
 
 #[test]
 fn lines_and_trim() {
@@ -273,7 +275,11 @@ fn lines_and_trim() {
     let [lined, empty, trimmed] = [("lined", LINED), ("empty", ""), ("trimmed", TRIMMED)]
         .map(|(name, text)| file(name, text));
     let wanted = format!(
-        "    code  comment    blank\n      12        4        5  {lined}\n       0        0        0  {empty}\n      12        4        4  {trimmed}\n      24        8        9  total\n"
+        "    code  comment    blank\n{}  {lined}\n{}  {empty}\n{}  {trimmed}\n{}  total\n",
+        "      12        4        5",
+        "       0        0        0",
+        "      12        4        4",
+        "      24        8        9"
     );
     assert_eq!(prints("lines", &[&lined, &empty, &trimmed], ""), wanted);
     // The other files are counted even if one cannot be read.
@@ -284,7 +290,8 @@ fn lines_and_trim() {
 
 #[test]
 fn squeeze() {
-    let long = "#!/bin/sh\n---\na\n---\n\n// b\n//! c\nfn f() {\n    /// d\n    let x = 0..=y; // e\n    r \"g\" /* h */ & & - 1. .max()\n}\n";
+    let long = "#!/bin/sh\n---\na\n---\n\n// b\n//! c\n\
+    fn f() {\n    /// d\n    let x = 0..=y; // e\n    r \"g\" /* h */ & & - 1. .max()\n}\n";
     let wanted = "#!/bin/sh\n---\na\n---\n//! c\nfn f(){/// d\nlet x=0..=y;r \"g\"&&-1. .max()}";
     assert_eq!(prints("squeeze", &[], long), wanted);
     // no shebang line, and an unterminated comment

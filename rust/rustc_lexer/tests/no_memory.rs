@@ -60,7 +60,8 @@ const ROWS: [Row<'_>; 15] = {
         ("r##\"abc\"#", No, &[literal(RAW, 9, 9)], 0, Some(TOO_FEW)),
         ("r#", No, &[literal(RAW, 2, 2)], 0, Some(InvalidStarter { bad_char: '\0' })),
         ("---\n//!d\nuse a", Yes, &[front(false, false, 8), SPACE, token(Ident, 3), SPACE, token(Ident, 1)], 12, None),
-        ("---\nq------\nfn x", Yes, &[front(false, false, 11), SPACE, token(Ident, 2), SPACE, token(Ident, 1)], 14, None),
+        ("---\nq------\nfn x", Yes, &[front(false, false, 11), SPACE, token(Ident, 2), SPACE, token(Ident, 1)], 14,
+            None),
         ("---", Yes, &[front(false, true, 3)], 1, None),
         (" ---\n---\n", Yes, &[front(true, false, 8), SPACE], 7, None),
     ]

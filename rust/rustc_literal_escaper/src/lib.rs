@@ -18,7 +18,8 @@
 //! ```
 //!
 //! The modules below `erased` are generated from a proved source in Rattle, which is Rust with contracts, by deleting
-//! its contracts. The rest is written by hand. The repository's `docs/ERASED.md` says what is claimed and what is trusted.
+//! its contracts. The rest is written by hand. The repository's `docs/ERASED.md` says what is claimed and what is
+//! trusted.
 
 #![no_std]
 #![cfg_attr(docsrs, feature(doc_cfg))]

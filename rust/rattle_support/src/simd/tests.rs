@@ -1,5 +1,5 @@
-//! Each operation on bytes side by side, against the same said of one byte: of what this target takes, and of the files for
-//! NEON and for WebAssembly over plain functions with the names of their instructions.
+//! Each operation on vectors of bytes, against the same operation on one byte at a time: the implementation of this
+//! target, and those for NEON and WebAssembly over plain functions with the names of their instructions.
 
 use super::{Bytes, COUNT, Mask, u8x16, u8x32, u8x64};
 
