@@ -54,7 +54,8 @@ const drawnToken = ([token, isHere]) => element('tr', isHere ? { 'aria-current':
   element('td', { class: token.fresh ? 'fresh' : '' }, token.text),
   ...[`${token.kind} ${token.fields}`, token.value].map((value) => element('td', {}, value)));
 
-const drawnDifference = ({ place, text, editions }) => element('tr', {}, element('td', {}, place), element('td', {}, text),
+const drawnDifference = ({ place, text, editions }) => element('tr', {},
+  element('td', {}, place), element('td', {}, text),
   ...editions.map((tokens) => element('td', {}, tokens.map(([kind, shown]) => `${kind} ${shown}`).join('\n'))));
 
 // Adds a radio button and a column for each edition.
@@ -63,7 +64,8 @@ function drawYears() {
   at('edition').append(...years.map((value) =>
     element('label', {}, element('input', { type: 'radio', name: 'edition', value }), ` ${value}`)));
   at('edition').querySelector('label:last-child input').checked = true;
-  document.querySelector('#differences thead tr').append(...years.map((value) => element('th', { scope: 'col' }, value)));
+  const header = document.querySelector('#differences thead tr');
+  header.append(...years.map((value) => element('th', { scope: 'col' }, value)));
 }
 
 // Draws the visible lines, their tokens, and the details of the token at the caret.
@@ -83,10 +85,12 @@ function show() {
   const row = document.querySelector('#tokens [aria-current]');
   const list = document.querySelector('#listed .scroll');
   if (row) list.scrollTop = row.offsetTop - list.clientHeight / 2;
-  const said = seen.lines.flatMap((line, number) => line.said.map((sentence) => `line ${first + number + 1}: ${sentence}`));
+  const said = seen.lines.flatMap((line, number) => line.said.map(
+    (sentence) => `line ${first + number + 1}: ${sentence}`));
   draw(at('wrong'), said, (sentence) => element('li', {}, sentence));
   at('place').textContent = `Caret at ${seen.place}. ` + (here ? `${here.kind} at ${here.place}, ${here.bytes} `
-    + `byte${here.bytes === 1 ? '' : 's'}${here.fields && ', ' + here.fields}${here.value && '; stands for ' + here.value}` : '');
+    + `byte${here.bytes === 1 ? '' : 's'}`
+    + `${here.fields && ', ' + here.fields}${here.value && '; stands for ' + here.value}` : '');
   return seen;
 }
 
@@ -95,7 +99,8 @@ function drawKept({ kept, bytes, lines }, count) {
   at('bar').className = kept ? '' : 'anew';
   const [front, lexed, back] = kept || [0, count, 0];
   [front, lexed, back].forEach((part, number) => { at('bar').children[number].style.flexGrow = part; });
-  at('kept').textContent = (front + back ? `The last edit kept ${front} tokens in front, lexed ${lexed}, and kept ${back} at the back`
+  at('kept').textContent = (front + back
+    ? `The last edit kept ${front} tokens in front, lexed ${lexed}, and kept ${back} at the back`
     : 'All was lexed') + `: ${count} tokens, ${bytes} bytes, ${lines} lines.`;
 }
 
@@ -128,7 +133,8 @@ function read() {
 }
 
 function link() {
-  const words = new URLSearchParams({ edition: year(), ...(at('document').checked && { document: '' }), text: text.value });
+  const extent = at('document').checked && { document: '' };
+  const words = new URLSearchParams({ edition: year(), ...extent, text: text.value });
   history.replaceState(null, '', '#' + words);
   navigator.clipboard?.writeText(location.href).catch(() => {});
 }
@@ -200,6 +206,8 @@ const ready = WebAssembly.instantiate(bytes, {}).then(({ instance }) => {
   addEventListener('keydown', pressed);
   addEventListener('hashchange', read);
   addEventListener('resize', show);
-  addEventListener('error', ({ message }) => { at('kept').textContent = `This page has failed, load it again: ${message}`; });
+  addEventListener('error', ({ message }) => {
+    at('kept').textContent = `This page has failed, load it again: ${message}`;
+  });
   read();
 });
