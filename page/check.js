@@ -1,20 +1,26 @@
 // The self-test of the page: index.html#check runs it, and shows `check: passed` with the number of checks, or an
 // error.
 'use strict';
-const PIECES = ['a', 'r', 'k', '1', '.', '"', '/*', '*/', "'", 'é', '😀', '#', ' ', '\n', '\r', '0x', 'r#"', '"#', '---', '//', '\\', 'b',
-  '\u{feff}', '&<>', '\u{1f}', '\u{2028}'];
-const STARTS = ['', 'fn f<\'a>(x: &\'a str) -> u8 { 1.5e3; r#"é😀"# /* a */ } // b\n', '#!/bin/sh\n---\nx = 1\n---\n#!/y\n',
-  '"\\u{1f600}\\q" \'r#a k#b c"\\xff" #"x"# 0b 1e b\'é\' /* & < > */\n', '/*\n\n\n*/ let x = "a\n  b\\\n  c";\n'.repeat(12),
+const PIECES = ['a', 'r', 'k', '1', '.', '"', '/*', '*/', "'", 'é', '😀', '#', ' ', '\n', '\r', '0x', 'r#"', '"#', '---', '//',
+  '\\', 'b', '\u{feff}', '&<>', '\u{1f}', '\u{2028}'];
+const STARTS = ['', 'fn f<\'a>(x: &\'a str) -> u8 { 1.5e3; r#"é😀"# /* a */ } // b\n',
+  '#!/bin/sh\n---\nx = 1\n---\n#!/y\n',
+  '"\\u{1f600}\\q" \'r#a k#b c"\\xff" #"x"# 0b 1e b\'é\' /* & < > */\n',
+  '/*\n\n\n*/ let x = "a\n  b\\\n  c";\n'.repeat(12),
   `let ${'a'.repeat(300)} = 0x; k"\\q"#"b"#\n`];
 
 // Literals, and the values that the page shows for them.
 const WRONG = 'nothing: it is wrong';
-const LITERALS = [["'a'", '1 character: "a"'], ["'é'x", '1 character: "\\u{e9}"'], [`'"'`, '1 character: "\\""'], ["'ab'", WRONG],
+const LITERALS = [["'a'", '1 character: "a"'], ["'é'x", '1 character: "\\u{e9}"'], [`'"'`, '1 character: "\\""'],
+  ["'ab'", WRONG],
   ["b'\\xff'", '1 byte: "\\xff"'], ["b'é'", WRONG], ['"aé\\n"', '3 characters: "a\\u{e9}\\n"'], ['""', '0 characters: ""'],
   ['"a\\\n\n  b"', '2 characters: "ab"'], ['"\\q"', WRONG], ['r"\\n"', '2 characters: "\\\\n"'],
-  ['r##"a"#b"##', '4 characters: "a\\"#b"'], ['b"a\\xff"', '2 bytes: "a\\xff"'], ['b"é"', WRONG], ['br#"\\"#', '1 byte: "\\\\"'],
-  ['br"é"', WRONG], ['c"é\\xff"', '4 bytes: "\\xc3\\xa9\\xff\\x00"'], ['c"\\0"', WRONG], ['cr"é\\"', '4 bytes: "\\xc3\\xa9\\\\\\x00"'],
-  ['cr"\0"', WRONG], ['1u8', ''], ["'a", ''], ["b'a", ''], ['"a', ''], ['r#"a"', ''], ['b"a', ''], ['br#"a"', ''], ['c"a', ''], ['cr#"a"', ''],
+  ['r##"a"#b"##', '4 characters: "a\\"#b"'], ['b"a\\xff"', '2 bytes: "a\\xff"'], ['b"é"', WRONG],
+  ['br#"\\"#', '1 byte: "\\\\"'],
+  ['br"é"', WRONG], ['c"é\\xff"', '4 bytes: "\\xc3\\xa9\\xff\\x00"'], ['c"\\0"', WRONG],
+  ['cr"é\\"', '4 bytes: "\\xc3\\xa9\\\\\\x00"'],
+  ['cr"\0"', WRONG], ['1u8', ''], ["'a", ''], ["b'a", ''], ['"a', ''], ['r#"a"', ''], ['b"a', ''],
+  ['br#"a"', ''], ['c"a', ''], ['cr#"a"', ''],
   ['a', '']];
 
 // Pseudorandom numbers, the same in each run.
@@ -38,7 +44,8 @@ const textOf = (bytes) => new TextDecoder('utf-8', { ignoreBOM: true }).decode(b
 function piece(part) {
   const escape = (c) => ({ '\t': '\\t', '\n': '\\n', '\r': '\\r' }[c] ?? `\\u{${c.codePointAt(0).toString(16)}}`);
   const characters = [...part];
-  return characters.slice(0, 40).map((c) => (/\p{Cc}/u.test(c) ? escape(c) : c)).join('') + (characters.length > 40 ? '\u2026' : '');
+  const shown = characters.slice(0, 40).map((c) => (/\p{Cc}/u.test(c) ? escape(c) : c)).join('');
+  return shown + (characters.length > 40 ? '\u2026' : '');
 }
 
 // The line and the column of an offset in bytes.
@@ -51,7 +58,10 @@ function placeOf(bytes, at) {
 function differences(begin) {
   const lists = years.map((_, number) => {
     let end = begin;
-    return linesOf(number).map((line) => ({ start: end, end: end += Number(line.split(' ')[1]), words: line.split(' ').slice(2) }));
+    return linesOf(number).map((line) => {
+      const [, length, ...words] = line.split(' ');
+      return { start: end, end: end += Number(length), words };
+    });
   });
   const others = lists.slice(1).map((list) => new Set(list.map(({ end }) => end)));
   const taken = lists.map(() => 0);
@@ -62,7 +72,8 @@ function differences(begin) {
       while (list[taken[number]]?.end <= end) taken[number] += 1;
       return list.slice(from, taken[number]);
     });
-    if (new Set(groups.map((group) => JSON.stringify(group))).size > 1) found.push({ start: groups[0][0].start, end, groups });
+    const differ = new Set(groups.map((group) => JSON.stringify(group))).size > 1;
+    if (differ) found.push({ start: groups[0][0].start, end, groups });
   }
   return { counts: lists.map((list) => list.length), found };
 }
@@ -108,7 +119,10 @@ const checks = {
   listed() {
     const all = listing();
     const seen = show();
-    const ends = all.map((line) => line.split(' ').slice(0, 2).reduce((start, length) => Number(start) + Number(length)));
+    const ends = all.map((line) => {
+      const [start, length] = line.split(' ').map(Number);
+      return start + length;
+    });
     const size = bytesOf(wanted());
     expect(seen.begin + (ends.at(-1) ?? 0) === size, 'the listing does not cover the text');
     expect(all.every((line, number) => line.startsWith(`${ends[number - 1] ?? 0} `)), 'the listing has a gap');
@@ -116,14 +130,16 @@ const checks = {
     for (const { number, start, bytes, kind, fields, text: shown } of [...seen.tokens, ...seen.elsewhere]) {
       const line = `${start - seen.begin} ${bytes} ${kind}${fields && ' ' + fields}`;
       expect(line === all[number], `token ${number} is shown as ${line}, and listed as ${all[number]}`);
-      expect(shown === piece(textOf(written.subarray(start, start + bytes))), `token ${number} is shown with the text ${shown}`);
+      const read = textOf(written.subarray(start, start + bytes));
+      expect(shown === piece(read), `token ${number} is shown with the text ${shown}`);
     }
     const first = seen.tokens[0];
     expect(!first || first.place === placeOf(written, first.start), `the first token is shown at ${first?.place}`);
     const place = caretByte();
     const here = [...seen.tokens, ...seen.elsewhere].find((token) => token.number === seen.at);
     const isIn = here && here.start <= place && (place < here.start + here.bytes || place === size);
-    expect(isIn || place < seen.begin || seen.count === 0, `the caret is at byte ${place}, shown is ${JSON.stringify(here)}`);
+    expect(isIn || place < seen.begin || seen.count === 0,
+      `the caret is at byte ${place}, shown is ${JSON.stringify(here)}`);
   },
   // The message about the last edit, the bar, and the tokens drawn as lexed agree with the listings before and after
   // it.
@@ -133,38 +149,54 @@ const checks = {
     const counts = said.match(/^The last edit kept (\d+) tokens in front, lexed (\d+), and kept (\d+) at the back/);
     const [front, lexed, back] = counts ? counts.slice(1).map(Number) : [0, all.length, 0];
     const size = `: ${all.length} tokens, ${bytesOf(wanted())} bytes, ${wanted().split('\n').length} lines.`;
-    expect(said === (counts ? counts[0] : 'All was lexed') + size && front + lexed + back === all.length, `the message is ${said}, not ${size}`);
+    expect(said === (counts ? counts[0] : 'All was lexed') + size && front + lexed + back === all.length,
+      `the message is ${said}, not ${size}`);
     const old = before[chosen()];
     const withoutPlace = (lines) => lines.map((line) => line.slice(line.indexOf(' '))).join();
     expect(all.slice(0, front).join() === old.slice(0, front).join()
-      && withoutPlace(all.slice(front + lexed)) === withoutPlace(old.slice(old.length - back)), `${said} counts other tokens`);
+      && withoutPlace(all.slice(front + lexed)) === withoutPlace(old.slice(old.length - back)),
+      `${said} counts other tokens`);
     const seen = show();
     const drawn = document.querySelectorAll('#tokens tbody tr');
     seen.tokens.forEach(({ number }, row) => {
       const isFresh = front + back > 0 && number >= front && number < front + lexed;
-      expect((drawn[row].querySelector('.fresh') !== null) === isFresh, `token ${number} is drawn as ${isFresh ? 'kept' : 'lexed'}`);
+      expect((drawn[row].querySelector('.fresh') !== null) === isFresh,
+        `token ${number} is drawn as ${isFresh ? 'kept' : 'lexed'}`);
     });
     const free = at('bar').clientWidth - 4;
+    // No token is drawn as a line of 4 pixels.
     const middle = Math.max(4, free * lexed / all.length || 0);
-    const widths = counts ? [(free - middle) * front / (front + back), middle, (free - middle) * back / (front + back)] : [0, free, 0];
-    [...at('bar').children].forEach((part, number) => expect(Math.abs(part.getBoundingClientRect().width - widths[number]) < 5,
-      `part ${number} of the bar has a width of ${part.getBoundingClientRect().width}, not ${widths[number]}`));
+    const kept = counts ? (free - middle) / (front + back) : 0;
+    const widths = [kept * front, middle, kept * back];
+    [...at('bar').children].forEach((part, number) => {
+      const { width } = part.getBoundingClientRect();
+      expect(Math.abs(width - widths[number]) < 5,
+        `part ${number} of the bar has a width of ${width}, not ${widths[number]}`);
+    });
   },
   // The number of tokens in each edition, and the table of differences, agree with the listings.
   editions() {
     drawEditions();
     const written = new TextEncoder().encode(wanted());
     const { counts, found } = differences(JSON.parse(ask('show', 0, 1, 0, chosen())).begin);
-    const places = found.length ? `They differ in ${found.length} place${found.length > 1 ? 's' : ''}` : 'They are the same';
+    const plural = found.length > 1 ? 's' : '';
+    const places = found.length ? `They differ in ${found.length} place${plural}` : 'They are the same';
     const wantedWords = `Tokens: ${years.map((value, number) => `${counts[number]} in ${value}`).join(', ')}. `
       + places + (found.length > 50 ? '; the first 50 are here.' : '.');
     expect(at('differ').textContent === wantedWords, `the message is ${at('differ').textContent}, not ${wantedWords}`);
-    const rows = [...document.querySelectorAll('#differences tr')].map((row) => [...row.children].map((cell) => cell.textContent));
-    const wantedRows = found.slice(0, 50).map(({ start, end, groups }) => [placeOf(written, start), piece(textOf(written.subarray(start, end))),
-      ...groups.map((group) => group.map((token) => `${token.words[0]} ${piece(textOf(written.subarray(token.start, token.end)))}`).join('\n'))]);
+    const rows = [...document.querySelectorAll('#differences tr')].map(
+      (row) => [...row.children].map((cell) => cell.textContent));
+    const pieceOf = ({ start, end }) => piece(textOf(written.subarray(start, end)));
+    const wantedRows = found.slice(0, 50).map(({ start, end, groups }) => [
+      placeOf(written, start),
+      pieceOf({ start, end }),
+      ...groups.map((group) => group.map((token) => `${token.words[0]} ${pieceOf(token)}`).join('\n')),
+    ]);
     wantedRows.unshift(['Place', 'Text', ...years.map(String)]);
-    wantedRows.concat(rows).forEach((_, number) => expect(JSON.stringify(rows[number]) === JSON.stringify(wantedRows[number]),
-      `row ${number} of the differences is ${JSON.stringify(rows[number])}, not ${JSON.stringify(wantedRows[number])}`));
+    wantedRows.concat(rows).forEach((_, number) => {
+      const [row, wantedRow] = [rows[number], wantedRows[number]].map((cells) => JSON.stringify(cells));
+      expect(row === wantedRow, `row ${number} of the differences is ${row}, not ${wantedRow}`);
+    });
   },
 };
 
@@ -194,7 +226,10 @@ function type(start, stop, insert) {
 }
 
 const typeAll = (value) => type(0, text.value.length, value);
-const choose = (value) => [...document.querySelectorAll('#edition label')].find((label) => label.textContent.trim() === value).click();
+function choose(value) {
+  const labels = [...document.querySelectorAll('#edition label')];
+  labels.find((label) => label.textContent.trim() === value).click();
+}
 
 // Exceptions in event handlers are not rethrown to the code that dispatches the event.
 const failures = [];
@@ -241,18 +276,21 @@ function known() {
   const listedRows = document.querySelectorAll('#tokens tbody tr').length;
   expect(listedRows === 300, `${listedRows} tokens are listed of 301`);
   typeAll(`//${'a'.repeat(4100)}`);
-  const runs = [...at('lines').querySelectorAll('.code span')].map((run) => [run.className.split(' ')[0], run.textContent.length]);
+  const runs = [...at('lines').querySelectorAll('.code span')].map(
+    (run) => [run.className.split(' ')[0], run.textContent.length]);
   expect(JSON.stringify(runs) === '[["comment",4000],["",102]]', `a long line is drawn as ${JSON.stringify(runs)}`);
   // messages are next to their line, even if there is only one
   typeAll('a\n0x');
-  const messages = [...at('lines').children].map((line) => [...line.querySelectorAll('.said')].map((part) => `line 2: ${part.dataset.said}`).join());
+  const messages = [...at('lines').children].map(
+    (line) => [...line.querySelectorAll('.said')].map((part) => `line 2: ${part.dataset.said}`).join());
   expect(messages[0] === '' && messages[1] === at('wrong').textContent && messages[1] !== '',
     `the messages next to the lines are ${JSON.stringify(messages)}`);
   typeAll('0x '.repeat(11));
   expect(at('wrong').children.length === 10, `${at('wrong').children.length} errors are listed of 11`);
   typeAll('q#b '.repeat(60));
   run(...Object.keys(checks));
-  expect(/in 60 places; the first 50 are here/.test(at('differ').textContent), `60 differences: ${at('differ').textContent}`);
+  const differ = at('differ').textContent;
+  expect(/in 60 places; the first 50 are here/.test(differ), `60 differences: ${differ}`);
 }
 
 async function check() {
