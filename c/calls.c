@@ -27,7 +27,7 @@ static void check_bad_texts(void) {
         CHECK(rustc_lexer_guarded_str(text, len, &string) == RUSTC_LEXER_NOT_UTF8 && string.is_some == 0);
         CHECK(rustc_lexer_is_ident(text, len, &is) == RUSTC_LEXER_NOT_UTF8 && is == 0);
         is = 9;
-        CHECK(rustc_lexer_is_seam(text, len, 0, 2024, &is) == RUSTC_LEXER_NOT_UTF8 && is == 0);
+        CHECK(rustc_lexer_is_token_boundary(text, len, 0, 2024, &is) == RUSTC_LEXER_NOT_UTF8 && is == 0);
         struct rustc_lexer_edit edit = {0, 0, (uint32_t)len};
         struct rustc_lexer_relexing relexing = {0};
         CHECK(rustc_lexer_relex(text, len, buffer, 0, &edit, 2024, &relexing, buffer + 1, BUFFER_LEN - 1, &count) ==
@@ -35,7 +35,7 @@ static void check_bad_texts(void) {
               count == 0 && relexing.stage == RUSTC_LEXER_STAGE_BEGIN && is_untouched(0));
         struct rustc_lexer_head head = {.body = 8};
         CHECK(rustc_lexer_body_edit(text, len, &edit, &head, &edit, &is) == RUSTC_LEXER_NOT_UTF8);
-        CHECK(head.body == 8 && edit.new_stop == len && is == 0);
+        CHECK(head.body == 8 && edit.new_end == len && is == 0);
     }
 }
 
@@ -51,7 +51,7 @@ static void check_empty_text(batch_call *tokens) {
     end = 99;
     CHECK(rustc_lexer_settled_unchecked((const uint8_t *)"", 0, &end) == RUSTC_LEXER_OK && end == 0);
     CHECK(rustc_lexer_is_ident((const uint8_t *)"", 0, &is) == RUSTC_LEXER_OK && is == 0);
-    CHECK(rustc_lexer_is_seam((const uint8_t *)"", 0, 0, 2015, &is) == RUSTC_LEXER_OK && is == 1);
+    CHECK(rustc_lexer_is_token_boundary((const uint8_t *)"", 0, 0, 2015, &is) == RUSTC_LEXER_OK && is == 1);
 }
 
 /* A pointer can be null if its length is 0. */
@@ -78,7 +78,7 @@ static void check_null(void) {
                                       BUFFER_LEN, &count) == RUSTC_LEXER_OK && count == 0);
     struct rustc_lexer_head head = {0};
     struct rustc_lexer_edit made = {9, 9, 9};
-    CHECK(rustc_lexer_body_edit(NULL, 0, &edit, &head, &made, &is) == RUSTC_LEXER_OK && is == 1 && made.new_stop == 0);
+    CHECK(rustc_lexer_body_edit(NULL, 0, &edit, &head, &made, &is) == RUSTC_LEXER_OK && is == 1 && made.new_end == 0);
     CHECK(rustc_lexer_body_edit_unchecked(NULL, 0, &edit, &head, &made, &is) == RUSTC_LEXER_OK && head.body == 0);
     CHECK(rustc_lexer_strip_shebang(NULL, 0, &end) == RUSTC_LEXER_OK && end == 0);
     CHECK(rustc_lexer_strip_shebang_unchecked(NULL, 0, &end) == RUSTC_LEXER_OK && end == 0);
@@ -285,15 +285,15 @@ static void check_others(void) {
                  {"z\"a\"", 1, 2018, 1}, {"z\"a\"", 1, 2021, 0}, {"k#a", 2, 2015, 0}, {"// a\nb", 4, 2015, 1}};
     for (size_t i = 0; i < sizeof seams / sizeof seams[0]; i++) {
         const uint8_t *text = (const uint8_t *)seams[i].text;
-        CHECK(rustc_lexer_is_seam(text, strlen(seams[i].text), seams[i].at, seams[i].edition, &is) == RUSTC_LEXER_OK);
+        CHECK(rustc_lexer_is_token_boundary(text, strlen(seams[i].text), seams[i].at, seams[i].edition, &is) == RUSTC_LEXER_OK);
         CHECK(is == seams[i].is);
     }
     is = 9;
-    CHECK(rustc_lexer_is_seam((const uint8_t *)"\xc3\xa9", 2, 1, 2024, &is) == RUSTC_LEXER_BAD_PLACE && is == 0);
+    CHECK(rustc_lexer_is_token_boundary((const uint8_t *)"\xc3\xa9", 2, 1, 2024, &is) == RUSTC_LEXER_BAD_PLACE && is == 0);
     is = 9;
-    CHECK(rustc_lexer_is_seam((const uint8_t *)"ab", 2, 3, 2024, &is) == RUSTC_LEXER_BAD_PLACE && is == 0);
+    CHECK(rustc_lexer_is_token_boundary((const uint8_t *)"ab", 2, 3, 2024, &is) == RUSTC_LEXER_BAD_PLACE && is == 0);
     is = 9;
-    CHECK(rustc_lexer_is_seam((const uint8_t *)"ab", 2, 1, 2020, &is) == RUSTC_LEXER_BAD_EDITION && is == 0);
+    CHECK(rustc_lexer_is_token_boundary((const uint8_t *)"ab", 2, 1, 2020, &is) == RUSTC_LEXER_BAD_EDITION && is == 0);
     CHECK(rustc_lexer_strip_shebang((const uint8_t *)"#!///x\n[a]", 10, &end) == RUSTC_LEXER_OK && end == 6);
     CHECK(rustc_lexer_strip_shebang_unchecked((const uint8_t *)"#!///x\n[a]", 10, &end) == RUSTC_LEXER_OK && end == 6);
     CHECK(rustc_lexer_is_ident_unchecked((const uint8_t *)"a1", 2));
@@ -418,7 +418,7 @@ static bool is_marked_as(const char *text, uint32_t format, uint32_t edition, si
     uint8_t bytes[200];
     size_t written = 99, len = strlen(wanted);
     memset(bytes, 0xAA, sizeof bytes);
-    if (rustc_lexer_marks((const uint8_t *)text, strlen(text), format, edition, count, bytes, len, &written) !=
+    if (rustc_lexer_write_highlighted((const uint8_t *)text, strlen(text), format, edition, count, bytes, len, &written) !=
         RUSTC_LEXER_OK)
         return false;
     return written == len && memcmp(bytes, wanted, len) == 0 && bytes[len] == 0xAA;
@@ -440,15 +440,15 @@ static void check_marks(void) {
     CHECK(is_marked_as("", RUSTC_LEXER_FORMAT_HTML, 2024, 1, ""));
 
     memset(bytes, 0xAA, sizeof bytes);
-    CHECK(rustc_lexer_marks(text, 2, 1, 2024, 9, bytes, 5, &written) == RUSTC_LEXER_OK && written == 5);
+    CHECK(rustc_lexer_write_highlighted(text, 2, 1, 2024, 9, bytes, 5, &written) == RUSTC_LEXER_OK && written == 5);
     CHECK(memcmp(bytes, "a&lt;\xaa\xaa\xaa", 8) == 0);
     /* one byte too small: nothing is written past the buffer */
     memset(bytes, 0xAA, sizeof bytes);
-    CHECK(rustc_lexer_marks(text, 2, 1, 2024, 9, bytes, 4, &written) == RUSTC_LEXER_SMALL_BUFFER && written == 0);
+    CHECK(rustc_lexer_write_highlighted(text, 2, 1, 2024, 9, bytes, 4, &written) == RUSTC_LEXER_SMALL_BUFFER && written == 0);
     CHECK(memcmp(bytes + 4, "\xaa\xaa\xaa\xaa", 4) == 0);
     written = 99;
-    CHECK(rustc_lexer_marks(text, 2, 1, 2024, 9, NULL, 0, &written) == RUSTC_LEXER_SMALL_BUFFER && written == 0);
-    CHECK(rustc_lexer_marks(NULL, 0, 1, 2024, 9, NULL, 0, &written) == RUSTC_LEXER_OK && written == 0);
+    CHECK(rustc_lexer_write_highlighted(text, 2, 1, 2024, 9, NULL, 0, &written) == RUSTC_LEXER_SMALL_BUFFER && written == 0);
+    CHECK(rustc_lexer_write_highlighted(NULL, 0, 1, 2024, 9, NULL, 0, &written) == RUSTC_LEXER_OK && written == 0);
 
     /* errors, in their order; the buffer is unchanged */
     static const struct {
@@ -464,7 +464,7 @@ static void check_marks(void) {
     for (size_t i = 0; i < sizeof invalid / sizeof invalid[0]; i++) {
         written = 99;
         memset(bytes, 0xAA, sizeof bytes);
-        CHECK(rustc_lexer_marks((const uint8_t *)invalid[i].text, 1, invalid[i].format, invalid[i].edition, 1, bytes, 8,
+        CHECK(rustc_lexer_write_highlighted((const uint8_t *)invalid[i].text, 1, invalid[i].format, invalid[i].edition, 1, bytes, 8,
                                 &written) == invalid[i].status);
         CHECK(written == 0 && memcmp(bytes, "\xaa\xaa\xaa\xaa\xaa\xaa\xaa\xaa", 8) == 0);
     }
@@ -500,9 +500,9 @@ static void check_order(void) {
         {rustc_lexer_tokens_in(bad, 1, 0, &(struct rustc_lexer_place){0, 0}, buffer, 1, &count), RUSTC_LEXER_NOT_UTF8,
          RUSTC_LEXER_BAD_EDITION},
         {rustc_lexer_tokens_in(good, 1, 0, &past, buffer, 1, &count), RUSTC_LEXER_BAD_PLACE, RUSTC_LEXER_BAD_EDITION},
-        {rustc_lexer_is_seam(bad, 1, 9, 2024, &is), RUSTC_LEXER_NOT_UTF8, RUSTC_LEXER_BAD_PLACE},
-        {rustc_lexer_is_seam(bad, 1, 0, 0, &is), RUSTC_LEXER_NOT_UTF8, RUSTC_LEXER_BAD_EDITION},
-        {rustc_lexer_is_seam(good, 1, 9, 0, &is), RUSTC_LEXER_BAD_PLACE, RUSTC_LEXER_BAD_EDITION},
+        {rustc_lexer_is_token_boundary(bad, 1, 9, 2024, &is), RUSTC_LEXER_NOT_UTF8, RUSTC_LEXER_BAD_PLACE},
+        {rustc_lexer_is_token_boundary(bad, 1, 0, 0, &is), RUSTC_LEXER_NOT_UTF8, RUSTC_LEXER_BAD_EDITION},
+        {rustc_lexer_is_token_boundary(good, 1, 9, 0, &is), RUSTC_LEXER_BAD_PLACE, RUSTC_LEXER_BAD_EDITION},
         {rustc_lexer_validate_raw_str(bad, 1, 1, &error), RUSTC_LEXER_NOT_UTF8, RUSTC_LEXER_NOT_RAW},
         {rustc_lexer_unescape(bad, 1, 11, 0, NULL, 0, &count), RUSTC_LEXER_NOT_UTF8, RUSTC_LEXER_BAD_MODE},
         {rustc_lexer_literal_errors(bad, 1, 11, 0, NULL, 0, &count), RUSTC_LEXER_NOT_UTF8, RUSTC_LEXER_BAD_MODE},
@@ -513,11 +513,11 @@ static void check_order(void) {
         {rustc_lexer_relex(good, 1, NULL, 0, &edit, 0, &begin, buffer, 1, &count), RUSTC_LEXER_BAD_EDITION,
          RUSTC_LEXER_BAD_EDIT},
         {rustc_lexer_body_edit(bad, 1, &edit, &head, &made, &is), RUSTC_LEXER_NOT_UTF8, RUSTC_LEXER_BAD_EDIT},
-        {rustc_lexer_marks(bad, 1, 1, 0, 1, NULL, 0, &count), RUSTC_LEXER_NOT_UTF8, RUSTC_LEXER_BAD_EDITION},
-        {rustc_lexer_marks(bad, 1, 0, 2024, 1, NULL, 0, &count), RUSTC_LEXER_NOT_UTF8, RUSTC_LEXER_BAD_FORMAT},
-        {rustc_lexer_marks(good, 1, 0, 0, 1, bytes, 8, &count), RUSTC_LEXER_BAD_EDITION, RUSTC_LEXER_BAD_FORMAT},
-        {rustc_lexer_marks(good, 1, 1, 0, 1, NULL, 0, &count), RUSTC_LEXER_BAD_EDITION, RUSTC_LEXER_SMALL_BUFFER},
-        {rustc_lexer_marks(good, 1, 0, 2024, 1, NULL, 0, &count), RUSTC_LEXER_BAD_FORMAT, RUSTC_LEXER_SMALL_BUFFER},
+        {rustc_lexer_write_highlighted(bad, 1, 1, 0, 1, NULL, 0, &count), RUSTC_LEXER_NOT_UTF8, RUSTC_LEXER_BAD_EDITION},
+        {rustc_lexer_write_highlighted(bad, 1, 0, 2024, 1, NULL, 0, &count), RUSTC_LEXER_NOT_UTF8, RUSTC_LEXER_BAD_FORMAT},
+        {rustc_lexer_write_highlighted(good, 1, 0, 0, 1, bytes, 8, &count), RUSTC_LEXER_BAD_EDITION, RUSTC_LEXER_BAD_FORMAT},
+        {rustc_lexer_write_highlighted(good, 1, 1, 0, 1, NULL, 0, &count), RUSTC_LEXER_BAD_EDITION, RUSTC_LEXER_SMALL_BUFFER},
+        {rustc_lexer_write_highlighted(good, 1, 0, 2024, 1, NULL, 0, &count), RUSTC_LEXER_BAD_FORMAT, RUSTC_LEXER_SMALL_BUFFER},
     };
     for (size_t i = 0; i < sizeof rows / sizeof rows[0]; i++)
         CHECK(rows[i][0] == rows[i][is_before(rows[i][1], rows[i][2]) ? 1 : 2]);
@@ -538,7 +538,7 @@ static void check_many(batch_call *tokens, unescape_call *unescape) {
     CHECK(tokens(many, MANY, &place, many_tokens, MANY, &count) == RUSTC_LEXER_OK && count == MANY);
     for (size_t i = 0; i < MANY; i++)
         CHECK(many_tokens[i].kind == RUSTC_LEXER_SEMI && many_tokens[i].len == 1);
-    CHECK(rustc_lexer_marks(many, MANY, RUSTC_LEXER_FORMAT_HTML, 2024, MANY, bytes, MANY, &count) == RUSTC_LEXER_OK);
+    CHECK(rustc_lexer_write_highlighted(many, MANY, RUSTC_LEXER_FORMAT_HTML, 2024, MANY, bytes, MANY, &count) == RUSTC_LEXER_OK);
     CHECK(count == MANY && memcmp(bytes, many, MANY) == 0);
     CHECK(unescape(many, MANY, RUSTC_LEXER_STR, 0, many_units, MANY, &count) == RUSTC_LEXER_OK && count == MANY);
     CHECK(is_unit(many_units[MANY - 1], MANY - 1, MANY, RUSTC_LEXER_UNIT_CHAR, ';'));
@@ -562,14 +562,14 @@ static void check_many(batch_call *tokens, unescape_call *unescape) {
 }
 
 /* The class and the error of the first token of a text, and its length. */
-static void check_token(const char *text, size_t len, uint32_t class_wanted, uint32_t fault_wanted) {
+static void check_token(const char *text, size_t len, uint32_t class_wanted, uint32_t error_wanted) {
     const uint8_t *bytes = (const uint8_t *)text;
     struct rustc_lexer_token token = rustc_lexer_first_token_unchecked(bytes, strlen(text), 1);
     uint32_t number = 99;
     CHECK(token.len == len);
     CHECK(rustc_lexer_class(bytes, len, &token, 2024, &number) == RUSTC_LEXER_OK && number == class_wanted);
     number = 99;
-    CHECK(rustc_lexer_fault(bytes, len, &token, &number) == RUSTC_LEXER_OK && number == fault_wanted);
+    CHECK(rustc_lexer_token_error(bytes, len, &token, &number) == RUSTC_LEXER_OK && number == error_wanted);
 }
 
 static void check_classes(void) {
@@ -577,7 +577,7 @@ static void check_classes(void) {
     static const struct {
         const char *text;
         size_t len;
-        uint32_t class_wanted, fault_wanted;
+        uint32_t class_wanted, error_wanted;
     } rows[] = {
         {" ", 1, RUSTC_LEXER_CLASS_PLAIN, 0},
         {"r#fn", 4, RUSTC_LEXER_CLASS_PLAIN, 0},
@@ -585,75 +585,75 @@ static void check_classes(void) {
         {"%", 1, RUSTC_LEXER_CLASS_PLAIN, 0},
         {"a", 1, RUSTC_LEXER_CLASS_PLAIN, 0},
         {"// a", 4, RUSTC_LEXER_CLASS_COMMENT, 0},
-        {"/* a", 4, RUSTC_LEXER_CLASS_COMMENT, RUSTC_LEXER_FAULT_UNTERMINATED_BLOCK_COMMENT},
+        {"/* a", 4, RUSTC_LEXER_CLASS_COMMENT, RUSTC_LEXER_TOKEN_ERROR_UNTERMINATED_BLOCK_COMMENT},
         {"/// a", 5, RUSTC_LEXER_CLASS_DOC, 0},
         {"/*! */", 6, RUSTC_LEXER_CLASS_DOC, 0},
         {"while", 5, RUSTC_LEXER_CLASS_KEYWORD, 0},
         {"Vec", 3, RUSTC_LEXER_CLASS_TYPE_NAME, 0},
         {"---\na\n---\n", 9, RUSTC_LEXER_CLASS_DOC, 0},
-        {" ---\n", 5, RUSTC_LEXER_CLASS_DOC, RUSTC_LEXER_FAULT_WHITESPACE_BEFORE_FRONTMATTER},
-        {"---a b\n---", 10, RUSTC_LEXER_CLASS_DOC, RUSTC_LEXER_FAULT_INVALID_INFOSTRING},
-        {"---\na", 5, RUSTC_LEXER_CLASS_DOC, RUSTC_LEXER_FAULT_UNCLOSED_FRONTMATTER},
-        {"---\n ---", 8, RUSTC_LEXER_CLASS_DOC, RUSTC_LEXER_FAULT_WHITESPACE_BEFORE_FRONTMATTER_CLOSE},
-        {"---\n----", 8, RUSTC_LEXER_CLASS_DOC, RUSTC_LEXER_FAULT_FRONTMATTER_CLOSE_MISMATCH},
-        {"---\n--- a", 9, RUSTC_LEXER_CLASS_DOC, RUSTC_LEXER_FAULT_EXTRA_AFTER_FRONTMATTER_CLOSE},
-        {"a\xf0\x9f\x99\x82", 5, RUSTC_LEXER_CLASS_PLAIN, RUSTC_LEXER_FAULT_INVALID_NAME},
-        {"z\"a\"", 1, RUSTC_LEXER_CLASS_PLAIN, RUSTC_LEXER_FAULT_UNKNOWN_PREFIX},
-        {"'z#", 2, RUSTC_LEXER_CLASS_LIFETIME, RUSTC_LEXER_FAULT_UNKNOWN_LIFETIME_PREFIX},
-        {"##", 2, RUSTC_LEXER_CLASS_PLAIN, RUSTC_LEXER_FAULT_GUARDED_STRING},
+        {" ---\n", 5, RUSTC_LEXER_CLASS_DOC, RUSTC_LEXER_TOKEN_ERROR_WHITESPACE_BEFORE_FRONTMATTER},
+        {"---a b\n---", 10, RUSTC_LEXER_CLASS_DOC, RUSTC_LEXER_TOKEN_ERROR_INVALID_INFOSTRING},
+        {"---\na", 5, RUSTC_LEXER_CLASS_DOC, RUSTC_LEXER_TOKEN_ERROR_UNCLOSED_FRONTMATTER},
+        {"---\n ---", 8, RUSTC_LEXER_CLASS_DOC, RUSTC_LEXER_TOKEN_ERROR_WHITESPACE_BEFORE_FRONTMATTER_CLOSE},
+        {"---\n----", 8, RUSTC_LEXER_CLASS_DOC, RUSTC_LEXER_TOKEN_ERROR_FRONTMATTER_CLOSE_MISMATCH},
+        {"---\n--- a", 9, RUSTC_LEXER_CLASS_DOC, RUSTC_LEXER_TOKEN_ERROR_EXTRA_AFTER_FRONTMATTER_CLOSE},
+        {"a\xf0\x9f\x99\x82", 5, RUSTC_LEXER_CLASS_PLAIN, RUSTC_LEXER_TOKEN_ERROR_INVALID_NAME},
+        {"z\"a\"", 1, RUSTC_LEXER_CLASS_PLAIN, RUSTC_LEXER_TOKEN_ERROR_UNKNOWN_PREFIX},
+        {"'z#", 2, RUSTC_LEXER_CLASS_LIFETIME, RUSTC_LEXER_TOKEN_ERROR_UNKNOWN_LIFETIME_PREFIX},
+        {"##", 2, RUSTC_LEXER_CLASS_PLAIN, RUSTC_LEXER_TOKEN_ERROR_GUARDED_STRING},
         {"'a", 2, RUSTC_LEXER_CLASS_LIFETIME, 0},
         {"'r#a", 4, RUSTC_LEXER_CLASS_LIFETIME, 0},
-        {"'1a", 3, RUSTC_LEXER_CLASS_LIFETIME, RUSTC_LEXER_FAULT_INVALID_LIFETIME},
-        {"\xc2\xac", 2, RUSTC_LEXER_CLASS_PLAIN, RUSTC_LEXER_FAULT_UNKNOWN_CHARACTER},
+        {"'1a", 3, RUSTC_LEXER_CLASS_LIFETIME, RUSTC_LEXER_TOKEN_ERROR_INVALID_LIFETIME},
+        {"\xc2\xac", 2, RUSTC_LEXER_CLASS_PLAIN, RUSTC_LEXER_TOKEN_ERROR_UNKNOWN_CHARACTER},
         {"1u8", 3, RUSTC_LEXER_CLASS_NUMBER, 0},
-        {"0x", 2, RUSTC_LEXER_CLASS_NUMBER, RUSTC_LEXER_FAULT_EMPTY_NUMBER},
+        {"0x", 2, RUSTC_LEXER_CLASS_NUMBER, RUSTC_LEXER_TOKEN_ERROR_EMPTY_NUMBER},
         {"1.5", 3, RUSTC_LEXER_CLASS_NUMBER, 0},
-        {"1e", 2, RUSTC_LEXER_CLASS_NUMBER, RUSTC_LEXER_FAULT_EMPTY_EXPONENT},
-        {"0b12", 4, RUSTC_LEXER_CLASS_NUMBER, RUSTC_LEXER_FAULT_INVALID_DIGIT},
-        {"0o8", 3, RUSTC_LEXER_CLASS_NUMBER, RUSTC_LEXER_FAULT_INVALID_DIGIT},
+        {"1e", 2, RUSTC_LEXER_CLASS_NUMBER, RUSTC_LEXER_TOKEN_ERROR_EMPTY_EXPONENT},
+        {"0b12", 4, RUSTC_LEXER_CLASS_NUMBER, RUSTC_LEXER_TOKEN_ERROR_INVALID_DIGIT},
+        {"0o8", 3, RUSTC_LEXER_CLASS_NUMBER, RUSTC_LEXER_TOKEN_ERROR_INVALID_DIGIT},
         {"0b1u8", 5, RUSTC_LEXER_CLASS_NUMBER, 0},
         {"0x9", 3, RUSTC_LEXER_CLASS_NUMBER, 0},
-        {"0x1.5", 5, RUSTC_LEXER_CLASS_NUMBER, RUSTC_LEXER_FAULT_FLOAT_OF_BASE},
-        {"r#self", 6, RUSTC_LEXER_CLASS_PLAIN, RUSTC_LEXER_FAULT_RAW_KEYWORD},
-        {"'r#_", 4, RUSTC_LEXER_CLASS_LIFETIME, RUSTC_LEXER_FAULT_RAW_KEYWORD},
-        {"\"a\"_", 4, RUSTC_LEXER_CLASS_TEXT, RUSTC_LEXER_FAULT_UNDERSCORE_SUFFIX},
+        {"0x1.5", 5, RUSTC_LEXER_CLASS_NUMBER, RUSTC_LEXER_TOKEN_ERROR_FLOAT_OF_BASE},
+        {"r#self", 6, RUSTC_LEXER_CLASS_PLAIN, RUSTC_LEXER_TOKEN_ERROR_RAW_KEYWORD},
+        {"'r#_", 4, RUSTC_LEXER_CLASS_LIFETIME, RUSTC_LEXER_TOKEN_ERROR_RAW_KEYWORD},
+        {"\"a\"_", 4, RUSTC_LEXER_CLASS_TEXT, RUSTC_LEXER_TOKEN_ERROR_UNDERSCORE_SUFFIX},
         {"\"a\"_a", 5, RUSTC_LEXER_CLASS_TEXT, 0},
-        {"/// \ra", 6, RUSTC_LEXER_CLASS_DOC, RUSTC_LEXER_FAULT_BARE_CARRIAGE_RETURN_IN_DOC_COMMENT},
+        {"/// \ra", 6, RUSTC_LEXER_CLASS_DOC, RUSTC_LEXER_TOKEN_ERROR_BARE_CARRIAGE_RETURN_IN_DOC_COMMENT},
         {"// \ra", 5, RUSTC_LEXER_CLASS_COMMENT, 0},
-        {"---\na\rb\n---", 11, RUSTC_LEXER_CLASS_DOC, RUSTC_LEXER_FAULT_BARE_CARRIAGE_RETURN_IN_FRONTMATTER},
-        {"// \xe2\x80\xae", 6, RUSTC_LEXER_CLASS_COMMENT, RUSTC_LEXER_FAULT_TEXT_DIRECTION_CODEPOINT},
-        {"c\"\xe2\x81\xa6\"", 6, RUSTC_LEXER_CLASS_TEXT, RUSTC_LEXER_FAULT_TEXT_DIRECTION_CODEPOINT},
+        {"---\na\rb\n---", 11, RUSTC_LEXER_CLASS_DOC, RUSTC_LEXER_TOKEN_ERROR_BARE_CARRIAGE_RETURN_IN_FRONTMATTER},
+        {"// \xe2\x80\xae", 6, RUSTC_LEXER_CLASS_COMMENT, RUSTC_LEXER_TOKEN_ERROR_TEXT_DIRECTION_CODEPOINT},
+        {"c\"\xe2\x81\xa6\"", 6, RUSTC_LEXER_CLASS_TEXT, RUSTC_LEXER_TOKEN_ERROR_TEXT_DIRECTION_CODEPOINT},
         {"b\"\xe2\x81\xa6\"", 6, RUSTC_LEXER_CLASS_TEXT, 0},
         {"'a'", 3, RUSTC_LEXER_CLASS_TEXT, 0},
-        {"'", 1, RUSTC_LEXER_CLASS_TEXT, RUSTC_LEXER_FAULT_UNTERMINATED_CHAR},
-        {"b'", 2, RUSTC_LEXER_CLASS_TEXT, RUSTC_LEXER_FAULT_UNTERMINATED_BYTE},
+        {"'", 1, RUSTC_LEXER_CLASS_TEXT, RUSTC_LEXER_TOKEN_ERROR_UNTERMINATED_CHAR},
+        {"b'", 2, RUSTC_LEXER_CLASS_TEXT, RUSTC_LEXER_TOKEN_ERROR_UNTERMINATED_BYTE},
         {"\"\\q\"", 4, RUSTC_LEXER_CLASS_TEXT, 0},
-        {"\"a", 2, RUSTC_LEXER_CLASS_TEXT, RUSTC_LEXER_FAULT_UNTERMINATED_STRING},
-        {"b\"a", 3, RUSTC_LEXER_CLASS_TEXT, RUSTC_LEXER_FAULT_UNTERMINATED_STRING},
-        {"c\"a", 3, RUSTC_LEXER_CLASS_TEXT, RUSTC_LEXER_FAULT_UNTERMINATED_STRING},
+        {"\"a", 2, RUSTC_LEXER_CLASS_TEXT, RUSTC_LEXER_TOKEN_ERROR_UNTERMINATED_STRING},
+        {"b\"a", 3, RUSTC_LEXER_CLASS_TEXT, RUSTC_LEXER_TOKEN_ERROR_UNTERMINATED_STRING},
+        {"c\"a", 3, RUSTC_LEXER_CLASS_TEXT, RUSTC_LEXER_TOKEN_ERROR_UNTERMINATED_STRING},
         {"r\"a\"", 4, RUSTC_LEXER_CLASS_TEXT, 0},
-        {"r#~", 3, RUSTC_LEXER_CLASS_TEXT, RUSTC_LEXER_FAULT_INVALID_RAW_STARTER},
-        {"br\"a", 4, RUSTC_LEXER_CLASS_TEXT, RUSTC_LEXER_FAULT_UNTERMINATED_RAW_STRING},
-        {"cr##\"a\"#", 8, RUSTC_LEXER_CLASS_TEXT, RUSTC_LEXER_FAULT_TOO_FEW_HASHES},
+        {"r#~", 3, RUSTC_LEXER_CLASS_TEXT, RUSTC_LEXER_TOKEN_ERROR_INVALID_RAW_STARTER},
+        {"br\"a", 4, RUSTC_LEXER_CLASS_TEXT, RUSTC_LEXER_TOKEN_ERROR_UNTERMINATED_RAW_STRING},
+        {"cr##\"a\"#", 8, RUSTC_LEXER_CLASS_TEXT, RUSTC_LEXER_TOKEN_ERROR_TOO_FEW_HASHES},
     };
     for (size_t i = 0; i < sizeof rows / sizeof rows[0]; i++)
-        check_token(rows[i].text, rows[i].len, rows[i].class_wanted, rows[i].fault_wanted);
+        check_token(rows[i].text, rows[i].len, rows[i].class_wanted, rows[i].error_wanted);
     memset(many, '#', 515);
     memcpy(many, "r", 1);
     memcpy(many + 257, "\"\"", 2);
-    check_token(many, 515, RUSTC_LEXER_CLASS_TEXT, RUSTC_LEXER_FAULT_TOO_MANY_HASHES);
+    check_token(many, 515, RUSTC_LEXER_CLASS_TEXT, RUSTC_LEXER_TOKEN_ERROR_TOO_MANY_HASHES);
     memset(many, '-', 513);
     many[256] = '\n';
     many[513] = '\0';
-    check_token(many, 513, RUSTC_LEXER_CLASS_DOC, RUSTC_LEXER_FAULT_TOO_MANY_DASHES);
+    check_token(many, 513, RUSTC_LEXER_CLASS_DOC, RUSTC_LEXER_TOKEN_ERROR_TOO_MANY_DASHES);
 
     struct rustc_lexer_token token = {.kind = RUSTC_LEXER_IDENT, .len = 1};
     uint32_t number = 9;
     CHECK(rustc_lexer_class((const uint8_t *)"\xff", 1, &token, 2024, &number) == RUSTC_LEXER_NOT_UTF8 && number == 0);
     number = 9;
-    CHECK(rustc_lexer_fault((const uint8_t *)"\xff", 1, &token, &number) == RUSTC_LEXER_NOT_UTF8 && number == 0);
+    CHECK(rustc_lexer_token_error((const uint8_t *)"\xff", 1, &token, &number) == RUSTC_LEXER_NOT_UTF8 && number == 0);
     CHECK(rustc_lexer_class(NULL, 0, &token, 2024, &number) == RUSTC_LEXER_OK && number == RUSTC_LEXER_CLASS_PLAIN);
-    CHECK(rustc_lexer_fault(NULL, 0, &token, &number) == RUSTC_LEXER_OK && number == 0);
+    CHECK(rustc_lexer_token_error(NULL, 0, &token, &number) == RUSTC_LEXER_OK && number == 0);
 
     /* a keyword of later editions, and invalid years */
     const uint8_t *word = (const uint8_t *)"dyn";

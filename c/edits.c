@@ -23,9 +23,9 @@ static uint32_t edit_held(relex_call *relex, struct held *held, size_t start, si
     struct rustc_lexer_token lexed[MOST];
     struct rustc_lexer_edit edit = {(uint32_t)start, (uint32_t)stop, (uint32_t)(start + strlen(insert))};
     size_t written = 0, count;
-    memmove(held->text + edit.new_stop, held->text + stop, held->len - stop);
+    memmove(held->text + edit.new_end, held->text + stop, held->len - stop);
     memcpy(held->text + start, insert, strlen(insert));
-    held->len += edit.new_stop - stop;
+    held->len += edit.new_end - stop;
     held->relexing.stage = RUSTC_LEXER_STAGE_BEGIN;
     do {
         uint32_t status = relex((const uint8_t *)held->text, held->len, held->tokens, held->count, &edit, edition,
@@ -347,16 +347,16 @@ static void edit_document(body_edit_call *body_edit, struct document *document, 
     struct rustc_lexer_head old = document->head;
     struct held *body = &document->body;
     char put[MOST + 1] = "";
-    memmove(document->text + edit.new_stop, document->text + stop, document->len - stop);
+    memmove(document->text + edit.new_end, document->text + stop, document->len - stop);
     memcpy(document->text + start, insert, strlen(insert));
-    document->len += edit.new_stop - stop;
+    document->len += edit.new_end - stop;
     CHECK(body_edit((const uint8_t *)document->text, document->len, &edit, &document->head, &made,
                     &document->head_kept) == RUSTC_LEXER_OK);
     bool stays = memcmp(&old, &document->head, sizeof old) == 0 && old.body <= start;
     CHECK(document->head_kept == stays && (stays || made.start == 0));
     const char *present = document->text + document->head.body;
-    memcpy(put, present + made.start, made.new_stop - made.start);
-    CHECK(edit_held(rustc_lexer_relex, body, made.start, made.old_stop, put, 2024, BUFFER_LEN) == RUSTC_LEXER_OK);
+    memcpy(put, present + made.start, made.new_end - made.start);
+    CHECK(edit_held(rustc_lexer_relex, body, made.start, made.old_end, put, 2024, BUFFER_LEN) == RUSTC_LEXER_OK);
     CHECK(body->len == document->len - document->head.body && memcmp(body->text, present, body->len) == 0);
     CHECK(is_document(document));
 }
@@ -398,7 +398,7 @@ static void check_bad_heads(body_edit_call *body_edit) {
         uint32_t head_kept = 13;
         CHECK(body_edit(text, 5, &bad[i], &head, &made, &head_kept) == RUSTC_LEXER_BAD_EDIT && head_kept == 13);
         CHECK(memcmp(&head, &before, sizeof head) == 0);
-        CHECK(made.start == 10 && made.old_stop == 11 && made.new_stop == 12);
+        CHECK(made.start == 10 && made.old_end == 11 && made.new_end == 12);
     }
     /* the call accepts any head, and rustc_lexer_relex accepts its edit of the body */
     for (size_t i = 0; i < 10000; i++) {

@@ -169,7 +169,7 @@ static void find_head(const uint8_t *text, size_t len, uint32_t status, enum pla
     if (status == RUSTC_LEXER_OK) {
         memcpy(&found, head.bytes, sizeof found);
         memcpy(&made, body_edit.bytes, sizeof made);
-        CHECK(found.body <= len && made.start == 0 && made.old_stop == 0 && made.new_stop == len - found.body);
+        CHECK(found.body <= len && made.start == 0 && made.old_end == 0 && made.new_end == len - found.body);
     }
     release(edit);
     release(head);
@@ -192,7 +192,7 @@ static uint32_t call_all(const uint8_t *text, size_t len, enum placement placeme
     CHECK(answer <= len);
     find_head(text, len, status, placement);
     CHECK(rustc_lexer_is_ident(text, len, is.bytes) == status);
-    CHECK(rustc_lexer_is_seam(text, len, len, 2024, is.bytes) == status);
+    CHECK(rustc_lexer_is_token_boundary(text, len, len, 2024, is.bytes) == status);
     CHECK(rustc_lexer_guarded_str(text, len, string.bytes) == status);
     for (uint32_t prefix_len = 0; prefix_len < 4; prefix_len++) {
         uint32_t raw = rustc_lexer_validate_raw_str(text, len, prefix_len, error.bytes);
@@ -261,7 +261,7 @@ static void check_classes(const uint8_t *text, size_t len, enum placement placem
     for (int i = 0; i < 2; i++) {
         memcpy(token.bytes, &first, sizeof first);
         CHECK(rustc_lexer_class(text, first.len, token.bytes, 2024, number.bytes) == RUSTC_LEXER_OK);
-        CHECK(rustc_lexer_fault(text, first.len, token.bytes, number.bytes) == RUSTC_LEXER_OK);
+        CHECK(rustc_lexer_token_error(text, first.len, token.bytes, number.bytes) == RUSTC_LEXER_OK);
         for (size_t j = 0; j < 4; j++)
             numbers[j] = (uint8_t)below(j == 0 ? 45 : 12);
         memcpy(&first, numbers, 4);
@@ -276,7 +276,7 @@ static void check_marks(const uint8_t *text, size_t len, enum placement placemen
     for (uint32_t format = RUSTC_LEXER_FORMAT_HTML; format <= RUSTC_LEXER_FORMAT_NO_COLOURS; format++) {
         size_t buffer_len = below(20 * MOST), written;
         struct block buffer = block_of(buffer_len, placement);
-        uint32_t status = rustc_lexer_marks(text, len, format, 2021, below(MOST), buffer.bytes, buffer_len,
+        uint32_t status = rustc_lexer_write_highlighted(text, len, format, 2021, below(MOST), buffer.bytes, buffer_len,
                                             count.bytes);
         memcpy(&written, count.bytes, sizeof written);
         CHECK(status == RUSTC_LEXER_OK ? written <= buffer_len : status == RUSTC_LEXER_SMALL_BUFFER && written == 0);
@@ -349,7 +349,7 @@ static void check_edit(const uint8_t *bytes, size_t len, const uint8_t *insert, 
     size_t after_len = len - (stop - start) + insert_len;
     memcpy(after, bytes, start);
     memcpy(after + start, insert, insert_len);
-    memcpy(after + edit.new_stop, bytes + stop, len - stop);
+    memcpy(after + edit.new_end, bytes + stop, len - stop);
     if (rustc_lexer_check(bytes, len) != RUSTC_LEXER_OK || rustc_lexer_check(after, after_len) != RUSTC_LEXER_OK)
         return;
     for (int placement = 0; placement < PLACEMENTS; placement++) {

@@ -166,12 +166,12 @@ struct rustc_lexer_place {
     uint32_t frontmatter_allowed; /* whether a frontmatter is allowed there: 0 for no, any other number for yes */
 };
 
-/* An applied edit, as offsets in bytes. It replaced the bytes from `start` up to `old_stop` of the old text with those
- * from `start` up to `new_stop` of the current text. */
+/* An applied edit, as offsets in bytes. It replaced the bytes from `start` up to `old_end` of the old text with those
+ * from `start` up to `new_end` of the current text. */
 struct rustc_lexer_edit {
     uint32_t start;
-    uint32_t old_stop;
-    uint32_t new_stop;
+    uint32_t old_end;
+    uint32_t new_end;
 };
 
 /* The head of a document, which is everything before its body: a byte order mark, a shebang line, a frontmatter, and
@@ -287,37 +287,37 @@ enum {
 
 /* Errors of tokens. */
 enum {
-    RUSTC_LEXER_FAULT_UNTERMINATED_BLOCK_COMMENT = 1, /* unterminated block comment */
-    RUSTC_LEXER_FAULT_WHITESPACE_BEFORE_FRONTMATTER = 2, /* whitespace before an opening fence on its line */
-    RUSTC_LEXER_FAULT_INVALID_INFOSTRING = 3, /* malformed first line of a frontmatter */
-    RUSTC_LEXER_FAULT_UNCLOSED_FRONTMATTER = 4, /* unclosed frontmatter */
-    RUSTC_LEXER_FAULT_WHITESPACE_BEFORE_FRONTMATTER_CLOSE = 5, /* whitespace before a closing fence */
-    RUSTC_LEXER_FAULT_FRONTMATTER_CLOSE_MISMATCH = 6, /* the closing fence has another number of dashes */
-    RUSTC_LEXER_FAULT_EXTRA_AFTER_FRONTMATTER_CLOSE = 7, /* other characters after a closing fence */
-    RUSTC_LEXER_FAULT_INVALID_NAME = 8, /* a name contains an emoji */
-    RUSTC_LEXER_FAULT_UNKNOWN_PREFIX = 9, /* unknown prefix of a literal */
-    RUSTC_LEXER_FAULT_UNKNOWN_LIFETIME_PREFIX = 10, /* unknown prefix of a lifetime */
-    RUSTC_LEXER_FAULT_GUARDED_STRING = 11, /* #" or ##, which are reserved */
-    RUSTC_LEXER_FAULT_INVALID_LIFETIME = 12, /* a lifetime starts with a digit or contains an emoji */
-    RUSTC_LEXER_FAULT_UNKNOWN_CHARACTER = 13, /* no token starts with this character */
-    RUSTC_LEXER_FAULT_EMPTY_NUMBER = 14, /* a number has no digits */
-    RUSTC_LEXER_FAULT_EMPTY_EXPONENT = 15, /* an exponent has no digits */
-    RUSTC_LEXER_FAULT_UNTERMINATED_CHAR = 16, /* unterminated character */
-    RUSTC_LEXER_FAULT_UNTERMINATED_BYTE = 17, /* unterminated byte */
-    RUSTC_LEXER_FAULT_UNTERMINATED_STRING = 18, /* unterminated string */
-    RUSTC_LEXER_FAULT_INVALID_RAW_STARTER = 19, /* a raw string has no opening quote */
-    RUSTC_LEXER_FAULT_UNTERMINATED_RAW_STRING = 20, /* unterminated raw string */
-    RUSTC_LEXER_FAULT_TOO_FEW_HASHES = 21, /* unterminated raw string: too few hashes after a quote */
-    RUSTC_LEXER_FAULT_TOO_MANY_HASHES = 22, /* a raw string has more than 255 hashes on each side */
-    RUSTC_LEXER_FAULT_IN_LITERAL = 23, /* an error between the quotes; rustc_lexer_fault never writes it */
-    RUSTC_LEXER_FAULT_INVALID_DIGIT = 24, /* invalid digit for the base of a number */
-    RUSTC_LEXER_FAULT_FLOAT_OF_BASE = 25, /* a float in a base other than 10 */
-    RUSTC_LEXER_FAULT_RAW_KEYWORD = 26, /* self, Self, super, crate or _ after r# or 'r# */
-    RUSTC_LEXER_FAULT_UNDERSCORE_SUFFIX = 27, /* the suffix of a literal is _ */
-    RUSTC_LEXER_FAULT_BARE_CARRIAGE_RETURN_IN_DOC_COMMENT = 28, /* bare CR in a doc comment */
-    RUSTC_LEXER_FAULT_BARE_CARRIAGE_RETURN_IN_FRONTMATTER = 29, /* bare CR in a frontmatter */
-    RUSTC_LEXER_FAULT_TOO_MANY_DASHES = 30, /* a frontmatter has more than 255 dashes on each side */
-    RUSTC_LEXER_FAULT_TEXT_DIRECTION_CODEPOINT = 31 /* a comment or a literal contains a character that
+    RUSTC_LEXER_TOKEN_ERROR_UNTERMINATED_BLOCK_COMMENT = 1, /* unterminated block comment */
+    RUSTC_LEXER_TOKEN_ERROR_WHITESPACE_BEFORE_FRONTMATTER = 2, /* whitespace before an opening fence on its line */
+    RUSTC_LEXER_TOKEN_ERROR_INVALID_INFOSTRING = 3, /* malformed first line of a frontmatter */
+    RUSTC_LEXER_TOKEN_ERROR_UNCLOSED_FRONTMATTER = 4, /* unclosed frontmatter */
+    RUSTC_LEXER_TOKEN_ERROR_WHITESPACE_BEFORE_FRONTMATTER_CLOSE = 5, /* whitespace before a closing fence */
+    RUSTC_LEXER_TOKEN_ERROR_FRONTMATTER_CLOSE_MISMATCH = 6, /* the closing fence has another number of dashes */
+    RUSTC_LEXER_TOKEN_ERROR_EXTRA_AFTER_FRONTMATTER_CLOSE = 7, /* other characters after a closing fence */
+    RUSTC_LEXER_TOKEN_ERROR_INVALID_NAME = 8, /* a name contains an emoji */
+    RUSTC_LEXER_TOKEN_ERROR_UNKNOWN_PREFIX = 9, /* unknown prefix of a literal */
+    RUSTC_LEXER_TOKEN_ERROR_UNKNOWN_LIFETIME_PREFIX = 10, /* unknown prefix of a lifetime */
+    RUSTC_LEXER_TOKEN_ERROR_GUARDED_STRING = 11, /* #" or ##, which are reserved */
+    RUSTC_LEXER_TOKEN_ERROR_INVALID_LIFETIME = 12, /* a lifetime starts with a digit or contains an emoji */
+    RUSTC_LEXER_TOKEN_ERROR_UNKNOWN_CHARACTER = 13, /* no token starts with this character */
+    RUSTC_LEXER_TOKEN_ERROR_EMPTY_NUMBER = 14, /* a number has no digits */
+    RUSTC_LEXER_TOKEN_ERROR_EMPTY_EXPONENT = 15, /* an exponent has no digits */
+    RUSTC_LEXER_TOKEN_ERROR_UNTERMINATED_CHAR = 16, /* unterminated character */
+    RUSTC_LEXER_TOKEN_ERROR_UNTERMINATED_BYTE = 17, /* unterminated byte */
+    RUSTC_LEXER_TOKEN_ERROR_UNTERMINATED_STRING = 18, /* unterminated string */
+    RUSTC_LEXER_TOKEN_ERROR_INVALID_RAW_STARTER = 19, /* a raw string has no opening quote */
+    RUSTC_LEXER_TOKEN_ERROR_UNTERMINATED_RAW_STRING = 20, /* unterminated raw string */
+    RUSTC_LEXER_TOKEN_ERROR_TOO_FEW_HASHES = 21, /* unterminated raw string: too few hashes after a quote */
+    RUSTC_LEXER_TOKEN_ERROR_TOO_MANY_HASHES = 22, /* a raw string has more than 255 hashes on each side */
+    RUSTC_LEXER_TOKEN_ERROR_IN_LITERAL = 23, /* an error between the quotes; rustc_lexer_token_error never writes it */
+    RUSTC_LEXER_TOKEN_ERROR_INVALID_DIGIT = 24, /* invalid digit for the base of a number */
+    RUSTC_LEXER_TOKEN_ERROR_FLOAT_OF_BASE = 25, /* a float in a base other than 10 */
+    RUSTC_LEXER_TOKEN_ERROR_RAW_KEYWORD = 26, /* self, Self, super, crate or _ after r# or 'r# */
+    RUSTC_LEXER_TOKEN_ERROR_UNDERSCORE_SUFFIX = 27, /* the suffix of a literal is _ */
+    RUSTC_LEXER_TOKEN_ERROR_BARE_CARRIAGE_RETURN_IN_DOC_COMMENT = 28, /* bare CR in a doc comment */
+    RUSTC_LEXER_TOKEN_ERROR_BARE_CARRIAGE_RETURN_IN_FRONTMATTER = 29, /* bare CR in a frontmatter */
+    RUSTC_LEXER_TOKEN_ERROR_TOO_MANY_DASHES = 30, /* a frontmatter has more than 255 dashes on each side */
+    RUSTC_LEXER_TOKEN_ERROR_TEXT_DIRECTION_CODEPOINT = 31 /* a comment or a literal contains a character that
                                                            changes the text direction */
 };
 
@@ -389,8 +389,8 @@ struct rustc_lexer_token rustc_lexer_first_token_unchecked(const uint8_t *text, 
  *
  * If the status is not 0, `buffer` and `relexing` are unchanged, and `count` is 0. RUSTC_LEXER_BAD_EDIT means one of
  * these:
- *   - `start` is greater than `old_stop` or `new_stop`;
- *   - `start` or `new_stop` is past the end of the text or inside a character;
+ *   - `start` is greater than `old_end` or `new_end`;
+ *   - `start` or `new_end` is past the end of the text or inside a character;
  *   - at a later stage, `at` is past the end of the text or inside a character, `lexed` is greater than `at`,
  *     `kept_front` and `kept_back` together are greater than `old_len`, or `back_offset` is 2 to the power of 63 or
  *     more.
@@ -477,7 +477,7 @@ bool rustc_lexer_token_start_at(const struct rustc_lexer_token *tokens, size_t t
  *
  * The text before `at` can be shortened at its start: it can start at the end of any token that is followed by at
  * least two characters of this part. For example, its last two tokens are enough. */
-uint32_t rustc_lexer_is_seam(const uint8_t *text, size_t len, size_t at, uint32_t edition, uint32_t *is);
+uint32_t rustc_lexer_is_token_boundary(const uint8_t *text, size_t len, size_t at, uint32_t edition, uint32_t *is);
 
 /* Checks the raw string at the start of the text, and writes its error. `prefix_len` is the number of characters of its
  * prefix, including the r: 1 for r, 2 for br and cr. */
@@ -529,12 +529,12 @@ uint32_t rustc_lexer_literal_errors_unchecked(const uint8_t *text, size_t len, u
 uint32_t rustc_lexer_class(const uint8_t *text, size_t len, const struct rustc_lexer_token *token, uint32_t edition,
                            uint32_t *number);
 
-/* Writes the error of a token, RUSTC_LEXER_FAULT_.., into `number`, or 0 if there is none. The text is that of the
+/* Writes the error of a token, RUSTC_LEXER_TOKEN_ERROR_.., into `number`, or 0 if there is none. The text is that of the
  * token. For errors between the quotes of a terminated literal, call rustc_lexer_literal_errors.
  *
  * CR LF is a newline. So is a CR that ends a doc comment or a closing fence at the end of a text, which rustc
  * rejects. For '\ before CR LF, the error is an unterminated character, where rustc reports an unknown escape. */
-uint32_t rustc_lexer_fault(const uint8_t *text, size_t len, const struct rustc_lexer_token *token, uint32_t *number);
+uint32_t rustc_lexer_token_error(const uint8_t *text, size_t len, const struct rustc_lexer_token *token, uint32_t *number);
 
 /* Writes the first `count` tokens of the text, or all if it has fewer, with highlighting into the buffer, and the
  * number of bytes into `written`. The highlighting shows the class of each token, a message if it is malformed, and
@@ -547,7 +547,7 @@ uint32_t rustc_lexer_fault(const uint8_t *text, size_t len, const struct rustc_l
  *
  * If the status is RUSTC_LEXER_SMALL_BUFFER, the contents of the buffer are unspecified: call again with a larger
  * one. If it is any other status except 0, the buffer is unchanged. In both cases `written` is 0. */
-uint32_t rustc_lexer_marks(const uint8_t *text, size_t len, uint32_t format, uint32_t edition, size_t count,
+uint32_t rustc_lexer_write_highlighted(const uint8_t *text, size_t len, uint32_t format, uint32_t edition, size_t count,
                            uint8_t *buffer, size_t buffer_len, size_t *written);
 
 /* Writes 1 if the text is an identifier, otherwise 0. */

@@ -19,11 +19,11 @@ struct held {
 /* Replaces the bytes from `start` up to `stop` by `insert`, in the text and then in the tokens. */
 static uint32_t edit_held(struct held *held, uint32_t start, uint32_t stop, const char *insert) {
     struct rustc_lexer_edit edit = {start, stop, start + (uint32_t)strlen(insert)}, body_edit;
-    if (held->len - stop + edit.new_stop > MOST)
+    if (held->len - stop + edit.new_end > MOST)
         return RUSTC_LEXER_TOO_LONG;
-    memmove(held->text + edit.new_stop, held->text + stop, held->len - stop);
+    memmove(held->text + edit.new_end, held->text + stop, held->len - stop);
     memcpy(held->text + start, insert, strlen(insert));
-    held->len = held->len - stop + edit.new_stop;
+    held->len = held->len - stop + edit.new_end;
 
     /* find the change of the body */
     uint32_t head_kept, status;

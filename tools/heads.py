@@ -1,6 +1,6 @@
 """Parses the heads of functions and blocks, and the exports of a library, in the proved sources.
 
-`tests/proof/claim` and `tools/promises` use it to find the public functions. A head in an unknown form raises `Unread`,
+`tests/proof/specification` and `tools/promises` use it to find the public functions. A head in an unknown form raises `Unread`,
 so no function is overlooked.
 """
 import re

@@ -93,7 +93,7 @@ pub fn write(source: &Source) -> String {
         );
         push_name(out, "editions");
         push_list(out, 0..EDITIONS, |out, edition| {
-            let tokens = source.pieces_of_tokens(edition, difference.numbers[edition].clone());
+            let tokens = source.pieces_by_index(edition, difference.numbers[edition].clone());
             push_list(out, tokens, |out, token| {
                 let words = [token.token.kind.name(), &piece(token.text)];
                 push_list(out, words, push_text);

@@ -52,7 +52,7 @@ fn fresh(source: &Source, edition: usize) -> Range<usize> {
     else {
         return 0..0;
     };
-    let mut lexed = source.pieces_of_tokens(edition, last.changed_tokens());
+    let mut lexed = source.pieces_by_index(edition, last.changed_tokens());
     let Some(first) = lexed.next() else {
         return 0..0;
     };
@@ -124,7 +124,7 @@ fn push_tokens(
     edition: usize,
 ) {
     let lines = listing::write(source, numbers.clone(), edition);
-    let tokens = source.pieces_of_tokens(edition, numbers.clone());
+    let tokens = source.pieces_by_index(edition, numbers.clone());
     let rows = numbers.zip(tokens).zip(lines.lines());
     push_list(out, rows, |out, ((number, token), line)| {
         let start = token.start as usize;

@@ -20,7 +20,7 @@ pub struct Source {
 
 /// A text in each edition.
 enum Held {
-    Part([LexedText; EDITIONS]),
+    Fragment([LexedText; EDITIONS]),
     Document([LexedDocument; EDITIONS]),
 }
 
@@ -29,14 +29,14 @@ impl Held {
         if document {
             Held::Document(from_fn(|at| LexedDocument::new_in(text, Edition::ALL[at])))
         } else {
-            Held::Part(from_fn(|at| LexedText::new_in(text, Edition::ALL[at])))
+            Held::Fragment(from_fn(|at| LexedText::new_in(text, Edition::ALL[at])))
         }
     }
 
     fn edit(&mut self, range: Range<usize>, insert: &str) -> [Relexed; EDITIONS] {
         let range = || range.clone();
         match self {
-            Held::Part(texts) => texts.each_mut().map(|it| it.edit(range(), insert)),
+            Held::Fragment(texts) => texts.each_mut().map(|it| it.edit(range(), insert)),
             Held::Document(texts) => texts.each_mut().map(|it| it.edit(range(), insert)),
         }
     }
@@ -49,7 +49,7 @@ impl Source {
         let mut source = Source::new();
         source.change(text, document);
         source.held = match source.held {
-            Held::Part(_) => Held::Part(editions.map(|it| LexedText::new_in(text, it))),
+            Held::Fragment(_) => Held::Fragment(editions.map(|it| LexedText::new_in(text, it))),
             Held::Document(_) => Held::Document(editions.map(|it| LexedDocument::new_in(text, it))),
         };
         source
@@ -67,7 +67,7 @@ impl Source {
 
     pub fn text(&self) -> &str {
         match &self.held {
-            Held::Part(texts) => texts[0].text(),
+            Held::Fragment(texts) => texts[0].text(),
             Held::Document(texts) => texts[0].text(),
         }
     }
@@ -75,23 +75,23 @@ impl Source {
     /// Returns the tokens in an edition, from `begin` on.
     pub fn tokens(&self, edition: usize) -> &[Token] {
         match &self.held {
-            Held::Part(texts) => texts[edition].tokens(),
+            Held::Fragment(texts) => texts[edition].tokens(),
             Held::Document(texts) => texts[edition].tokens(),
         }
     }
 
     /// Returns the pieces of a range of tokens, by index.
-    pub fn pieces_of_tokens(&self, edition: usize, numbers: Range<usize>) -> Pieces<'_> {
+    pub fn pieces_by_index(&self, edition: usize, numbers: Range<usize>) -> Pieces<'_> {
         match &self.held {
-            Held::Part(texts) => texts[edition].pieces_of_tokens(numbers),
-            Held::Document(texts) => texts[edition].pieces_of_tokens(numbers),
+            Held::Fragment(texts) => texts[edition].pieces_by_index(numbers),
+            Held::Document(texts) => texts[edition].pieces_by_index(numbers),
         }
     }
 
     /// Returns the offset of the first token: after a shebang line.
     pub fn begin(&self) -> usize {
         match &self.held {
-            Held::Part(_) => 0,
+            Held::Fragment(_) => 0,
             Held::Document(texts) => texts[0].tokens_start(),
         }
     }
@@ -137,7 +137,7 @@ impl Source {
     pub fn token_start_at(&self, edition: usize, byte: usize) -> (usize, usize) {
         let byte = byte.max(self.begin());
         let found = match &self.held {
-            Held::Part(texts) => texts[edition].token_start_at(byte),
+            Held::Fragment(texts) => texts[edition].token_start_at(byte),
             Held::Document(texts) => texts[edition].token_start_at(byte),
         };
         found.map_or((self.tokens(edition).len(), self.text().len()), |at| {
@@ -177,10 +177,10 @@ impl Source {
             let held = || self.tokens(number).iter().copied();
             let same = match self.held {
                 Held::Document(_) => tokenize_document(text, edition).eq(held()),
-                Held::Part(_) if edition == Edition::NEWEST => {
+                Held::Fragment(_) if edition == Edition::NEWEST => {
                     tokenize(text, FrontmatterAllowed::No).eq(held())
                 }
-                Held::Part(_) => tokenize_in(text, edition).eq(held()),
+                Held::Fragment(_) => tokenize_in(text, edition).eq(held()),
             };
             if !same {
                 return edition.year().to_string();

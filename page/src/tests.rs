@@ -203,7 +203,7 @@ fn limits() {
     assert_eq!(piece(&more), cut);
     assert_eq!(piece("\t\u{7f}é"), "\\t\\u{7f}é");
     assert_eq!(piece("\0\u{85}\u{a0}"), "\\u{0}\\u{85}\u{a0}");
-    // Lexed tokens are not marked after the highlighted part, either.
+    // Lexed tokens are not highlighted after the highlighted part, either.
     let long = source(&"a".repeat(4102), false);
     let fresh = lines_of(&long, 0..4102, 0..4102, NEWEST)[0].runs.clone();
     let fresh = fresh.iter().map(|run| (run.fresh, run.text.len()));
@@ -277,7 +277,7 @@ fn calls_of_the_page() {
     assert_eq!(answered(crate::years()), "[2015,2018,2021,2024]");
     let shown = answered(crate::show(0, 1, 2, NEWEST));
     ends(&shown, r#""place":"1:3"}"#);
-    // Nothing was kept, so nothing is marked as lexed.
+    // Nothing was kept, so nothing is highlighted as lexed.
     let is_fresh = shown.contains(r#""fresh":true"#) || shown.contains(" fresh");
     assert!(!is_fresh, "{shown}");
     has(
@@ -452,7 +452,7 @@ fn an_edit_of_the_first_token() {
     );
 }
 
-/// Lexed tokens are marked from the first to the last. docs/RELEXING.md says which tokens are kept.
+/// Lexed tokens are highlighted from the first to the last. docs/RELEXING.md says which tokens are kept.
 #[test]
 fn an_edit_that_lexes_three_tokens() {
     let mut source = source("ab cd ef gh", false);
@@ -465,7 +465,7 @@ fn an_edit_that_lexes_three_tokens() {
     assert_eq!(seen.matches(r#""fresh":true"#).count(), 3, "{seen}");
 }
 
-/// For an error inside a literal, only the escape is marked.
+/// For an error inside a literal, only the escape is highlighted.
 #[test]
 fn errors_inside_literals() {
     let source = source(r#""a\q\n""#, false);

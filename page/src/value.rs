@@ -1,6 +1,6 @@
 //! The value of a literal.
 
-use marks::literal_contents;
+use rustc_lexer_highlight::literal_contents;
 use rustc_lexer::TokenKind;
 use rustc_literal_escaper::{
     EscapeError, MixedUnit, Mode, check_raw_byte_str, check_raw_c_str, check_raw_str,

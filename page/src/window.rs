@@ -1,7 +1,7 @@
-//! Highlighted lines of a text: the output of `marks`, parsed into runs of characters with a class.
+//! Highlighted lines of a text: the output of `rustc_lexer_highlight`, parsed into runs of characters with a class.
 
 use crate::source::Source;
-use marks::{Format, write_first_tokens, write_marked};
+use rustc_lexer_highlight::{Format, write_first_tokens, write_highlighted};
 use rustc_lexer::Edition;
 use std::fmt;
 use std::ops::Range;
@@ -15,7 +15,7 @@ const MOST_SAID: usize = 10;
 pub struct Run {
     /// The class, such as `keyword`; empty for plain text.
     pub class: String,
-    /// Whether it is marked as an error.
+    /// Whether it is highlighted as an error.
     pub wrong: bool,
     /// Whether the last edit lexed it.
     pub fresh: bool,
@@ -56,7 +56,7 @@ pub fn lines_of(
         write_first_tokens(Format::Html, year, count, rest, &mut window)
     } else {
         window.at = 0;
-        write_marked(Format::Html, year, source.text(), &mut window)
+        write_highlighted(Format::Html, year, source.text(), &mut window)
     };
     window.lines
 }

@@ -1,7 +1,7 @@
 -- How the pieces of a text are written, one after another.
 use Rattle.std.proofs.{lemmas.Grind.{common_steps}, Common.{◌≡◌, List, ◌∷◌, ◌++◌, ℕ, ap, arith}}
 use Rattle.std.specs.Fmt.{WritesInCalls}
-use Rattle.rustc_lexer.specs.Kept.{Placed}
+use Rattle.rustc_lexer.specs.LexedText.{Placed}
 use Rattle.examples.specs.Repaint.{close_style, open_style, styled}
 
 module _ {W : Type 0} (took : W → List ℕ → W → Type 0) where

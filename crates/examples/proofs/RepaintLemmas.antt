@@ -5,7 +5,7 @@ use Rattle.std.proofs.Common.{IsUtf8, Result, Ok, Err, IfOk, OnOk}
 use Rattle.std.proofs.lemmas.{Grind.{common_steps}, List.{drop-take}}
 use Rattle.rustc_lexer.specs.declared.{relex.relexing.{Change.{Change}, Relexed.{Relexed}}, token.Token.{Token}}
 use Rattle.rustc_lexer.specs.{Tokens.{bound, tokens_by}, Edits.{IsEdit, IsMeeting, IsRelexed, apply, part_by}}
-use Rattle.rustc_lexer.specs.{Kept.{Placed, pieces_from}, Relexing.{IsEditOf}, means.Relexing.{kept_front}}
+use Rattle.rustc_lexer.specs.{LexedText.{Placed, pieces_from}, Relexing.{IsEditOf}, model.Relexing.{kept_front}}
 use Rattle.rustc_lexer.specs.{Locality.{has_two, IsGrammar}, Classes.{IsText}}
 use Rattle.rustc_lexer.proofs.lemmas.edits.FrontAndBack.{edited, has_two-before, bound-take, met_rest, same_rest}
 use Rattle.rustc_lexer.proofs.lemmas.edits.{Bounds.{cuts}, KeptFront.{kept_few, kept_tells}}
@@ -60,10 +60,10 @@ module _ {first : List ℕ → Token} (law : IsGrammar first) (text : List ℕ) 
   kept = kept_front text old start
 
   abbrev change : Change
-  change = record { start = start; old_stop = stop; new_stop = start + length insert }
+  change = record { start = start; old_end = stop; new_end = start + length insert }
 
   of_edit : IsEditOf text change insert new_text
-  of_edit = record { is_text = is; inserted = its; is_edit = edit; made = refl; new_stop = refl }
+  of_edit = record { is_text = is; inserted = its; is_edit = edit; made = refl; new_end = refl }
 
   few : kept ≤ length old
   few = kept_few text old start is.utf8 (cuts law text is)

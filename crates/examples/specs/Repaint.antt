@@ -4,7 +4,7 @@ use Rattle.rustc_lexer.specs.declared.token.TokenKind.{TokenKind}
 use Rattle.rustc_lexer.specs.declared.token.TokenKind.TheVariants.{LineComment, BlockComment, Literal, Lifetime}
 use Rattle.rustc_lexer.specs.declared.token.TokenKind.TheVariants.{RawLifetime, UnknownPrefixLifetime, Unknown}
 use Rattle.rustc_lexer.specs.declared.relex.relexing.Relexed.{Relexed}
-use Rattle.rustc_lexer.specs.Kept.{Placed}
+use Rattle.rustc_lexer.specs.LexedText.{Placed}
 
 -- the pieces of the new text that were lexed
 abbrev pub changed : Relexed → List Placed → List Placed

@@ -2,7 +2,7 @@
 ghost use Rattle.std.specs.Prelude.{◌≡◌, ◌+◌, ◌-◌, OnOk, OnErr, IfOk, length};
 ghost use Rattle.std.specs.Fmt.{WritesInCalls};
 ghost use Rattle.rustc_lexer.specs.Edits.{IsEdit, apply};
-ghost use Rattle.rustc_lexer.specs.Kept.{pieces_from};
+ghost use Rattle.rustc_lexer.specs.LexedText.{pieces_from};
 ghost use Rattle.examples.specs.Repaint.{changed, close_style, open_style, shown_after, styled};
 
 use rustc_lexer::{LexedText, Relexed, Stepper, TokenKind};
@@ -48,7 +48,7 @@ pub fn repaint<S: Stepper, W: fmt::Write>(
         output.new) }
 {
     let back = lexed.tokens().len() - relexed.kept_back;
-    for piece in lexed.pieces_of_tokens(relexed.kept_front, back) {
+    for piece in lexed.pieces_by_index(relexed.kept_front, back) {
         output.write_str(opening(piece.token.kind))?;
         output.write_str(piece.text)?;
         output.write_str(closing(piece.token.kind))?;

@@ -1,8 +1,8 @@
 //! Writes a Rust source in colours, for a terminal or as a web page.
 #![tactic(auto)]
 
-use ends::Watched;
 use highlight_run::program::{Start, program};
+use program_io::Watched;
 use std::env;
 use std::io::IsTerminal;
 use std::process::ExitCode;

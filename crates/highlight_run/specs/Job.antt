@@ -10,8 +10,8 @@ use Rattle.highlight_run.specs.declared.job.Job.TheVariants.{Show, Help, Version
 use Rattle.highlight_run.specs.declared.job.Options.{Options}
 use Rattle.highlight_run.specs.declared.job.When.{When}
 use Rattle.highlight_run.specs.declared.job.When.TheVariants.{Auto, Always, Never}
-use Rattle.marks.specs.declared.format.Format.{Format}
-use Rattle.marks.specs.declared.format.Format.TheVariants.{Html, Colours, NoColours, Raw}
+use Rattle.rustc_lexer_highlight.specs.declared.format.Format.{Format}
+use Rattle.rustc_lexer_highlight.specs.declared.format.Format.TheVariants.{Html, Colours, NoColours, Raw}
 
 -- when colours are written
 abbrev pub when_of : List ℕ → Option When

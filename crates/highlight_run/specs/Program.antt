@@ -10,9 +10,9 @@ use Rattle.std.specs.declared.io.ErrorKind.{ErrorKind}
 use Rattle.std.specs.declared.io.ErrorKind.TheVariants.{InvalidData}
 use Rattle.std.specs.declared.string.String.{String}
 use Rattle.std.specs.declared.vec.IntoIter.{IntoIter}
-use Rattle.ends.specs.Run.{Makes, Writes}
-use Rattle.ends.specs.declared.fault.Fault.{Fault}
-use Rattle.ends.specs.declared.fault.Fault.TheVariants.{Arguments, Memory}
+use Rattle.program_io.specs.Run.{Makes, Writes}
+use Rattle.program_io.specs.declared.fault.Fault.{Fault}
+use Rattle.program_io.specs.declared.fault.Fault.TheVariants.{Arguments, Memory}
 use Rattle.highlight_run.specs.declared.job.Job.{Job}
 use Rattle.highlight_run.specs.declared.job.Job.TheVariants.{Show, Help, Version}
 use Rattle.highlight_run.specs.declared.program.TheConstants.{HELP, TAKEN, VERSION}

@@ -1,4 +1,4 @@
--- What the fixed texts of the program have: the page around a marked text, and the usage.
+-- What the fixed texts of the program have: the page around a highlighted text, and the usage.
 use Rattle.std.specs.Prelude.{◌≡◌, ℕ, nat_eq, Bool, true, false, ◌||◌, List, [], ◌∷◌, codes}
 use Rattle.std.specs.List.{ends_with, list_all, starts_with}
 

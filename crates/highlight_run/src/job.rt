@@ -2,8 +2,8 @@
 ghost use Rattle.std.specs.Prelude.{◌≡◌, None, map, string_bytes, IfErr, IfOk, Ok, Err};
 ghost use Rattle.highlight_run.specs.Job.{format_of, in_edition, in_form, job_alone, job_of, options_of, when_of, with_colours, with_value, with_word};
 
-use marks::Format;
 use rustc_lexer::Edition;
+use rustc_lexer_highlight::Format;
 use std::str::FromStr;
 
 /// What a run has to do.

@@ -7,5 +7,5 @@ mod page;
 pub mod program;
 pub mod run;
 
-pub use ends::Fault;
 pub use job::{Job, read_job};
+pub use program_io::Fault;

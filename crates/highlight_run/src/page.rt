@@ -1,11 +1,11 @@
-//! The web page around a marked text.
+//! The web page around a highlighted text.
 ghost use Rattle.std.specs.Prelude.{◌≡◌, OnOk};
 ghost use Rattle.std.specs.Fmt.{WritesInCalls};
 ghost use Rattle.rustc_lexer.specs.Classes.{Fits};
 ghost use Rattle.highlight_run.specs.Page.{foot, head, printed};
 
-use marks::{Format, write_marked};
 use rustc_lexer::Edition;
+use rustc_lexer_highlight::{Format, write_highlighted};
 use std::fmt;
 
 /// The page before the text. A browser drops a newline right after `<pre>`, so there is one.
@@ -51,7 +51,7 @@ const FOOT: &str = "</pre>
 </html>
 ";
 
-/// Writes a whole marked text, inside a page if the format is HTML.
+/// Writes a whole highlighted text, inside a page if the format is HTML.
 pub fn write_text<W: fmt::Write>(
     format: Format,
     edition: Edition,
@@ -63,7 +63,7 @@ pub fn write_text<W: fmt::Write>(
         (printed format edition text.now) output.new) }
 {
     output.write_str(head(format))?;
-    write_marked(format, edition, text, output)?;
+    write_highlighted(format, edition, text, output)?;
     output.write_str(foot(format))
 }
 

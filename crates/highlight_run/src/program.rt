@@ -1,18 +1,18 @@
 //! The whole program, for any reader and writers.
 ghost use Rattle.std.specs.Prelude.{◌≡◌, [], false, List, ℕ, codes, string_bytes, Result};
-ghost use Rattle.ends.specs.Fault.{fault_line, IsReported};
-ghost use Rattle.ends.specs.Run.{Leaves};
-ghost use Rattle.ends.specs.Watch.{has_failed, is_closed};
-ghost use Rattle.ends.specs.declared.fault.Fault.{Fault as TheFault};
+ghost use Rattle.program_io.specs.Fault.{fault_line, IsReported};
+ghost use Rattle.program_io.specs.Run.{Leaves};
+ghost use Rattle.program_io.specs.Watch.{has_failed, is_closed};
+ghost use Rattle.program_io.specs.declared.fault.Fault.{Fault as TheFault};
 ghost use Rattle.highlight_run.specs.Page.{foot, head};
 ghost use Rattle.highlight_run.specs.Program.{asked, colours_of, is_dumb, is_unset, Ran};
 ghost use Rattle.highlight_run.specs.Texts.{IsFrame, NamesArguments};
 ghost use Rattle.highlight_run.specs.declared.program.TheConstants.{HELP};
-ghost use Rattle.marks.specs.declared.format.Format.TheVariants.{Html};
+ghost use Rattle.rustc_lexer_highlight.specs.declared.format.Format.TheVariants.{Html};
 
 use crate::job::{Job, read_job};
 use crate::run::run;
-use ends::{Fault, Watched, past_name, put, report};
+use program_io::{Fault, Watched, past_name, put, report};
 use std::alloc::Global;
 use std::env::{Args, VarError};
 use std::io::{ErrorKind, Read, Write};

@@ -1,19 +1,19 @@
 //! A whole run, from a reader to a writer.
 ghost use Rattle.std.specs.Prelude.{◌≡◌, false, IfOk, string_bytes};
 ghost use Rattle.rustc_lexer.specs.Classes.{Fits};
-ghost use Rattle.ends.specs.Run.{Leaves, Makes};
-ghost use Rattle.ends.specs.Watch.{has_failed};
+ghost use Rattle.program_io.specs.Run.{Leaves, Makes};
+ghost use Rattle.program_io.specs.Watch.{has_failed};
 ghost use Rattle.highlight_run.specs.Page.{printed};
 
 use crate::page::write_text;
-use ends::{Fault, Watched, put, read_text};
-use marks::Format;
+use program_io::{Fault, Watched, put, read_text};
 use rustc_lexer::Edition;
+use rustc_lexer_highlight::Format;
 use std::alloc::Global;
 use std::fmt;
 use std::io::{Read, Write};
 
-/// Reads all of the input, then writes it with its tokens marked.
+/// Reads all of the input, then writes it with its tokens highlighted.
 ///
 /// `Ok` means that the output was flushed last.
 ///
@@ -27,7 +27,7 @@ use std::io::{Read, Write};
 /// - `Fault::NotUtf8`: it is not UTF-8.
 /// - `Fault::Memory`: an allocation failed.
 /// - `Fault::Write`: a write or the flush failed. A beginning of the output was written.
-#[tactic(auto, using(ends::proofs::RunLemmas::makes_unread, ends::proofs::RunLemmas::makes_written))]
+#[tactic(auto, using(program_io::proofs::RunLemmas::makes_unread, program_io::proofs::RunLemmas::makes_written))]
 pub fn run<R: Read, W: Write>(
     alloc: Global,
     format: Format,

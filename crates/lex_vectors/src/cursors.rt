@@ -26,8 +26,8 @@ const END: Call = Advance((Eof, 0));
 macro_rules! calls {
     ($($([$($part:literal $(* $times:literal)?),+])? $($text:literal)? => $($call:expr),+;)*) => {
         &[$(
-            $($(Entry::Part($part, 1 $(* $times)?),)+)?
-            $(Entry::Part($text, 1),)?
+            $($(Entry::Fragment($part, 1 $(* $times)?),)+)?
+            $(Entry::Fragment($text, 1),)?
             $(Entry::End(Some($call)),)+
             Entry::End(None),
         )*]

@@ -1,9 +1,9 @@
-//! Whole documents that are kept with their tokens.
+//! Document documents that are kept with their tokens.
 use crate::edits::{EditRow, Keeps, is_edited, is_listed, lexed_by};
 use crate::steppers::{Characters, Counting};
 use crate::tables::documents::{FRONTS, HEADS, KEPT, SPACED};
 use rustc_lexer::{
-    Edit, EditStop, LexedDocument, Relexed, Stepper, Stopped, Token, TokenStart, fits,
+    Edit, EditSequenceError, EditStop, LexedDocument, Relexed, Stepper, Token, TokenStart, fits,
 };
 use std::alloc::{AllocError, Global};
 
@@ -27,8 +27,8 @@ impl<S: Stepper> Keeps for LexedDocument<S> {
         self.edit_all(edits)
     }
 
-    fn try_each(&mut self, edits: &[Edit<'_>]) -> Result<Relexed, Stopped> {
-        self.edit_each(edits)
+    fn try_each(&mut self, edits: &[Edit<'_>]) -> Result<Relexed, EditSequenceError> {
+        self.edit_sequence(edits)
     }
 }
 

@@ -4,7 +4,9 @@ use crate::rows::Made;
 use crate::steppers::{Characters, Counting};
 use crate::tables::edits::{CHARACTERS, LONG, Role, SHORT};
 use crate::tables::row::Entry;
-use rustc_lexer::{Edit, EditStop, Edition, LexedText, Relexed, Stepper, Stopped, Token, fits};
+use rustc_lexer::{
+    Edit, EditSequenceError, EditStop, Edition, LexedText, Relexed, Stepper, Token, fits,
+};
 use std::alloc::{AllocError, Global};
 
 /// An edit and its counts, or no counts if it is refused.
@@ -85,7 +87,7 @@ pub trait Keeps {
 
     fn try_edits(&mut self, edits: &[Edit<'_>]) -> Result<(), EditStop>;
 
-    fn try_each(&mut self, edits: &[Edit<'_>]) -> Result<Relexed, Stopped>;
+    fn try_each(&mut self, edits: &[Edit<'_>]) -> Result<Relexed, EditSequenceError>;
 }
 
 impl<S: Stepper> Keeps for LexedText<S> {
@@ -108,8 +110,8 @@ impl<S: Stepper> Keeps for LexedText<S> {
         self.edit_all(edits)
     }
 
-    fn try_each(&mut self, edits: &[Edit<'_>]) -> Result<Relexed, Stopped> {
-        self.edit_each(edits)
+    fn try_each(&mut self, edits: &[Edit<'_>]) -> Result<Relexed, EditSequenceError> {
+        self.edit_sequence(edits)
     }
 }
 

@@ -1,5 +1,5 @@
 //! Texts that are made of pieces.
-use rustc_lexer::{Edition, JoinError, JoinedText, fits, is_seam};
+use rustc_lexer::{Edition, JoinError, JoinedText, fits, is_token_boundary};
 
 /// What is done with a text, and what comes of it.
 #[derive(Clone, Copy)]
@@ -82,7 +82,7 @@ fn rows(rt: HostRuntime) {
 
 /// Whether both parts keep their tokens.
 fn touch(text: &str, at: usize, edition: Edition) -> bool {
-    fits(text) && text.is_char_boundary(at) && is_seam(text, at, edition)
+    fits(text) && text.is_char_boundary(at) && is_token_boundary(text, at, edition)
 }
 
 #[test]

@@ -34,7 +34,7 @@ impl Made {
     /// Adds an entry. Returns what the text is for, if the entry ends it. The next part or token begins a new one.
     pub fn add<M: Copy>(&mut self, entry: &Entry<M>) -> Result<Option<M>, AllocError> {
         match *entry {
-            Entry::Part(part, times) => {
+            Entry::Fragment(part, times) => {
                 self.begin_if_whole();
                 self.repeat(part, times)?;
             }
@@ -95,7 +95,7 @@ fn lex<'a>(text: &'a str, way: Way) -> Tokens<'a>
 {
     match way {
         Way::Newest(allowed) => tokenize(text, allowed),
-        Way::Part(edition) => tokenize_in(text, edition),
+        Way::Fragment(edition) => tokenize_in(text, edition),
         Way::Document(edition) => tokenize_as(text, FrontmatterAllowed::Yes, edition),
     }
 }

@@ -3,8 +3,8 @@ use Rattle.std.proofs.Common.{◌≡◌, ℕ, zero, suc, ◌+◌, ◌-◌, ◌<�
 use Rattle.std.proofs.Common.{ap, ◌∙◌, arith, append_assoc, length-drop, length-take-le, subst}
 use Rattle.std.proofs.{Math.Nat.{min-le_right}, lemmas.{Grind.{common_steps}, List.{nil_from_length}}}
 use Rattle.std.specs.Str.{IsUtf8}
-use Rattle.rustc_lexer.specs.{declared.token.Token.{Token}, Kept.{Placed, pieces_from}, LanguageText.{Mode}}
-use Rattle.rustc_lexer.specs.{State.{State}, Tokens.{bound, tokens_left, tokens_of}, means.Tokens.{IsFilled}}
+use Rattle.rustc_lexer.specs.{declared.token.Token.{Token}, LexedText.{Placed, pieces_from}, LanguageText.{Mode}}
+use Rattle.rustc_lexer.specs.{State.{State}, Tokens.{bound, tokens_left, tokens_of}, model.Tokens.{IsFilled}}
 use Rattle.rustc_lexer.specs.laws.Tokens.{partitions, tokens-nil}
 use Rattle.rustc_lexer.proofs.lemmas.edits.{Bounds.{bound_mono}, FrontAndBack.{bound-take}}
 use Rattle.rustc_lexer.proofs.lemmas.edits.ManyTokens.{IsFront, front_of}

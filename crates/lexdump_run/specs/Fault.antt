@@ -1,6 +1,6 @@
 -- The faults of edits.
-use Rattle.ends.specs.declared.fault.Fault.{Fault}
-use Rattle.ends.specs.declared.fault.Fault.TheVariants.{EditRange, EditTooLong, Memory}
+use Rattle.program_io.specs.declared.fault.Fault.{Fault}
+use Rattle.program_io.specs.declared.fault.Fault.TheVariants.{EditRange, EditTooLong, Memory}
 use Rattle.rustc_lexer.specs.declared.relex.edit_list.EditStop.{EditStop}
 use Rattle.rustc_lexer.specs.declared.relex.edit_list.EditStop.TheVariants.{Range as RangeStop, TooLong as TooLongStop}
 use Rattle.rustc_lexer.specs.declared.relex.edit_list.EditStop.TheVariants.{Memory as MemoryStop}

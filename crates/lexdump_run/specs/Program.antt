@@ -1,7 +1,7 @@
 -- The outcome of the program, by its arguments and the bytes that it reads.
 use Rattle.std.specs.Prelude.{ℕ, ◌≡◌, List, Option, Result, IfSome}
-use Rattle.ends.specs.Run.{RanBy}
-use Rattle.ends.specs.declared.fault.Fault.{Fault}
+use Rattle.program_io.specs.Run.{RanBy}
+use Rattle.program_io.specs.declared.fault.Fault.{Fault}
 use Rattle.lexdump_run.specs.declared.job.Job.{Job}
 use Rattle.lexdump_run.specs.Job.{Command, command_of, job_of}
 use Rattle.lexdump_run.specs.Outcome.{Ends}

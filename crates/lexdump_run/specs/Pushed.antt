@@ -1,9 +1,9 @@
 -- The effect of writing bytes through a writer that may hold some back.
 use Rattle.std.specs.Prelude.{ℕ, ◌≡◌, ◌||◌, List, ◌++◌, take, Option, Result, Ok, Err, is_err, IfErr, OnErr, OnOk}
-use Rattle.ends.specs.Known.{AppendsFront, Went}
-use Rattle.ends.specs.Watch.{has_failed}
-use Rattle.ends.specs.declared.fault.Fault.{Fault}
-use Rattle.ends.specs.declared.fault.Fault.TheVariants.{Write}
+use Rattle.program_io.specs.Known.{AppendsFront, Went}
+use Rattle.program_io.specs.Watch.{has_failed}
+use Rattle.program_io.specs.declared.fault.Fault.{Fault}
+use Rattle.program_io.specs.declared.fault.Fault.TheVariants.{Write}
 use Rattle.lexdump_run.specs.declared.job.Job.{Job}
 use Rattle.lexdump_run.specs.declared.output.BlockWriter.{BlockWriter}
 use Rattle.lexdump_run.specs.Outcome.{edits_of, IsPrinted, IsRefused}

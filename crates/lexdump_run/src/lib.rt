@@ -8,7 +8,7 @@ mod output;
 pub mod program;
 mod run_job;
 
-pub use ends::{Fault, Watched, status};
 pub use job::{Job, read_job};
 pub use listing::write_listing;
+pub use program_io::{Fault, Watched, status};
 pub use run_job::run;

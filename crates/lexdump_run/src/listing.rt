@@ -1,8 +1,8 @@
 //! The listing: one line per token, with its start, its length, its kind and the kind's fields.
 ghost use Rattle.std.specs.Prelude.{◌≡◌, ◌+◌, ◌^◌, ◌<◌, Ok, false, true, is_err, length, IfErr, IfOk, OnErr, OnOk};
 ghost use Rattle.std.specs.Io.KnownBytes.{Appends};
-ghost use Rattle.ends.specs.Known.{AppendsFront};
-ghost use Rattle.ends.specs.Watch.{has_failed};
+ghost use Rattle.program_io.specs.Known.{AppendsFront};
+ghost use Rattle.program_io.specs.Watch.{has_failed};
 ghost use Rattle.lexdump_run.specs.Listing.{base_text, bool_text, field, fields_text, hashes_text, line_text, listing, listing_from, literal_fields, literal_text, place_text, shebang_line, style_text};
 ghost use Rattle.lexdump_run.specs.Pushed.{Pushes};
 ghost use Rattle.lexdump_run.specs.Fault.{stop_fault};
@@ -14,8 +14,8 @@ ghost use Rattle.rustc_lexer.specs.Answers.{shebang};
 ghost use Rattle.rustc_lexer.specs.Tokens.{bound, tokens_of};
 
 use crate::output::BlockWriter;
-use ends::{Fault, Watched};
 use itoa::{Buffer, write_digits};
+use program_io::{Fault, Watched};
 use rustc_lexer::{
     Base, DocStyle, Edit, EditStop, Edition, FrontmatterAllowed, LexedText, LiteralKind, Stepper,
     Steps, Token, TokenKind, strip_shebang, tokenize_as,

@@ -1,15 +1,15 @@
 //! The whole program, for any reader and writers.
 ghost use Rattle.std.specs.Prelude.{◌≡◌, false, codes, Result};
-ghost use Rattle.ends.specs.Fault.{fault_line, IsReported};
-ghost use Rattle.ends.specs.Run.{Leaves};
-ghost use Rattle.ends.specs.Watch.{has_failed};
-ghost use Rattle.ends.specs.Words.{words_of};
-ghost use Rattle.ends.specs.declared.fault.Fault.{Fault as TheFault};
+ghost use Rattle.program_io.specs.Fault.{fault_line, IsReported};
+ghost use Rattle.program_io.specs.Run.{Leaves};
+ghost use Rattle.program_io.specs.Watch.{has_failed};
+ghost use Rattle.program_io.specs.Words.{words_of};
+ghost use Rattle.program_io.specs.declared.fault.Fault.{Fault as TheFault};
 ghost use Rattle.lexdump_run.specs.Program.{Ran};
 
 use crate::job::read_job;
 use crate::run_job::run;
-use ends::{Fault, Watched, given_words, report};
+use program_io::{Fault, Watched, given_words, report};
 use std::alloc::Global;
 use std::env::Args;
 use std::io::{Read, Write};

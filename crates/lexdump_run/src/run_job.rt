@@ -1,7 +1,7 @@
 //! A whole run, from a reader to a writer.
 ghost use Rattle.std.specs.Prelude.{◌≡◌, false, IfSome};
-ghost use Rattle.ends.specs.Run.{Leaves};
-ghost use Rattle.ends.specs.Watch.{has_failed};
+ghost use Rattle.program_io.specs.Run.{Leaves};
+ghost use Rattle.program_io.specs.Watch.{has_failed};
 ghost use Rattle.rustc_lexer.specs.Classes.{Fits};
 ghost use Rattle.lexdump_run.specs.Outcome.{Ends};
 ghost use Rattle.lexdump_run.specs.Pushed.{Lists};
@@ -9,7 +9,7 @@ ghost use Rattle.lexdump_run.specs.Pushed.{Lists};
 use crate::job::Job;
 use crate::listing::{edited, list_pieces, list_tokens, tell_shebang};
 use crate::output::BlockWriter;
-use ends::{Fault, Watched, read_text};
+use program_io::{Fault, Watched, read_text};
 use rustc_lexer::{Edition, FrontmatterAllowed};
 use std::alloc::Global;
 use std::io::{Read, Write};

@@ -10,12 +10,12 @@ use Rattle.rustc_lexer.specs.LanguageText.{newest, source}
 use Rattle.rustc_lexer.specs.Partition.{Layout, bound, tokens_by, tokens_in}
 
 -- the length of the byte order mark, U+FEFF, at the start of a text, or 0
-abbrev pub mark_len : List ℕ → ℕ
-mark_len text = if slice_index (chars text) 0 == 0xFEFF then 3 else 0
+abbrev pub byte_order_mark_len : List ℕ → ℕ
+byte_order_mark_len text = if slice_index (chars text) 0 == 0xFEFF then 3 else 0
 
 -- the offset of the first token of a document: only a byte order mark and a shebang line come before it
 abbrev pub tokens_start : List ℕ → ℕ
-tokens_start text = mark_len text + unwrap_or (shebang (drop (mark_len text) text)) 0
+tokens_start text = byte_order_mark_len text + unwrap_or (shebang (drop (byte_order_mark_len text) text)) 0
 
 -- the tokens of a document in an edition
 abbrev pub document_tokens : Edition → List ℕ → List Token

@@ -50,30 +50,30 @@ KeepsHead old new start = (body_in old ≤ start) × (old.start ≡ new.start) �
 
 -- new and old tokens meet: boundary `number` of the new tokens matches a boundary of the old
 -- tokens, and `back` old tokens follow. Both boundaries are in the body. The new one is at or after
--- `new_stop`, the end of the inserted text, and as far from it as the old one is from `old_stop`,
+-- `new_end`, the end of the inserted text, and as far from it as the old one is from `old_end`,
 -- the end of the removed text
-pub record IsMeeting (old new : Layout) (old_stop new_stop number back : ℕ) : Type 0 where
+pub record IsMeeting (old new : Layout) (old_end new_end number back : ℕ) : Type 0 where
   pub number_inside : number ≤ length (tokens_in new)
-  pub past_edit : new_stop ≤ offset_in new number
+  pub past_edit : new_end ≤ offset_in new number
   pub past_head : length new.head ≤ number
   pub old_number : ℕ
   pub past_old_head : length old.head ≤ old_number
   pub back_is : old_number + back ≡ length (tokens_in old)
-  pub same_offset : offset_in new number + old_stop ≡ offset_in old old_number + new_stop
+  pub same_offset : offset_in new number + old_end ≡ offset_in old old_number + new_end
 
 -- the counts of an edit. If it keeps the head, it keeps in front the tokens of the head, and the
 -- tokens of the body that end at least two characters before the edit. Otherwise it keeps none in
 -- front. The tokens after that are new, up to the first boundary where new and old tokens meet. The
 -- old tokens after that boundary are kept
-pub record IsRelexedTo (old new : Layout) (text : List ℕ) (start stop new_stop : ℕ) (r : Relexed) :
+pub record IsRelexedTo (old new : Layout) (text : List ℕ) (start stop new_end : ℕ) (r : Relexed) :
     Type 0 where
   pub kept : KeepsHead old new start
       → r.kept_front ≡ length old.head + count_by (λ end. has_two text end start)
       (ends_from (body_in old) old.body)
   pub changed : (KeepsHead old new start → ⊥) → r.kept_front ≡ 0
-  pub meeting : IsMeeting old new stop new_stop (r.kept_front + r.lexed) r.kept_back
+  pub meeting : IsMeeting old new stop new_end (r.kept_front + r.lexed) r.kept_back
   pub none_before : (number back : ℕ) → r.kept_front ≤ number → number < r.kept_front + r.lexed
-      → IsMeeting old new stop new_stop number back → ⊥
+      → IsMeeting old new stop new_end number back → ⊥
 
 abbrev pub IsRelexed : (List ℕ → Layout) → List ℕ → ℕ → ℕ → List ℕ → Relexed → Type 0
 IsRelexed layout text start stop insert =

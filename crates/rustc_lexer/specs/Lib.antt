@@ -8,7 +8,7 @@ pub mod Edits
 pub mod FrontmatterGrammar
 pub mod GrammarLaws
 pub mod Joined
-pub mod Kept
+pub mod LexedText
 pub mod Kinds
 pub mod Language
 pub mod LanguageCalls
@@ -23,7 +23,7 @@ pub mod State
 pub mod Tables
 pub mod Tokens
 pub mod laws
-pub mod means
+pub mod model
 pub use declared.edition.Edition.{Edition}
 pub use declared.edition.Edition.TheVariants.*
 pub use declared.token.{Base.Base, DocStyle.DocStyle, FrontmatterAllowed.FrontmatterAllowed, GuardedStr.GuardedStr}

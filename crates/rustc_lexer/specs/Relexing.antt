@@ -17,17 +17,17 @@ use Rattle.rustc_lexer.specs.Partition.{bound, tokens_by}
 -- the change can have resulted in the text: the inserted range is inside the text, on character
 -- boundaries, and the old offsets are in order and below 2 ^ 32
 pub record IsChange (text : List ℕ) (change : Change) : Type 0 where
-  pub inserted : IsInside text change.start change.new_stop
-  pub start_le_old : change.start ≤ change.old_stop
-  pub old_short : change.old_stop < 2 ^ 32
+  pub inserted : IsInside text change.start change.new_end
+  pub start_le_old : change.start ≤ change.old_end
+  pub old_short : change.old_end < 2 ^ 32
 
 -- the edit is valid for the text `before`, and resulted in `text` by inserting `insert`
 pub record IsEditOf (before : List ℕ) (edit : Change) (insert text : List ℕ) : Type 0 where
   pub is_text : IsText before
   pub inserted : IsUtf8 insert
-  pub is_edit : IsEdit before edit.start edit.old_stop insert
-  pub made : text ≡ apply before edit.start edit.old_stop insert
-  pub new_stop : edit.new_stop ≡ edit.start + length insert
+  pub is_edit : IsEdit before edit.start edit.old_end insert
+  pub made : text ≡ apply before edit.start edit.old_end insert
+  pub new_end : edit.new_end ≡ edit.start + length insert
 
 -- the same, and `lengths` are the lengths of the tokens of the text `before`
 pub record IsMadeOf (first : List ℕ → Token) (before lengths : List ℕ) (edit : Change)
@@ -48,7 +48,7 @@ abbrev pub known : Relexing → ℕ
 known at = at.front.index + at.lexed
 
 -- relexing can go on from these numbers
-pub record MayGoOn (text : List ℕ) (count : ℕ) (at : Relexing) : Type 0 where
+pub record CanContinue (text : List ℕ) (count : ℕ) (at : Relexing) : Type 0 where
   pub boundary : IsCharBoundary text at.at
   pub number : at.back.index ≤ count
   pub order : at.front.index ≤ at.back.index
@@ -56,8 +56,8 @@ pub record MayGoOn (text : List ℕ) (count : ℕ) (at : Relexing) : Type 0 wher
   pub few : at.lexed ≤ at.at
 
 -- relexing is over: the old tokens are met, or no text is left
-abbrev pub is_over : List ℕ → Relexing → Bool
-is_over text at = at.met || nat_eq at.at (length text)
+abbrev pub is_done : List ℕ → Relexing → Bool
+is_done text at = at.met || nat_eq at.at (length text)
 
 -- the effect of `count` calls of `next`, if relexing is not over before any of them. They lex the
 -- first `count` tokens of the text that is left. Before `past`, where the edit ends, they do not
@@ -87,17 +87,17 @@ pub record IsUnderWay (first : List ℕ → Token) (old : List ℕ) (change : Ch
   pub inside : known at ≤ length (tokens_by first text)
   pub offset : at.at ≡ bound (tokens_by first text) (known at)
   pub none_before : (number back : ℕ) → at.front.index ≤ number → number < known at
-      → IsMeeting (part_by first old) (part_by first text) change.old_stop change.new_stop number
+      → IsMeeting (part_by first old) (part_by first text) change.old_end change.new_end number
       back → ⊥
   pub met : (at.met ≡ true)
-      ↔ ((back : ℕ) × IsMeeting (part_by first old) (part_by first text) change.old_stop
-      change.new_stop (known at) back)
+      ↔ ((back : ℕ) × IsMeeting (part_by first old) (part_by first text) change.old_end
+      change.new_end (known at) back)
   pub back_bound : IsBound (tokens_by first old) at.back
-  pub not_begun : at.at < change.new_stop → at.back ≡ at.front
-  pub passed : (k : ℕ) → k < at.back.index → bound (tokens_by first old) k + change.new_stop
-      < max change.new_stop at.at + change.old_stop
-  pub reached : change.new_stop ≤ at.at → at.back.index < length (tokens_by first old)
-      → at.at + change.old_stop ≤ at.back.offset + change.new_stop
+  pub not_begun : at.at < change.new_end → at.back ≡ at.front
+  pub passed : (k : ℕ) → k < at.back.index → bound (tokens_by first old) k + change.new_end
+      < max change.new_end at.at + change.old_end
+  pub reached : change.new_end ≤ at.at → at.back.index < length (tokens_by first old)
+      → at.at + change.old_end ≤ at.back.offset + change.new_end
 
 -- for each old text whose tokens have these lengths, and from which the change made this text: the
 -- invariant is preserved, and the text that was left had exactly the tokens that were still to come
@@ -139,12 +139,12 @@ pub record IsHeadOf (text : List ℕ) (head : Head) : Type 0 where
 -- after the edit at which both bodies have started
 abbrev pub IsInBody : Bool → ℕ → ℕ → Change → Change → Type 0
 IsInBody true from to edit change =
-    (edit.start ≡ from + change.start) × (edit.old_stop ≡ from + change.old_stop)
-    × (edit.new_stop ≡ from + change.new_stop)
+    (edit.start ≡ from + change.start) × (edit.old_end ≡ from + change.old_end)
+    × (edit.new_end ≡ from + change.new_end)
 IsInBody false from to edit change =
-    (more : ℕ) × (change.start ≡ 0) × (edit.old_stop + more ≡ from + change.old_stop)
-    × (edit.new_stop + more ≡ to + change.new_stop)
-    × ((n : ℕ) → from ≤ edit.old_stop + n → to ≤ edit.new_stop + n → more ≤ n)
+    (more : ℕ) × (change.start ≡ 0) × (edit.old_end + more ≡ from + change.old_end)
+    × (edit.new_end + more ≡ to + change.new_end)
+    × ((n : ℕ) → from ≤ edit.old_end + n → to ≤ edit.new_end + n → more ≤ n)
 
 -- the change of the body, which made the current body from the old one. `kept` says whether the edit
 -- keeps the head. The counts of the document follow from those of the body: the tokens of a head that
@@ -158,17 +158,17 @@ pub record IsBodyChange (first : List ℕ → Token) (before : List ℕ) (edit :
       IsMadeOf first body (map (λ (t : Token). t.len) (tokens_by first body)) change put
       (drop (body_start text) text)
   pub counts_kept : kept ≡ true → (r : Relexed)
-      → IsRelexed (part_by first) (drop (body_start before) before) change.start change.old_stop put
+      → IsRelexed (part_by first) (drop (body_start before) before) change.start change.old_end put
       r
-      → IsRelexed (whole_by first) before edit.start edit.old_stop insert (record {
+      → IsRelexed (whole_by first) before edit.start edit.old_end insert (record {
         kept_front = length (head_tokens before) + r.kept_front;
         lexed = r.lexed;
         kept_back = r.kept_back;
       })
   pub counts_new : kept ≡ false → (r : Relexed)
-      → IsRelexed (part_by first) (drop (body_start before) before) change.start change.old_stop put
+      → IsRelexed (part_by first) (drop (body_start before) before) change.start change.old_end put
       r
-      → IsRelexed (whole_by first) before edit.start edit.old_stop insert (record {
+      → IsRelexed (whole_by first) before edit.start edit.old_end insert (record {
         kept_front = r.kept_front;
         lexed = length (head_tokens text) + r.lexed;
         kept_back = r.kept_back;

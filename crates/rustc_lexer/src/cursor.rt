@@ -42,7 +42,7 @@ pub struct Cursor<'a> {
 
 impl<'a> Model for Cursor<'a> {
     ghost use Rattle.rustc_lexer.specs.State.{State};
-    ghost use Rattle.rustc_lexer.specs.means.Taking.{IsCursor};
+    ghost use Rattle.rustc_lexer.specs.model.Taking.{IsCursor};
 
     ghost Value = { State };
 

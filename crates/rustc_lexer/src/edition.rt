@@ -7,9 +7,9 @@ ghost use Rattle.rustc_lexer.specs.{E2018};
 ghost use Rattle.rustc_lexer.specs.Classes.{Fits, is_id_continue, is_word_continue};
 ghost use Rattle.rustc_lexer.specs.LanguageCalls.{edition_of, edition_of_year};
 ghost use Rattle.rustc_lexer.specs.LanguageText.{year};
-ghost use Rattle.rustc_lexer.specs.means.Edition as spec;
-ghost use Rattle.rustc_lexer.specs.means.Quick.{BeginsWithNoHash};
-ghost use Rattle.rustc_lexer.specs.means.Scan.{run_len};
+ghost use Rattle.rustc_lexer.specs.model.Edition as spec;
+ghost use Rattle.rustc_lexer.specs.model.Quick.{BeginsWithNoHash};
+ghost use Rattle.rustc_lexer.specs.model.Scan.{run_len};
 
 use crate::classes::emoji::is_emoji;
 use crate::lexemes::choose_token;

@@ -117,7 +117,7 @@ impl<'a> Model for Tokens<'a> {
     ghost use Rattle.std.specs.Prelude.{drop};
     ghost use Rattle.rustc_lexer.specs.LanguageText.{mode_in};
     ghost use Rattle.rustc_lexer.specs.State.{State};
-    ghost use Rattle.rustc_lexer.specs.means.Ends.{KnowsAhead};
+    ghost use Rattle.rustc_lexer.specs.model.Ends.{KnowsAhead};
 
     ghost Value = { State };
 

@@ -6,11 +6,11 @@ ghost use Rattle.rustc_lexer.specs.Classes;
 ghost use Rattle.rustc_lexer.specs.Classes.{Fits, begins, is_among, next_is};
 ghost use Rattle.rustc_lexer.specs.FrontmatterGrammar.{fence};
 ghost use Rattle.rustc_lexer.specs.LanguageText.{mode_in, source};
-ghost use Rattle.rustc_lexer.specs.means.Edition.{first_token_in};
-ghost use Rattle.rustc_lexer.specs.means.Frontmatter as spec;
-ghost use Rattle.rustc_lexer.specs.means.Least as least;
-ghost use Rattle.rustc_lexer.specs.means.Scan.{past, run_len};
-ghost use Rattle.rustc_lexer.specs.means.Taking as state;
+ghost use Rattle.rustc_lexer.specs.model.Edition.{first_token_in};
+ghost use Rattle.rustc_lexer.specs.model.Frontmatter as spec;
+ghost use Rattle.rustc_lexer.specs.model.Least as least;
+ghost use Rattle.rustc_lexer.specs.model.Scan.{past, run_len};
+ghost use Rattle.rustc_lexer.specs.model.Taking as state;
 
 use crate::classes::{is_horizontal_whitespace, is_id_continue, is_id_start, is_whitespace};
 use crate::edition::{Edition, token_in};

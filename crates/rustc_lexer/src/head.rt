@@ -2,9 +2,9 @@
 ghost use Rattle.std.specs.Prelude.{◌≡◌, ◌++◌, Bool, OnOk, false, length, true};
 ghost use Rattle.std.specs.Str.{IsCharBoundary};
 ghost use Rattle.rustc_lexer.specs.Classes.{Fits};
-ghost use Rattle.rustc_lexer.specs.Kept.{layout_in};
+ghost use Rattle.rustc_lexer.specs.LexedText.{layout_in};
 ghost use Rattle.rustc_lexer.specs.Relexing as spec;
-ghost use Rattle.rustc_lexer.specs.means.Document as means;
+ghost use Rattle.rustc_lexer.specs.model.Document as model;
 
 use crate::frontmatter::frontmatter;
 use crate::scan::eat_whitespace;
@@ -22,12 +22,12 @@ use std::alloc::AllocError;
 ///
 /// let (old, new) = ("#!/bin/sh\nlet a;", "#!/bin/sh\nlet ab;");
 /// // A `b` was inserted at 15.
-/// let change = Change { start: 15, old_stop: 15, new_stop: 16 };
+/// let change = Change { start: 15, old_end: 15, new_end: 16 };
 /// let (head, now) = (Head::find(old), Head::find(new));
 /// let body = head.change_to(now, change);
 /// assert!(body.keeps_head);
 /// assert_eq!(&new[now.body..], "\nlet ab;");
-/// assert_eq!(body.change, Change { start: 6, old_stop: 6, new_stop: 7 });
+/// assert_eq!(body.change, Change { start: 6, old_end: 6, new_end: 7 });
 /// ```
 #[derive(Clone, Copy, Debug, PartialEq, Eq)]
 pub struct Head {
@@ -49,15 +49,15 @@ pub trait Extent: Copy {
     /// Finds the head of a text.
     fn find_head(text: &str) -> Head
         requires fits { Fits text.now }
-        ensures head { means.IsHeadIn (layout_in whole) text.now result }
+        ensures head { model.IsHeadIn (layout_in whole) text.now result }
         ensures boundary { IsCharBoundary text.now result.body };
 }
 
 /// A whole document.
 #[derive(Clone, Copy)]
-pub struct Whole;
+pub struct Document;
 
-impl Extent for Whole {
+impl Extent for Document {
     ghost whole = { true };
 
     fn find_head(text: &str) -> Head {
@@ -94,9 +94,9 @@ impl Extent for Whole {
 
 /// A part of a document.
 #[derive(Clone, Copy)]
-pub struct Part;
+pub struct Fragment;
 
-impl Extent for Part {
+impl Extent for Fragment {
     ghost whole = { false };
 
     fn find_head(_text: &str) -> Head {
@@ -117,7 +117,7 @@ impl Head {
         ensures head { spec.IsHeadOf text.now result }
         ensures boundary { IsCharBoundary text.now result.body }
     {
-        Whole::find_head(text)
+        Document::find_head(text)
     }
 
     /// Returns how many tokens the head has.

@@ -4,11 +4,11 @@ ghost use Rattle.std.specs.Prelude.{◌≡◌, ◌+◌, ◌-◌, ◌^◌, ◌≤
 ghost use Rattle.std.specs.List.{prefix_len};
 ghost use Rattle.std.specs.Simd.Lanes.{mask_l};
 ghost use Rattle.std.proofs.Common.{arith};
-ghost use Rattle.rustc_lexer.specs.means.ByteRuns.{is_continue_byte, is_space_byte, outside};
-ghost use Rattle.rustc_lexer.specs.means.Ends.{bit, IsEnds};
-ghost use Rattle.rustc_lexer.specs.means.Quick;
-ghost use Rattle.rustc_lexer.specs.means.Scan;
-ghost use Rattle.rustc_lexer.specs.means.Scan.{begins};
+ghost use Rattle.rustc_lexer.specs.model.ByteRuns.{is_continue_byte, is_space_byte, outside};
+ghost use Rattle.rustc_lexer.specs.model.Ends.{bit, IsEnds};
+ghost use Rattle.rustc_lexer.specs.model.Quick;
+ghost use Rattle.rustc_lexer.specs.model.Scan;
+ghost use Rattle.rustc_lexer.specs.model.Scan.{begins};
 
 use crate::classes::ends_prefix;
 use memchr::{memchr, memchr2};

@@ -2,9 +2,9 @@
 ghost use Rattle.std.specs.Prelude.{◌≡◌, ◌≢◌, ◌+◌, ◌<◌, ◌^◌, length};
 ghost use Rattle.rustc_lexer.specs.Classes.{Fits};
 ghost use Rattle.rustc_lexer.specs.declared.lexemes.family.Family.TheVariants.{Hash};
-ghost use Rattle.rustc_lexer.specs.means.Lexeme as spec;
-ghost use Rattle.rustc_lexer.specs.means.Quick.{BeginsWithNoHash, IsFirstToken};
-ghost use Rattle.rustc_lexer.specs.means.Scan.{scanned};
+ghost use Rattle.rustc_lexer.specs.model.Lexeme as spec;
+ghost use Rattle.rustc_lexer.specs.model.Quick.{BeginsWithNoHash, IsFirstToken};
+ghost use Rattle.rustc_lexer.specs.model.Scan.{scanned};
 
 use crate::lexemes::comment::slash;
 use crate::lexemes::family::{Family, family_of, symbol_kind};

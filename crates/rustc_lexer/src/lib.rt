@@ -33,11 +33,11 @@ pub use head::Head;
 pub use lexemes::ident::is_ident;
 pub use raw_check::{starts_raw, validate_raw_str};
 pub use relex::{
-    BodyChange, Change, Edit, EditStop, JoinError, JoinedText, Lexed, LexedDocument, LexedText,
-    Measured, Piece, Pieces, Relex, Relexed, Relexing, Stopped, TokenStart, is_seam, settled,
-    settled_in, token_around,
+    BodyChange, Change, Edit, EditSequenceError, EditStop, JoinError, JoinedText, Lexed,
+    LexedDocument, LexedText, Measured, Piece, Pieces, Relex, Relexed, Relexing, TokenStart,
+    is_token_boundary, settled, settled_in, token_around,
 };
-pub use shebang::{mark_len, strip_shebang};
+pub use shebang::{byte_order_mark_len, strip_shebang};
 pub use token::{
     Base, DocStyle, FrontmatterAllowed, GuardedStr, LiteralKind, RawStrError, Token, TokenKind,
 };

@@ -3,7 +3,7 @@ ghost use Rattle.std.specs.Prelude.{◌≡◌, ◌<◌, ◌↔◌, length, IsTru
 ghost use Rattle.rustc_lexer.specs.Answers.{raw_check};
 ghost use Rattle.rustc_lexer.specs.Classes.{Fits};
 ghost use Rattle.rustc_lexer.specs.LanguageCalls.{StartsRaw};
-ghost use Rattle.rustc_lexer.specs.means.Scan.{past};
+ghost use Rattle.rustc_lexer.specs.model.Scan.{past};
 
 use crate::lexemes::raw::raw_double_quoted_string;
 use crate::scan::{first, split_first};
@@ -36,7 +36,7 @@ pub fn starts_raw(input: &str, prefix_len: u32) -> bool
 /// validate_raw_str("r##\"abc\"#", 1) // NoTerminator { expected: 2, found: 1, possible_terminator_offset: Some(8) }
 /// ```
 #[inline]
-#[tactic(auto, using(crate::proofs::lemmas::tokens::RawRead::prefix_fits, crate::specs::laws::Scan::scan_lemmas, std::proofs::lemmas::Grind::common_steps), unfolding(crate::specs::means::Raw::check_raw))]
+#[tactic(auto, using(crate::proofs::lemmas::tokens::RawRead::prefix_fits, crate::specs::laws::Scan::scan_lemmas, std::proofs::lemmas::Grind::common_steps), unfolding(crate::specs::model::Raw::check_raw))]
 pub fn validate_raw_str(input: &str, prefix_len: u32) -> Result<(), RawStrError>
     requires fits { Fits input.now }
     requires raw { StartsRaw input.now prefix_len }

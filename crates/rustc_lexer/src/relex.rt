@@ -17,9 +17,9 @@ mod settle;
 
 pub use body_change::BodyChange;
 pub use edit::Edit;
-pub use edit_list::{EditStop, Stopped};
+pub use edit_list::{EditSequenceError, EditStop};
 pub use front::{Measured, TokenStart, token_around};
-pub use joined::{JoinError, JoinedText, is_seam};
+pub use joined::{JoinError, JoinedText, is_token_boundary};
 pub use lexed::{Lexed, LexedDocument, LexedText};
 pub use pieces::{Piece, Pieces};
 pub use relexing::{Change, Relex, Relexed, Relexing};

@@ -5,7 +5,7 @@ ghost use Rattle.rustc_lexer.specs.Answers.{shebang};
 ghost use Rattle.rustc_lexer.specs.Classes.{Fits, begins};
 ghost use Rattle.rustc_lexer.specs.Document as document;
 ghost use Rattle.rustc_lexer.specs.LanguageText.{part, newest};
-ghost use Rattle.rustc_lexer.specs.means.Shebang as spec;
+ghost use Rattle.rustc_lexer.specs.model.Shebang as spec;
 ghost use Rattle.rustc_lexer.specs.Tokens.{tokens_of};
 
 use crate::entry::tokenize;
@@ -46,7 +46,7 @@ pub(crate) fn tokens_start(text: &str) -> usize
     ensures start { result ≡ document.tokens_start text.now }
     ensures boundary { IsCharBoundary text.now result }
 {
-    let mark = mark_len(text);
+    let mark = byte_order_mark_len(text);
     mark + line_end(&text[mark..])
 }
 
@@ -62,9 +62,9 @@ fn line_end(text: &str) -> usize
 
 /// Returns the length of the byte order mark at the start of a text in bytes, or 0 if there is none.
 #[tactic(auto, using(crate::proofs::lemmas::tokens::Shebang::mark_boundary, std::proofs::lemmas::Grind::common_steps))]
-pub fn mark_len(text: &str) -> usize
-    ensures len { result ≡ document.mark_len text.now }
-    ensures boundary { IsCharBoundary text.now (document.mark_len text.now) }
+pub fn byte_order_mark_len(text: &str) -> usize
+    ensures len { result ≡ document.byte_order_mark_len text.now }
+    ensures boundary { IsCharBoundary text.now (document.byte_order_mark_len text.now) }
 {
     match split_first(text) {
         Some(('\u{feff}', _)) => 3,

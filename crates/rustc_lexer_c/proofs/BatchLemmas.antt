@@ -4,7 +4,7 @@ use Rattle.std.proofs.Common.{IsCharBoundary}
 use Rattle.std.proofs.lemmas.{Grind.{common_steps}, Str.{IsCharBoundary-from_rest, IsUtf8-drop}}
 use Rattle.std.proofs.Math.Nat.{min-le_right}
 use Rattle.rustc_lexer.specs.declared.{edition.Edition.{Edition}, token.FrontmatterAllowed.{FrontmatterAllowed}}
-use Rattle.rustc_lexer.specs.{Tokens.{bound, tokens_of, tokens_left}, means.Tokens.{IsFilled}}
+use Rattle.rustc_lexer.specs.{Tokens.{bound, tokens_of, tokens_left}, model.Tokens.{IsFilled}}
 use Rattle.rustc_lexer.specs.{LanguageText.{Mode, mode_edition, mode_in}, Classes.{IsText}, State.{State}}
 use Rattle.rustc_lexer.specs.laws.Tokens.{partitions}
 use Rattle.rustc_lexer.proofs.lemmas.tokens.Fill.{past_fill, Leaves}

@@ -8,8 +8,8 @@ use Rattle.rustc_literal_escaper.specs.{declared.mode.Mode.{Mode}, Items.{TakesF
 use Rattle.rustc_literal_escaper.specs.Grammar.{Error}
 use Rattle.rustc_literal_escaper.proofs.FewLemmas.{errors_of-few, items-few}
 use Rattle.rustc_lexer.specs.laws.Choice.{by_either}
-use Rattle.marks.specs.LineEnds.{ends_line, file_errors, moved, unix}
-use Rattle.marks.proofs.LineEndLemmas.{utf8-unix}
+use Rattle.rustc_lexer_highlight.specs.LineEnds.{ends_line, escape_errors_in_file, moved, unix}
+use Rattle.rustc_lexer_highlight.proofs.LineEndLemmas.{utf8-unix}
 use Rattle.rustc_lexer_c.specs.{declared.escapes.CUnit.{CUnit}, Escapes.{IsUnits, units_of, wrong_unit, wrong_units_of}}
 use Rattle.rustc_lexer_c.proofs.BufferLemmas.{all_taken, back_step, buffer_filled, count_second, few_step, front_step}
 use Rattle.rustc_lexer_c.proofs.BufferLemmas.{left_step}
@@ -49,7 +49,7 @@ errors_few mode text is =
       errors_of-few mode (unix text) (utf8-unix text is),
       unix-shorter text,
       length-map {B = Error} (errors_of mode (unix text)) (λ (e : Error). (moved text e.0, e.1)),
-      length-map (file_errors mode text) (λ (e : Error). wrong_unit e.0 e.1),
+      length-map (escape_errors_in_file mode text) (λ (e : Error). wrong_unit e.0 e.1),
     )
 
 pub ruleset fill_lemmas = (passed_step, few_step, length-set, front_step, back_step)

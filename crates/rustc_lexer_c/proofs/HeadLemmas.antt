@@ -84,7 +84,7 @@ module _ (text : List ℕ) (is : IsText text) (edit : CEdit) (c : CHead) (body :
 
     pub found : IsChange text (change_of edit) → IsChange (drop now.body text) change
         → FindsHead text edit c (numbers_of_head now) body
-        (record { start = change.start; old_stop = change.old_stop; new_stop = change.new_stop }) kept
+        (record { start = change.start; old_end = change.old_end; new_end = change.new_end }) kept
         (bool_number keeps) 0
     found fine may = record {
       status_is = grind (arith, common_steps);

@@ -1,6 +1,6 @@
 pub mod BatchLemmas
 pub mod EscapeLemmas
-pub mod FaultLemmas
+pub mod ErrorLemmas
 pub mod HeadLemmas
 pub mod OutputLemmas
 pub mod RelexLemmas

@@ -5,7 +5,7 @@ use Rattle.std.proofs.lemmas.{Grind.{common_steps}, List.{drop-drop, length-take
 use Rattle.std.proofs.lemmas.Slice.{drop-put_mid, take-put_mid}
 use borrow.Rule.Slice.PartMut.{put_mid}
 use Rattle.std.specs.{Fmt.{WritesInCalls}, List.{concat, FoldsTo}}
-use Rattle.rustc_lexer_c.specs.{declared.buffer.Buffer.{Buffer}, Marks.{IsFront}, Buffer.{Appends}}
+use Rattle.rustc_lexer_c.specs.{declared.buffer.Buffer.{Buffer}, Highlighted.{IsFront}, Buffer.{Appends}}
 
 -- what a list holds once others stand in it from a place on
 module _ (a : ℕ) (xs ys : List ℕ) (low : a ≤ length xs) where

@@ -7,7 +7,7 @@ use Rattle.rustc_lexer.specs.declared.{edition.Edition.{Edition}, relex.relexing
 use Rattle.rustc_lexer.specs.declared.{relex.relexing.Relexing.{Relexing}, token.Token.{Token}}
 use Rattle.rustc_lexer.specs.{Tokens.{tokens_by, tokens_of}, Answers.{first_in}, LanguageText.{part}}
 use Rattle.rustc_lexer.specs.{Edits.{IsRelexed, part_by}, Relexing.{known}}
-use Rattle.rustc_lexer.specs.Relexing.{IsChange, IsMadeOf, IsUnderWay, IsWhole, MayGoOn, TakesSteps, is_over}
+use Rattle.rustc_lexer.specs.Relexing.{IsChange, IsMadeOf, IsUnderWay, IsWhole, CanContinue, TakesSteps, is_done}
 use Rattle.rustc_lexer.specs.{Classes.{IsText}, LanguageCalls.{edition_of_year}}
 use Rattle.rustc_lexer.specs.{Locality.{IsGrammar}, laws.Edition.{edition_grammar}}
 use Rattle.rustc_lexer.proofs.lemmas.edits.OneAnswer.{counts_of, relexed_is}
@@ -31,7 +31,7 @@ pub none_some : {X : Type 0} {x : X} → Some x ≡ None → ⊥
 none_some e = grind (arith, common_steps)
 
 -- the numbers are those of where it stands
-relex_back : (text : List ℕ) (n : ℕ) (at : Relexing) → at.back.index ≤ n → is_over text at ≡ at.met
+relex_back : (text : List ℕ) (n : ℕ) (at : Relexing) → at.back.index ≤ n → is_done text at ≡ at.met
     → relexing_of n (numbers_of text n at) ≡ at
 relex_back text n at few over = grind (arith, common_steps)
 
@@ -58,13 +58,13 @@ module _ (edition : Edition) (text : List ℕ) (old : List CToken) (change : CEd
   first = first_in edition
 
   pub over_is : (before insert : List ℕ) → IsMadeOf first before lens (change_of change) insert text
-      → IsUnderWay first before (change_of change) text at → is_over text at ≡ at.met
+      → IsUnderWay first before (change_of change) text at → is_done text at ≡ at.met
   over_is before insert is stands =
       let law = edition_grammar edition in grind (arith, common_steps, over_met law is stands)
 
-  pub batch_is : count ≤ length buffer → TakesSteps first text (change_of change).new_stop begin count at
+  pub batch_is : count ≤ length buffer → TakesSteps first text (change_of change).new_end begin count at
       → filled ≡ map token_numbers (take count (tokens_by first (drop begin.at text))) ++ drop count buffer
-      → MayGoOn text (length old) at → (count < length buffer → is_over text at ≡ true) → begin.lexed ≡ lexed_before c
+      → CanContinue text (length old) at → (count < length buffer → is_done text at ≡ true) → begin.lexed ≡ lexed_before c
       → (c.stage ≢ 0 → begin.front ≡ front_of c)
       → ((first : List ℕ → Token) (before insert : List ℕ) → IsGrammar first
       → IsMadeOf first before lens (change_of change) insert text
@@ -113,7 +113,7 @@ module _ (edition : Edition) (text : List ℕ) (old : List CToken) (change : CEd
           counts = λ e. subst
               (λ (n : ℕ). let r : Relexed = record
               { kept_front = at.front.index; lexed = at.lexed; kept_back = n - at.back.index } in
-              IsRelexed (part_by first) before change.start change.old_stop insert r) all
+              IsRelexed (part_by first) before change.start change.old_end insert r) all
               (met (grind (arith, common_steps))).0;
           list = λ e are. list_whole (tokens_by first before) (tokens_by first text) at
               (length old - (length old - at.back.index)) old back are (met (grind (arith, common_steps))).1;
@@ -123,9 +123,9 @@ module _ (edition : Edition) (text : List ℕ) (old : List CToken) (change : CEd
   -- a call that is done
   pub relexed : IsText text → (year : ℕ) → edition_of_year year ≡ Some edition
       → ¬ (¬ (IsChange text (change_of change) × MayRelex text (length old) c))
-      → count ≤ length buffer → TakesSteps first text (change_of change).new_stop begin count at
+      → count ≤ length buffer → TakesSteps first text (change_of change).new_end begin count at
       → filled ≡ map token_numbers (take count (tokens_by first (drop begin.at text))) ++ drop count buffer
-      → MayGoOn text (length old) at → (count < length buffer → is_over text at ≡ true) → begin.lexed ≡ lexed_before c
+      → CanContinue text (length old) at → (count < length buffer → is_done text at ≡ true) → begin.lexed ≡ lexed_before c
       → (c.stage ≢ 0 → begin.front ≡ front_of c)
       → ((first : List ℕ → Token) (before insert : List ℕ) → IsGrammar first
       → IsMadeOf first before lens (change_of change) insert text

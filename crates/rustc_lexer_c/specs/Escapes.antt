@@ -11,7 +11,7 @@ use Rattle.rustc_literal_escaper.specs.declared.mode.Mode.TheVariants.{CStr, Raw
 use Rattle.rustc_literal_escaper.specs.declared.unit.MixedUnit.{MixedUnit}
 use Rattle.rustc_literal_escaper.specs.declared.unit.MixedUnit.TheVariants.{Char as CharUnit, HighByte}
 use Rattle.rustc_literal_escaper.specs.Grammar.{Error, Item}
-use Rattle.marks.specs.LineEnds.{file_errors}
+use Rattle.rustc_lexer_highlight.specs.LineEnds.{escape_errors_in_file}
 use Rattle.rustc_literal_escaper.specs.Answers.{byte_literal, char_literal, items_of}
 use Rattle.rustc_literal_escaper.specs.Meaning.{byte_of, char_of, is_fatal, is_raw, is_single, raw_unit_of, unit_of}
 pub use Rattle.rustc_literal_escaper.specs.Numbers.{error_number}
@@ -102,7 +102,7 @@ pub record IsUnits (units : List CUnit) (passed : ℕ) (buffer filled : List CUn
   pub written : filled ≡ take count (drop passed units) ++ drop count buffer
 
 abbrev pub wrong_units_of : Mode → List ℕ → List CUnit
-wrong_units_of mode text = wrong_units (file_errors mode text)
+wrong_units_of mode text = wrong_units (escape_errors_in_file mode text)
 
 -- a call that lists units of a text, in a mode that is given by a number. The list is never longer
 -- than the text in bytes, but may have 1 unit for an empty text, so a buffer of that length is

@@ -1,8 +1,8 @@
 pub mod Batch
 pub mod Escapes
-pub mod Faults
+pub mod EscapeErrors
 pub mod Head
-pub mod Marks
+pub mod Highlighted
 pub mod Numbers
 pub mod Offsets
 pub mod Places

@@ -13,7 +13,7 @@ use Rattle.rustc_lexer.specs.LanguageCalls.{edition_of_year}
 use Rattle.rustc_lexer.specs.Answers.{first_in}
 use Rattle.rustc_lexer.specs.Offsets.{IsBound}
 use Rattle.rustc_lexer.specs.Edits.{IsRelexed, part_by}
-use Rattle.rustc_lexer.specs.Relexing.{IsChange, IsMadeOf, IsUnderWay, MayGoOn, is_over}
+use Rattle.rustc_lexer.specs.Relexing.{IsChange, IsMadeOf, IsUnderWay, CanContinue, is_done}
 use Rattle.rustc_lexer.specs.Classes.{IsText}
 use Rattle.rustc_lexer_c.specs.declared.relex.CEdit.{CEdit}
 use Rattle.rustc_lexer_c.specs.declared.relex.CRelexing.{CRelexing}
@@ -33,7 +33,7 @@ abbrev pub STAGE_DONE : ℕ
 STAGE_DONE = 2
 
 abbrev pub change_of : CEdit → Change
-change_of c = record { start = c.start; old_stop = c.old_stop; new_stop = c.new_stop }
+change_of c = record { start = c.start; old_end = c.old_end; new_end = c.new_end }
 
 -- the token boundary that the fields for the front give
 abbrev pub front_of : CRelexing → TokenStart
@@ -56,7 +56,7 @@ lexed_before c = if nat_eq c.stage STAGE_BEGIN then 0 else c.lexed
 -- a call may begin with these numbers, or go on from them
 abbrev pub MayRelex : List ℕ → ℕ → CRelexing → Type 0
 MayRelex text count c =
-    c.stage ≢ STAGE_BEGIN → (c.kept_back ≤ count) × MayGoOn text count (relexing_of count c)
+    c.stage ≢ STAGE_BEGIN → (c.kept_back ≤ count) × CanContinue text count (relexing_of count c)
 
 -- a call may begin with these numbers, of which only a boundary of the old tokens matters, or they
 -- are what an earlier call returned
@@ -81,9 +81,9 @@ pub record HasRelexed (first : List ℕ → Token) (before : List ℕ) (edit : C
       ++ drop count buffer
   pub more : written (tokens_by first text) c'.kept_front c'.lexed
       ≡ written (tokens_by first text) c'.kept_front (lexed_before c) ++ take count filled
-  pub few : (r : Relexed) × IsRelexed (part_by first) before edit.start edit.old_stop insert r
+  pub few : (r : Relexed) × IsRelexed (part_by first) before edit.start edit.old_end insert r
       × (c'.lexed ≤ r.lexed)
-  pub counts : c'.stage ≡ STAGE_DONE → IsRelexed (part_by first) before edit.start edit.old_stop
+  pub counts : c'.stage ≡ STAGE_DONE → IsRelexed (part_by first) before edit.start edit.old_end
       insert (record { kept_front = c'.kept_front; lexed = c'.lexed; kept_back = c'.kept_back })
   pub list : c'.stage ≡ STAGE_DONE → old ≡ map token_numbers (tokens_by first before)
       → take c'.kept_front old ++ (written (tokens_by first text) c'.kept_front c'.lexed
@@ -133,5 +133,5 @@ numbers_of text count at = record {
   kept_back = count - at.back.index;
   back_offset = at.back.offset;
   at = at.at;
-  stage = if is_over text at then STAGE_DONE else STAGE_MORE;
+  stage = if is_done text at then STAGE_DONE else STAGE_MORE;
 }

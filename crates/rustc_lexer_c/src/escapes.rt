@@ -8,7 +8,7 @@ ghost use Rattle.rustc_literal_escaper.specs.Meaning.{is_raw, is_single, unit_of
 ghost use Rattle.rustc_lexer_c.specs.Escapes as spec;
 
 use crate::status::{Refusal, done, refuse, text_of, utf8_text_of};
-use marks::FaultsInFile;
+use rustc_lexer_highlight::EscapeErrorsInFile;
 use rustc_literal_escaper::{Element, Elements, EscapeError, Mode, unescape_byte, unescape_char};
 use std::ops::Range;
 
@@ -123,7 +123,7 @@ pub extern "C" fn rustc_lexer_literal_errors_unchecked(
     };
     match mode_of(mode) {
         Some(mode) => done(
-            fill_all(FaultsInFile::new(text, mode), passed, buffer),
+            fill_all(EscapeErrorsInFile::new(text, mode), passed, buffer),
             count,
         ),
         None => refuse(Refusal::BadMode, 0, count),
@@ -236,8 +236,8 @@ impl<'a> Units for Meanings<'a> {
 }
 
 /// Only the errors and warnings.
-impl<'a> Units for FaultsInFile<'a> {
-    ghost units = { λ faults. spec.wrong_units faults };
+impl<'a> Units for EscapeErrorsInFile<'a> {
+    ghost units = { λ errors. spec.wrong_units errors };
 
     #[inline(always)]
     fn next_unit(&mut self) -> Option<CUnit> {
@@ -321,7 +321,7 @@ fn sound_unit(place: Range<usize>, element: Element) -> CUnit
         Element::Byte(byte) if byte < 128 => unit_at(place, UNIT_CHAR, u32::from(byte)),
         Element::Byte(byte) => unit_at(place, UNIT_BYTE, u32::from(byte)),
         Element::Unicode(_) => coded_unit(place, UNIT_CHAR, element.to_char().map(u32::from)),
-        Element::Fault(error) => wrong_unit(place, error),
+        Element::Diagnostic(error) => wrong_unit(place, error),
     }
 }
 

@@ -65,12 +65,12 @@ pub extern "C" fn rustc_lexer_body_edit_unchecked(
         Err(refusal) => return refusal.number(),
     };
     let change = change_of(edit);
-    if !change.may_make(text) {
+    if !change.is_valid_for(text) {
         return Refusal::BadEdit.number();
     }
     let now = Head::find(text);
     let body = head_of(head).change_to(now, change);
-    if !body.change.may_make(&text[now.body..]) {
+    if !body.change.is_valid_for(&text[now.body..]) {
         return Refusal::BadEdit.number();
     }
     *head = numbers_of_head(now);
@@ -139,17 +139,17 @@ fn numbers_of_head(head: Head) -> CHead
 /// Returns a change as an edit.
 fn edit_of(change: Change) -> CEdit
     requires start { change.start < 2 ^ 32 }
-    requires old_stop { change.old_stop < 2 ^ 32 }
-    requires new_stop { change.new_stop < 2 ^ 32 }
+    requires old_end { change.old_end < 2 ^ 32 }
+    requires new_end { change.new_end < 2 ^ 32 }
     ensures { result ≡ record {
       start = change.start;
-      old_stop = change.old_stop;
-      new_stop = change.new_stop;
+      old_end = change.old_end;
+      new_end = change.new_end;
     } }
 {
     CEdit {
         start: change.start as u32,
-        old_stop: change.old_stop as u32,
-        new_stop: change.new_stop as u32,
+        old_end: change.old_end as u32,
+        new_end: change.new_end as u32,
     }
 }

@@ -1,5 +1,5 @@
 //! The lexer for C, and for any language that can call C: a static library over `rustc_lexer`,
-//! `rustc_literal_escaper` and `marks`.
+//! `rustc_literal_escaper` and `rustc_lexer_highlight`.
 //!
 //! A caller passes a text as a pointer and a length, and a buffer for the tokens. No call allocates memory. Each call
 //! checks its text and returns a status, since C cannot guarantee UTF-8; only the calls with `_unchecked` require it.
@@ -10,10 +10,10 @@ pub mod abi;
 pub mod batch;
 mod buffer;
 pub mod classes;
+pub mod errors;
 pub mod escapes;
-pub mod faults;
 pub mod head;
-pub mod marked;
+pub mod highlighted;
 pub mod offsets;
 pub mod places;
 pub mod raw_str;

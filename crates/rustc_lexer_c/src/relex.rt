@@ -4,7 +4,7 @@ ghost use Rattle.std.specs.Str.{IsUtf8};
 ghost use Rattle.rustc_lexer.specs.declared.token.Token.{Token};
 ghost use Rattle.rustc_lexer.specs.Classes.{Fits};
 ghost use Rattle.rustc_lexer.specs.LanguageCalls.{edition_of_year};
-ghost use Rattle.rustc_lexer.specs.Relexing.{IsChange, IsMadeOf, IsUnderWay, MayGoOn};
+ghost use Rattle.rustc_lexer.specs.Relexing.{IsChange, IsMadeOf, IsUnderWay, CanContinue};
 ghost use Rattle.rustc_lexer.specs.Locality.{IsGrammar};
 ghost use Rattle.rustc_lexer_c.specs.Relex as spec;
 
@@ -12,14 +12,14 @@ use crate::status::{OK, Refusal, refuse, text_of, utf8_text_of};
 use crate::token::CToken;
 use rustc_lexer::{Change, Edition, Measured, Relex, Relexing, Steps, TokenStart};
 
-/// An applied edit, by its offsets in bytes. It replaced the bytes from `start` up to `old_stop` of the old text with
-/// those from `start` up to `new_stop` of the current text.
+/// An applied edit, by its offsets in bytes. It replaced the bytes from `start` up to `old_end` of the old text with
+/// those from `start` up to `new_end` of the current text.
 #[repr(C)]
 #[derive(Clone, Copy, Debug, PartialEq, Eq)]
 pub struct CEdit {
     pub start: u32,
-    pub old_stop: u32,
-    pub new_stop: u32,
+    pub old_end: u32,
+    pub new_end: u32,
 }
 
 /// The stages of relexing: before the first call, while tokens are left to write, and after the last one.
@@ -127,8 +127,8 @@ pub(crate) fn change_of(edit: &CEdit) -> Change
 {
     Change {
         start: edit.start as usize,
-        old_stop: edit.old_stop as usize,
-        new_stop: edit.new_stop as usize,
+        old_end: edit.old_end as usize,
+        new_end: edit.new_end as usize,
     }
 }
 
@@ -196,7 +196,7 @@ fn state_of(relexing: &CRelexing, old_count: usize) -> Option<Relexing>
 fn relexing_numbers(relex: &Relex<'_, CToken>) -> CRelexing
     ensures numbers { result
         ≡ spec.numbers_of relex.now.text (length relex.now.lengths) relex.now.at }
-    ensures may_go_on { MayGoOn relex.now.text (length relex.now.lengths) relex.now.at }
+    ensures can_continue { CanContinue relex.now.text (length relex.now.lengths) relex.now.at }
 {
     let state = relex.state();
     CRelexing {
@@ -206,7 +206,7 @@ fn relexing_numbers(relex: &Relex<'_, CToken>) -> CRelexing
         kept_back: relex.counts().kept_back,
         back_offset: state.back.offset,
         at: state.at,
-        stage: if relex.is_over() {
+        stage: if relex.is_done() {
             STAGE_DONE
         } else {
             STAGE_MORE

@@ -7,12 +7,17 @@ ghost use Rattle.rustc_lexer_c.specs.Status.{IsPlaceStatus, OK};
 
 use crate::relex::edition_of;
 use crate::status::{Refusal, done, refuse, text_of};
-use rustc_lexer::is_seam;
+use rustc_lexer::is_token_boundary;
 
 /// Writes whether the tokens of a text in an edition are those of the text before `at`, followed by those of the text
 /// after `at`.
 #[unsafe(no_mangle)]
-pub extern "C" fn rustc_lexer_is_seam(text: &[u8], at: usize, edition: u32, is: &mut u32) -> u32
+pub extern "C" fn rustc_lexer_is_token_boundary(
+    text: &[u8],
+    at: usize,
+    edition: u32,
+    is: &mut u32,
+) -> u32
     ensures status { IsPlaceStatus text.now at edition result }
     ensures seam { result ≡ OK → (year : Edition) → edition_of_year edition ≡ Some year
         → TellsSeam text.now at year is.new }
@@ -26,7 +31,7 @@ pub extern "C" fn rustc_lexer_is_seam(text: &[u8], at: usize, edition: u32, is: 
         return refuse(Refusal::BadPlace, 0, is);
     }
     match edition_of(edition) {
-        Some(edition) => done(u32::from(is_seam(text, at, edition)), is),
+        Some(edition) => done(u32::from(is_token_boundary(text, at, edition)), is),
         None => refuse(Refusal::BadEdition, 0, is),
     }
 }

@@ -4,9 +4,9 @@ use Rattle.std.specs.Str.{chars, IsUtf8}
 use Rattle.std.proofs.lemmas.{Str.{encodes-chars}, Grind.{common_steps}}
 use Rattle.std.specs.{Option.{option_to_list}, Result.{result_err}}
 use Rattle.rustc_literal_escaper.specs.declared.{element.Element.{Element}, error.EscapeError.{EscapeError}}
-use Rattle.rustc_literal_escaper.specs.means.Elements.{place}
-use Rattle.rustc_literal_escaper.specs.means.Single.{alone, literal, StartsWithSingle, alone_error, only, read_errors}
-use Rattle.rustc_literal_escaper.specs.means.Single.{read_single, single_error}
+use Rattle.rustc_literal_escaper.specs.model.Elements.{place}
+use Rattle.rustc_literal_escaper.specs.model.Single.{alone, literal, StartsWithSingle, alone_error, only, read_errors}
+use Rattle.rustc_literal_escaper.specs.model.Single.{read_single, single_error}
 use Rattle.rustc_literal_escaper.specs.declared.mode.Mode.{Mode}
 use Rattle.rustc_literal_escaper.specs.Answers.{errors_of, items_of, single_of, without_range}
 use Rattle.rustc_literal_escaper.specs.Meaning.{error_of, errors_in, is_raw, is_single}

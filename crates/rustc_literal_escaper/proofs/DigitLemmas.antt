@@ -5,12 +5,12 @@ use Rattle.std.proofs.Common.{nat_le, nat_lt, min, get_or}
 use Rattle.std.specs.Char.{digit_value}
 use Rattle.std.proofs.{lemmas.{Bool.{ne_eqb, Decides.{nat_tests}}}, Math.Nat.{pow-le-pow_right}}
 use Rattle.std.proofs.lemmas.{Grind.{common_steps}, List.FromFn.{get_or-map-range_with_len}}
-use Rattle.rustc_literal_escaper.specs.declared.element.Element.{Element, TheVariants.{Unicode, Fault}}
+use Rattle.rustc_literal_escaper.specs.declared.element.Element.{Element, TheVariants.{Unicode, Diagnostic}}
 use Rattle.rustc_literal_escaper.specs.declared.error.EscapeError.TheVariants.{InvalidCharInUnicodeEscape}
 use Rattle.rustc_literal_escaper.specs.declared.error.EscapeError.TheVariants.{UnclosedUnicodeEscape}
 use Rattle.rustc_literal_escaper.specs.declared.error.EscapeError.TheVariants.{OverlongUnicodeEscape}
 use Rattle.rustc_literal_escaper.specs.{Grammar.{is_hex, is_digit_or_underscore}, laws.Escape.{digit-runs}}
-use Rattle.rustc_literal_escaper.specs.means.Escape.{closed_at_run, front_run, past_run, short}
+use Rattle.rustc_literal_escaper.specs.model.Escape.{closed_at_run, front_run, past_run, short}
 use Rattle.rustc_literal_escaper.specs.declared.escape.TheConstants.{DIGITS, SHORT}
 
 -- one more digit has room in 24 bits
@@ -25,12 +25,12 @@ with_digit v n d = if nat_lt n 6 then v * 16 + d else v
 abbrev pub number_past : ℕ → ℕ → List ℕ → Element
 number_past v n digits =
     if nat_le (n + length digits) 6 then Unicode (fold (λ value digit. value * 16 + digit_value digit) v digits) else
-    Fault OverlongUnicodeEscape
+    Diagnostic OverlongUnicodeEscape
 
 abbrev pub closed_past : (ℕ → Bool) → ℕ → ℕ → List ℕ → List ℕ → Element × List ℕ
-closed_past h v n digits [] = (Fault UnclosedUnicodeEscape, [])
+closed_past h v n digits [] = (Diagnostic UnclosedUnicodeEscape, [])
 closed_past h v n digits (c ∷ s) =
-    (if c == 125 then number_past v n (filter h digits) else Fault InvalidCharInUnicodeEscape, s)
+    (if c == 125 then number_past v n (filter h digits) else Diagnostic InvalidCharInUnicodeEscape, s)
 
 -- of any two classes: the same
 abbrev pub left_by : (ℕ → Bool) → (ℕ → Bool) → ℕ → ℕ → List ℕ → Element × List ℕ
@@ -44,7 +44,7 @@ pub left_at-start : (s : List ℕ) → left_at 0 0 s ≡ closed_at_run s
 unfolding left_at
 left_at-start s = grind (arith, common_steps, zero-add)
 
-pub left_at-end : (v n : ℕ) → left_at v n [] ≡ (Fault UnclosedUnicodeEscape, [])
+pub left_at-end : (v n : ℕ) → left_at v n [] ≡ (Diagnostic UnclosedUnicodeEscape, [])
 unfolding left_at
 left_at-end v n = refl
 
@@ -53,10 +53,10 @@ unfolding left_at
 left_at-underscore v n c s e = grind (arith, common_steps)
 
 pub left_at-brace : (v n c : ℕ) (s : List ℕ) → c ≡ 125
-    → left_at v n (c ∷ s) ≡ ((if nat_le n 6 then Unicode v else Fault OverlongUnicodeEscape), s)
+    → left_at v n (c ∷ s) ≡ ((if nat_le n 6 then Unicode v else Diagnostic OverlongUnicodeEscape), s)
 unfolding left_at
 left_at-brace v n c s e =
-    subst (λ (d : ℕ). left_at v n (d ∷ s) ≡ ((if nat_le n 6 then Unicode v else Fault OverlongUnicodeEscape), s))
+    subst (λ (d : ℕ). left_at v n (d ∷ s) ≡ ((if nat_le n 6 then Unicode v else Diagnostic OverlongUnicodeEscape), s))
     (sym e) (rw (add-zero n) refl)
 
 by_digit : (p h : ℕ → Bool) (v n c : ℕ) (s : List ℕ) → p c ≡ true → h c ≡ true
@@ -69,11 +69,11 @@ unfolding left_at
 left_at-digit v n c s e = by_digit is_digit_or_underscore is_hex v n c s (digit-runs c e) e
 
 by_other : (p h : ℕ → Bool) (v n c : ℕ) (s : List ℕ) → p c ≡ false → (c == 125) ≡ false
-    → left_by p h v n (c ∷ s) ≡ (Fault InvalidCharInUnicodeEscape, s)
+    → left_by p h v n (c ∷ s) ≡ (Diagnostic InvalidCharInUnicodeEscape, s)
 by_other p h v n c s a b = rw a (rw b refl)
 
 pub left_at-other : (v n c : ℕ) (s : List ℕ) → (c ≡ 95 → ⊥) → (c ≡ 125 → ⊥) → is_hex c ≡ false
-    → left_at v n (c ∷ s) ≡ (Fault InvalidCharInUnicodeEscape, s)
+    → left_at v n (c ∷ s) ≡ (Diagnostic InvalidCharInUnicodeEscape, s)
 unfolding left_at
 left_at-other v n c s a b e =
     by_other is_digit_or_underscore is_hex v n c s (ap (λ x. x || is_hex c) (ne_eqb c 95 a) ∙ e) (ne_eqb c 125 b)

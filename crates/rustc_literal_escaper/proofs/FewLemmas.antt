@@ -3,7 +3,7 @@ use Rattle.std.proofs.Common.{ℕ, ◌≤◌, Bool, if◌then◌else◌, List, [
 use Rattle.std.proofs.Math.Nat.{le-max_left, le-max_right}
 use Rattle.std.specs.{List.{list_any}, Option.{option_to_list}, Str.{chars, IsUtf8}}
 use Rattle.std.proofs.lemmas.{Str.{encodes-chars, length-le-encodes}, Grind.{common_steps}}
-use Rattle.rustc_literal_escaper.specs.declared.element.Element.{Element, TheVariants.{Fault}}
+use Rattle.rustc_literal_escaper.specs.declared.element.Element.{Element, TheVariants.{Diagnostic}}
 use Rattle.rustc_literal_escaper.specs.declared.error.EscapeError.TheVariants.{MultipleSkippedLinesWarning}
 use Rattle.rustc_literal_escaper.specs.{declared.mode.Mode.{Mode}, Answers.{errors_of, items_of}}
 use Rattle.rustc_literal_escaper.specs.Grammar as g
@@ -31,7 +31,7 @@ few (g.line_end {from} {next} {items} space all stops are) =
       length-append {A = Item},
       length-append space next,
       one (list_any is_newline space)
-          (item from (Fault MultipleSkippedLinesWarning) (92 ∷ 10 ∷ space)),
+          (item from (Diagnostic MultipleSkippedLinesWarning) (92 ∷ 10 ∷ space)),
       space-few from space next,
       few are,
     )

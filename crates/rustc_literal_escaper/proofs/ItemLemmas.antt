@@ -4,7 +4,7 @@ use Rattle.std.specs.{List.{list_all}, Str.{chars}}
 use Rattle.std.proofs.lemmas.{Bool.{and_parts, not-true}, Grind.{common_steps}}
 use Rattle.rustc_literal_escaper.specs.Items.{elements_in, is_plain, StandsForItself}
 use Rattle.rustc_literal_escaper.specs.laws.Elements.{nothing, items-one}
-use Rattle.rustc_literal_escaper.specs.means.Elements.{front_by, item_at, items_from, one, front, place, raw_front}
+use Rattle.rustc_literal_escaper.specs.model.Elements.{front_by, item_at, items_from, one, front, place, raw_front}
 use Rattle.rustc_literal_escaper.specs.declared.element.Element.TheVariants.{Plain}
 
 pub front_by-plain : (raw : Bool) (c : ℕ) (s : List ℕ) → is_plain raw c ≡ true → front_by raw c s ≡ one (Plain c, s)

@@ -4,7 +4,7 @@ use Rattle.std.specs.List.{list_any}
 use Rattle.std.proofs.{lemmas.{Bool.{cond-true}}, Math.Bool.{or-false, or_assoc}}
 use Rattle.std.proofs.lemmas.Grind.{common_steps}
 use Rattle.rustc_literal_escaper.specs.{Grammar.{is_newline, is_passed_over}, laws.Escape.{run-cut}}
-use Rattle.rustc_literal_escaper.specs.means.Escape.{front_run, past_run}
+use Rattle.rustc_literal_escaper.specs.model.Escape.{front_run, past_run}
 
 -- whether a newline is among the white space ahead
 unfoldable pub newline_ahead : List ℕ → Bool

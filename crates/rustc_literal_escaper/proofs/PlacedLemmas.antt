@@ -8,7 +8,7 @@ use Rattle.std.proofs.lemmas.Str.{encodes-append, encodes-chars, scalars-chars, 
 use Rattle.std.proofs.lemmas.Str.{IsCharBoundary-at_seam, encodes-IsAscii}
 use Rattle.std.specs.declared.ops.Range.{Range}
 use Rattle.std.proofs.lemmas.{Bool.Decides.{nat_tests}, Grind.{common_steps}}
-use Rattle.rustc_literal_escaper.specs.declared.element.Element.{Element, TheVariants.{Fault}}
+use Rattle.rustc_literal_escaper.specs.declared.element.Element.{Element, TheVariants.{Diagnostic}}
 use Rattle.rustc_literal_escaper.specs.declared.error.EscapeError.TheVariants.{MultipleSkippedLinesWarning}
 use Rattle.rustc_literal_escaper.specs.declared.error.EscapeError.TheVariants.{UnskippedWhitespaceWarning}
 use Rattle.rustc_literal_escaper.specs.Answers.{items_of}
@@ -66,8 +66,8 @@ module _ (text : List ℕ) (is : IsUtf8 text) where
   space-placed from space [] here = All-nil (IsPlaced text)
   space-placed from space (c ∷ next) here =
       let line : List ℕ = 92 ∷ 10 ∷ (space ++ c ∷ []) in
-      if-placed (is_whitespace c) (item from (Fault UnskippedWhitespaceWarning) line)
-      (item-placed from (Fault UnskippedWhitespaceWarning) line next (bytes-some 92 (10 ∷ (space ++ c ∷ [])))
+      if-placed (is_whitespace c) (item from (Diagnostic UnskippedWhitespaceWarning) line)
+      (item-placed from (Diagnostic UnskippedWhitespaceWarning) line next (bytes-some 92 (10 ∷ (space ++ c ∷ [])))
       (subst (Stands from) (ap (λ xs. 92 ∷ 10 ∷ xs) (sym (append_assoc space (c ∷ []) next))) here))
 
   placed : {raw : Bool} {from : ℕ} {s : List ℕ} {items : List Item} → AreItems raw from s items → Stands from s
@@ -83,8 +83,8 @@ module _ (text : List ℕ) (is : IsUtf8 text) where
       let line : List ℕ = 92 ∷ 10 ∷ space in
       All-append (IsPlaced text) (lines_warning from space ++ space_warning from space next) items
       (All-append (IsPlaced text) (lines_warning from space) (space_warning from space next)
-      (if-placed (list_any is_newline space) (item from (Fault MultipleSkippedLinesWarning) line)
-      (item-placed from (Fault MultipleSkippedLinesWarning) line next (bytes-some 92 (10 ∷ space)) here))
+      (if-placed (list_any is_newline space) (item from (Diagnostic MultipleSkippedLinesWarning) line)
+      (item-placed from (Diagnostic MultipleSkippedLinesWarning) line next (bytes-some 92 (10 ∷ space)) here))
       (space-placed from space next here))
       (placed are (past from line next here))
 
@@ -155,7 +155,7 @@ warnings-none from space next items =
       common_steps,
       filter-append,
       if-none (list_any is_newline space)
-          (item from (Fault MultipleSkippedLinesWarning) (92 ∷ 10 ∷ space)) refl,
+          (item from (Diagnostic MultipleSkippedLinesWarning) (92 ∷ 10 ∷ space)) refl,
       space-none from space next,
     )
 

@@ -9,9 +9,9 @@ use Rattle.std.proofs.lemmas.Bool.{ltb-true}
 use Rattle.std.proofs.{lemmas.{Bool.Decides.{nat_tests}, List.{append-nil}}, Math.Nat.{div-one}}
 use Rattle.std.proofs.lemmas.{Str.{digit_value-digit_char}, Grind.{common_steps}}
 use Rattle.rustc_literal_escaper.specs.declared.element.Element.{Element, TheVariants.{Byte, Plain, Unicode}}
-use Rattle.rustc_literal_escaper.specs.{declared.error.EscapeError.{EscapeError}, means.Elements.{front, StartsWithOne}}
-use Rattle.rustc_literal_escaper.specs.{laws.Escape.{by_char}, means.Escape.{braced, escape}, Grammar.{is_hex}}
-use Rattle.rustc_literal_escaper.specs.{Meaning.{char_of}, Written.{CharComesBack}, means.Single.{StartsWithSingle}}
+use Rattle.rustc_literal_escaper.specs.{declared.error.EscapeError.{EscapeError}, model.Elements.{front, StartsWithOne}}
+use Rattle.rustc_literal_escaper.specs.{laws.Escape.{by_char}, model.Escape.{braced, escape}, Grammar.{is_hex}}
+use Rattle.rustc_literal_escaper.specs.{Meaning.{char_of}, Written.{CharComesBack}, model.Single.{StartsWithSingle}}
 use Rattle.rustc_literal_escaper.proofs.AnswerLemmas.{literal_read, literal_is}
 use Rattle.rustc_literal_escaper.proofs.DigitLemmas.{left_at, left_at-brace, left_at-digit, left_at-start, with_digit}
 use Rattle.rustc_literal_escaper.proofs.ItemLemmas.{front_by-plain}

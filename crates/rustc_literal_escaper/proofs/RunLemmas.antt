@@ -7,10 +7,10 @@ use Rattle.std.proofs.lemmas.{Bool.{and_parts, not-true}, List.{take-append-drop
 use Rattle.std.proofs.lemmas.Str.{chars-append, chars-IsAscii, IsCharBoundary-from_take, IsUtf8-from_ascii}
 use Rattle.std.proofs.lemmas.Grind.{common_steps}
 use Rattle.rustc_literal_escaper.specs.declared.{element.Element.TheVariants.{Plain}, mode.Mode.{Mode}}
-use Rattle.rustc_literal_escaper.specs.{Meaning.{error_of, errors_in}, means.Plain.{is_simple, Passes}}
+use Rattle.rustc_literal_escaper.specs.{Meaning.{error_of, errors_in}, model.Plain.{is_simple, Passes}}
 use Rattle.rustc_literal_escaper.specs.Items.{is_plain}
 use Rattle.rustc_literal_escaper.proofs.{LaneLemmas.{run_front}, WrittenLemmas.{all-weaker, is-ascii}}
-use Rattle.rustc_literal_escaper.specs.means.Elements.{front_by, items_from}
+use Rattle.rustc_literal_escaper.specs.model.Elements.{front_by, items_from}
 use Rattle.rustc_literal_escaper.proofs.ItemLemmas.{items-plain}
 
 pub simple-parts : (raw : Bool) (c : ℕ) → is_simple raw c ≡ true → (nat_lt c 128 ≡ true) × (not (c == 0) ≡ true)

@@ -1,18 +1,18 @@
 -- What takes items, one after another.
 use Rattle.std.proofs.Common.{◌≡◌, ℕ, Bool, true, false, List, [], ◌∷◌, ◌++◌, map, true≢false, Option, Some, None}
 use Rattle.std.proofs.Common.{MatchOption, ◌<◌, length, if◌then◌else◌, refl, sym, ap, subst, ◌∙◌, arith, append_assoc}
-use Rattle.rustc_literal_escaper.specs.declared.element.Element.{Element, TheVariants.{Fault}}
+use Rattle.rustc_literal_escaper.specs.declared.element.Element.{Element, TheVariants.{Diagnostic}}
 use Rattle.rustc_literal_escaper.specs.declared.error.EscapeError.TheVariants.{MultipleSkippedLinesWarning}
 use Rattle.std.specs.List.{FoldsTo, list_any}
 use Rattle.std.proofs.lemmas.{Grind.{common_steps}, List.{map-append}}
 use Rattle.rustc_literal_escaper.specs.Grammar.{is_newline, is_passed_over}
-use Rattle.rustc_literal_escaper.specs.means.Escape.{escape, front_run, past_run}
+use Rattle.rustc_literal_escaper.specs.model.Escape.{escape, front_run, past_run}
 use Rattle.rustc_literal_escaper.specs.{Grammar.{Error, Item}, Items.{TakesFirst}, Meaning.{error_of, errors_in, put}}
-use Rattle.rustc_literal_escaper.specs.means.Sinks.{Runs, Takes}
-use Rattle.rustc_literal_escaper.specs.means.Sinks as sinks
+use Rattle.rustc_literal_escaper.specs.model.Sinks.{Runs, Takes}
+use Rattle.rustc_literal_escaper.specs.model.Sinks as sinks
 use Rattle.rustc_literal_escaper.specs.declared.{error.EscapeError.{EscapeError}, mode.Mode.{Mode}}
-use Rattle.rustc_literal_escaper.specs.means.Elements.{begins_line, front_by, item_by, items_by, front, line_end}
-use Rattle.rustc_literal_escaper.specs.means.Elements.{more_space, one, raw_element, raw_front, unescaped}
+use Rattle.rustc_literal_escaper.specs.model.Elements.{begins_line, front_by, item_by, items_by, front, line_end}
+use Rattle.rustc_literal_escaper.specs.model.Elements.{more_space, one, raw_element, raw_front, unescaped}
 use Rattle.rustc_literal_escaper.specs.laws.Elements.{items-cons, items-one, left-shorter, nothing}
 
 -- what the first character begins
@@ -39,7 +39,7 @@ pub items_line : (offset : List ℕ → ℕ) (start c : ℕ) (xs ys zs left : Li
     → ys ≡ 10 ∷ zs → start ≡ offset xs
     → newline ≡ list_any is_newline (front_run is_passed_over zs) → left ≡ past_run is_passed_over zs
     → items_by front offset xs ≡
-    map (item_by offset start) (if newline then (Fault MultipleSkippedLinesWarning, left) ∷ [] else [])
+    map (item_by offset start) (if newline then (Diagnostic MultipleSkippedLinesWarning, left) ∷ [] else [])
     ++ (map (item_by offset start) (more_space left) ++ items_by front offset left)
 items_line offset start c xs ys zs left newline is slash line begins lines past =
     let here : offset (c ∷ ys) ≡ start = sym (begins ∙ ap offset is) in

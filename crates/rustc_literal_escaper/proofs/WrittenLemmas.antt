@@ -10,7 +10,7 @@ use Rattle.std.proofs.lemmas.Str.{chars-IsAscii, encodes-IsAscii, IsCharBoundary
 use Rattle.std.proofs.lemmas.Str.{scalars-chars}
 use Rattle.std.proofs.lemmas.{Str.Ascii.{IsAscii-from_reads}, Grind.{common_steps}}
 use Rattle.rustc_literal_escaper.specs.declared.{element.Element.{Element}, error.EscapeError.{EscapeError}}
-use Rattle.rustc_literal_escaper.specs.{Grammar.{Item}, means.Elements.{front, items_from, place, StartsWithOne}}
+use Rattle.rustc_literal_escaper.specs.{Grammar.{Item}, model.Elements.{front, items_from, place, StartsWithOne}}
 use Rattle.rustc_literal_escaper.specs.Meaning.{byte_of, char_of, unit_of, unit_of_byte}
 use Rattle.rustc_literal_escaper.specs.Written.{Grows, StandsFor, written_bytes, written_text}
 use Rattle.rustc_literal_escaper.specs.laws.Elements.{items-cons, nothing}

@@ -14,7 +14,7 @@ use Rattle.std.specs.List.{list_all, list_any}
 use Rattle.std.specs.Str.{byte, encode_utf8_all}
 use Rattle.std.specs.declared.ops.Range.{Range}
 use Rattle.rustc_literal_escaper.specs.declared.element.Element.{Element}
-use Rattle.rustc_literal_escaper.specs.declared.element.Element.TheVariants.{Plain, Byte, Unicode, Fault}
+use Rattle.rustc_literal_escaper.specs.declared.element.Element.TheVariants.{Plain, Byte, Unicode, Diagnostic}
 use Rattle.rustc_literal_escaper.specs.declared.error.EscapeError.{EscapeError}
 use Rattle.rustc_literal_escaper.specs.declared.error.EscapeError.TheVariants.{ZeroChars, MoreThanOneChar, LoneSlash}
 use Rattle.rustc_literal_escaper.specs.declared.error.EscapeError.TheVariants.{InvalidEscape, BareCarriageReturn}
@@ -85,45 +85,45 @@ pub data IsEscapeBefore (next : Chars) : Element → Chars → Type 0 where
       → IsEscapeBefore next (Unicode (hex_value (filter is_hex (d ∷ w))))
       (codes "u{" ++ d ∷ w ++ codes "}")
   -- errors: a backslash at the end, and one before any other character
-  lone : next ≡ [] → IsEscapeBefore next (Fault LoneSlash) []
+  lone : next ≡ [] → IsEscapeBefore next (Diagnostic LoneSlash) []
   invalid : {c : ℕ}
       → is_among (codes "0tnr\\'\"xu") c ≡ false
-      → IsEscapeBefore next (Fault InvalidEscape) (c ∷ [])
+      → IsEscapeBefore next (Diagnostic InvalidEscape) (c ∷ [])
   -- `\x` and `\x7` at the end; `\xg`; `\x7g`
-  no_digits : next ≡ [] → IsEscapeBefore next (Fault TooShortHexEscape) (codes "x")
+  no_digits : next ≡ [] → IsEscapeBefore next (Diagnostic TooShortHexEscape) (codes "x")
   one_digit : {h : ℕ}
       → next ≡ []
       → is_hex h ≡ true
-      → IsEscapeBefore next (Fault TooShortHexEscape) (byte "x" ∷ h ∷ [])
+      → IsEscapeBefore next (Diagnostic TooShortHexEscape) (byte "x" ∷ h ∷ [])
   bad_first : {h : ℕ}
       → is_hex h ≡ false
-      → IsEscapeBefore next (Fault InvalidCharInHexEscape) (byte "x" ∷ h ∷ [])
+      → IsEscapeBefore next (Diagnostic InvalidCharInHexEscape) (byte "x" ∷ h ∷ [])
   bad_second : {h l : ℕ}
       → is_hex h ≡ true
       → is_hex l ≡ false
-      → IsEscapeBefore next (Fault InvalidCharInHexEscape) (byte "x" ∷ h ∷ l ∷ [])
+      → IsEscapeBefore next (Diagnostic InvalidCharInHexEscape) (byte "x" ∷ h ∷ l ∷ [])
   -- `\u` at the end; `\u1`
-  no_more : next ≡ [] → IsEscapeBefore next (Fault NoBraceInUnicodeEscape) (codes "u")
+  no_more : next ≡ [] → IsEscapeBefore next (Diagnostic NoBraceInUnicodeEscape) (codes "u")
   no_brace : {c : ℕ}
       → (c == byte "{") ≡ false
-      → IsEscapeBefore next (Fault NoBraceInUnicodeEscape) (byte "u" ∷ c ∷ [])
+      → IsEscapeBefore next (Diagnostic NoBraceInUnicodeEscape) (byte "u" ∷ c ∷ [])
   -- `\u{_`; `\u{}`
-  underscore : IsEscapeBefore next (Fault LeadingUnderscoreUnicodeEscape) (codes "u{_")
-  empty : IsEscapeBefore next (Fault EmptyUnicodeEscape) (codes "u{}")
+  underscore : IsEscapeBefore next (Diagnostic LeadingUnderscoreUnicodeEscape) (codes "u{_")
+  empty : IsEscapeBefore next (Diagnostic EmptyUnicodeEscape) (codes "u{}")
   -- `\u{1` at the end; `\u{1g`; `\u{1234567}`
   unclosed : {w : Chars}
       → next ≡ []
       → AreDigits w
-      → IsEscapeBefore next (Fault UnclosedUnicodeEscape) (codes "u{" ++ w)
+      → IsEscapeBefore next (Diagnostic UnclosedUnicodeEscape) (codes "u{" ++ w)
   bad_digit : {w : Chars} (c : ℕ)
       → AreDigits w
       → is_digit_or_underscore c ≡ false
       → (c == byte "}") ≡ false
-      → IsEscapeBefore next (Fault InvalidCharInUnicodeEscape) (codes "u{" ++ w ++ c ∷ [])
+      → IsEscapeBefore next (Diagnostic InvalidCharInUnicodeEscape) (codes "u{" ++ w ++ c ∷ [])
   too_many : {w : Chars}
       → AreDigits w
       → 6 < length (filter is_hex w)
-      → IsEscapeBefore next (Fault OverlongUnicodeEscape) (codes "u{" ++ w ++ codes "}")
+      → IsEscapeBefore next (Diagnostic OverlongUnicodeEscape) (codes "u{" ++ w ++ codes "}")
 
 -- ---- elements
 
@@ -137,13 +137,13 @@ pub data IsElementBefore (special next : Chars) : Element → Chars → Type 0 w
       → IsElementBefore special next element (codes "\\" ++ w)
   unescaped : {c : ℕ}
       → is_among special c ≡ true
-      → IsElementBefore special next (Fault EscapeOnlyChar) (c ∷ [])
-  bare : IsElementBefore special next (Fault BareCarriageReturn) (codes "\r")
+      → IsElementBefore special next (Diagnostic EscapeOnlyChar) (c ∷ [])
+  bare : IsElementBefore special next (Diagnostic BareCarriageReturn) (codes "\r")
 
 -- the same in a raw string, where each character is an element
 pub data IsRawElement : Element → ℕ → Type 0 where
   plain : {c : ℕ} → (c == byte "\r") ≡ false → IsRawElement (Plain c) c
-  bare : IsRawElement (Fault BareCarriageReturnInRawString) (byte "\r")
+  bare : IsRawElement (Diagnostic BareCarriageReturnInRawString) (byte "\r")
 
 -- ---- between single quotes
 
@@ -199,14 +199,14 @@ next_is p (c ∷ s) = p c
 -- a warning if the skipped white space has another newline. It covers everything that is skipped
 abbrev pub lines_warning : ℕ → Chars → List Item
 lines_warning from space =
-    if list_any is_newline space then item from (Fault MultipleSkippedLinesWarning)
+    if list_any is_newline space then item from (Diagnostic MultipleSkippedLinesWarning)
     (codes "\\\n" ++ space) ∷ [] else []
 
 -- a warning if other white space follows. It covers the first character of that too
 abbrev pub space_warning : ℕ → Chars → Chars → List Item
 space_warning from space [] = []
 space_warning from space (c ∷ next) =
-    if is_whitespace c then item from (Fault UnskippedWhitespaceWarning)
+    if is_whitespace c then item from (Diagnostic UnskippedWhitespaceWarning)
     (codes "\\\n" ++ space ++ c ∷ []) ∷ [] else []
 
 -- the items of a text that begins at the offset `from`. The text is STRING_LITERAL,

@@ -5,7 +5,7 @@ use Rattle.std.specs.List.{list_all}
 use Rattle.std.specs.Str.{byte, chars}
 use Rattle.std.specs.declared.ops.Range.{Range}
 use Rattle.rustc_literal_escaper.specs.declared.element.Element.{Element}
-use Rattle.rustc_literal_escaper.specs.declared.element.Element.TheVariants.{Plain, Fault}
+use Rattle.rustc_literal_escaper.specs.declared.element.Element.TheVariants.{Plain, Diagnostic}
 use Rattle.rustc_literal_escaper.specs.Answers.{items_of}
 use Rattle.rustc_literal_escaper.specs.Grammar.{Item, is_passed_over}
 use Rattle.rustc_literal_escaper.specs.Meaning.{is_fatal}
@@ -80,7 +80,7 @@ IsMadeOf raw from left (place ∷ places) =
 -- whether an element is a warning: it reports a skipped line end, and is not part of what the text
 -- stands for
 abbrev pub is_warning : Element → Bool
-is_warning (Fault error) = not (is_fatal error)
+is_warning (Diagnostic error) = not (is_fatal error)
 is_warning element = false
 
 abbrev pub is_unit : Item → Bool

@@ -5,4 +5,4 @@ pub mod Meaning
 pub mod Numbers
 pub mod Written
 pub mod laws
-pub mod means
+pub mod model

@@ -4,7 +4,7 @@ use Rattle.std.specs.Prelude.{None, Result, Ok, Err}
 use Rattle.std.specs.Result.{result_err}
 use Rattle.std.specs.declared.ops.Range.{Range}
 use Rattle.rustc_literal_escaper.specs.declared.element.Element.{Element}
-use Rattle.rustc_literal_escaper.specs.declared.element.Element.TheVariants.{Plain, Byte, Unicode, Fault}
+use Rattle.rustc_literal_escaper.specs.declared.element.Element.TheVariants.{Plain, Byte, Unicode, Diagnostic}
 use Rattle.rustc_literal_escaper.specs.declared.error.EscapeError.{EscapeError}
 use Rattle.rustc_literal_escaper.specs.declared.error.EscapeError.TheVariants.{OutOfRangeHexEscape}
 use Rattle.rustc_literal_escaper.specs.declared.error.EscapeError.TheVariants.{LoneSurrogateUnicodeEscape}
@@ -31,14 +31,14 @@ abbrev pub char_of : Element → Result ℕ EscapeError
 char_of (Plain c) = Ok c
 char_of (Byte b) = if nat_lt b 128 then Ok b else Err OutOfRangeHexEscape
 char_of (Unicode n) = scalar_of n
-char_of (Fault error) = Err error
+char_of (Diagnostic error) = Err error
 
 -- in a byte or a byte string, where characters beyond ASCII and `\u` are errors
 abbrev pub byte_of : Element → Result ℕ EscapeError
 byte_of (Plain c) = if nat_lt c 128 then Ok c else Err NonAsciiCharInByte
 byte_of (Byte b) = Ok b
 byte_of (Unicode n) = Err UnicodeEscapeInByte
-byte_of (Fault error) = Err error
+byte_of (Diagnostic error) = Err error
 
 -- a byte of ASCII is a character
 abbrev pub unit_of_byte : ℕ → MixedUnit
@@ -57,7 +57,7 @@ abbrev pub unit_of : Element → Result MixedUnit EscapeError
 unit_of (Plain c) = unit_or_nul c (CharUnit c)
 unit_of (Byte b) = unit_or_nul b (unit_of_byte b)
 unit_of (Unicode n) = unit_of_scalar (scalar_of n)
-unit_of (Fault error) = Err error
+unit_of (Diagnostic error) = Err error
 
 abbrev pub not_nul : Result ℕ EscapeError → Result ℕ EscapeError
 not_nul (Ok c) = if c == 0 then Err NulInCStr else Ok c

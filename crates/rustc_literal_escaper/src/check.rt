@@ -5,8 +5,8 @@ ghost use Rattle.std.specs.Option.{option_to_list};
 ghost use Rattle.std.specs.Str.{chars};
 ghost use Rattle.rustc_literal_escaper.specs.Answers.{errors_of};
 ghost use Rattle.rustc_literal_escaper.specs.Meaning as spec;
-ghost use Rattle.rustc_literal_escaper.specs.means.Elements.{place};
-ghost use Rattle.rustc_literal_escaper.specs.means.Single as means;
+ghost use Rattle.rustc_literal_escaper.specs.model.Elements.{place};
+ghost use Rattle.rustc_literal_escaper.specs.model.Single as model;
 
 use crate::element::Element;
 use crate::elements::{Sink, each};
@@ -25,9 +25,9 @@ use std::ops::Range;
 /// ```
 /// use rustc_literal_escaper::{EscapeError, Mode, check_for_errors};
 ///
-/// let mut faults = Vec::new();
-/// check_for_errors(r"a\q", Mode::Str, |range, error| faults.push((range, error)));
-/// assert_eq!(faults, [(1..3, EscapeError::InvalidEscape)]);
+/// let mut escape_errors = Vec::new();
+/// check_for_errors(r"a\q", Mode::Str, |range, error| escape_errors.push((range, error)));
+/// assert_eq!(escape_errors, [(1..3, EscapeError::InvalidEscape)]);
 /// ```
 #[inline]
 pub fn check_for_errors<F: FnMut(Range<usize>, EscapeError)>(
@@ -56,7 +56,7 @@ pub fn check_for_errors<F: FnMut(Range<usize>, EscapeError)>(
 fn each_single_error<F: FnMut(Range<usize>, EscapeError)>(src: &str, mode: Mode, callback: &mut F)
     requires callable { F.IsAlwaysCallable callback.old }
     ensures calls { FoldsTo (λ f error g. F.step f error.0 error.1 tt g) callback.old
-        (option_to_list (means.single_error (place (length src.now)) mode (chars src.now)))
+        (option_to_list (model.single_error (place (length src.now)) mode (chars src.now)))
         callback.new }
 {
     if let Some((range, error)) = single_error(&mut Plain::new(src), mode) {

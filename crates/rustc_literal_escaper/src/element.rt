@@ -19,7 +19,7 @@ pub enum Element {
     /// A number of at most six digits, like `\u{1F600}`. It is not always the number of a character.
     Unicode(u32),
     /// An error in every kind of literal, or a warning.
-    Fault(EscapeError),
+    Diagnostic(EscapeError),
 }
 
 impl Element {
@@ -33,7 +33,7 @@ impl Element {
             Element::Byte(byte) if byte < 128 => Ok(byte as char),
             Element::Byte(_) => Err(EscapeError::OutOfRangeHexEscape),
             Element::Unicode(number) => scalar(number),
-            Element::Fault(error) => Err(error),
+            Element::Diagnostic(error) => Err(error),
         }
     }
 
@@ -47,7 +47,7 @@ impl Element {
             Element::Plain(_) => Err(EscapeError::NonAsciiCharInByte),
             Element::Byte(byte) => Ok(byte),
             Element::Unicode(_) => Err(EscapeError::UnicodeEscapeInByte),
-            Element::Fault(error) => Err(error),
+            Element::Diagnostic(error) => Err(error),
         }
     }
 
@@ -60,7 +60,7 @@ impl Element {
             Element::Plain(c) => MixedUnit::try_from(c),
             Element::Byte(byte) => MixedUnit::try_from(byte),
             Element::Unicode(number) => MixedUnit::try_from(scalar(number)?),
-            Element::Fault(error) => Err(error),
+            Element::Diagnostic(error) => Err(error),
         }
     }
 

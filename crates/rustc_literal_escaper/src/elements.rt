@@ -7,10 +7,10 @@ ghost use Rattle.rustc_literal_escaper.specs.Grammar.{is_newline, is_passed_over
 ghost use Rattle.rustc_literal_escaper.specs.Grammar as grammar;
 ghost use Rattle.rustc_literal_escaper.specs.Items.{ArePlaced, IsRebuilt, StandsForItself, TakesFirst};
 ghost use Rattle.rustc_literal_escaper.specs.Meaning.{errors_in};
-ghost use Rattle.rustc_literal_escaper.specs.means.Elements as spec;
-ghost use Rattle.rustc_literal_escaper.specs.means.Elements.{all_items, front_by, item_by, items_by};
-ghost use Rattle.rustc_literal_escaper.specs.means.Escape.{front_run, past_run};
-ghost use Rattle.rustc_literal_escaper.specs.means.Sinks.{Runs, Takes};
+ghost use Rattle.rustc_literal_escaper.specs.model.Elements as spec;
+ghost use Rattle.rustc_literal_escaper.specs.model.Elements.{all_items, front_by, item_by, items_by};
+ghost use Rattle.rustc_literal_escaper.specs.model.Escape.{front_run, past_run};
+ghost use Rattle.rustc_literal_escaper.specs.model.Sinks.{Runs, Takes};
 
 use crate::element::Element;
 use crate::error::EscapeError;
@@ -144,13 +144,13 @@ fn warn_of_lines<T: Text, S: Sink>(rest: &T, start: usize, lines: bool, sink: &m
     requires ready { S.ready sink.old }
     ensures ready { S.ready sink.new }
     ensures takes { Takes S.took sink.old (map (item_by (T.offset_of rest.now) start)
-        (if lines then (Element.Fault EscapeError.MultipleSkippedLinesWarning, T.left rest.now)
+        (if lines then (Element.Diagnostic EscapeError.MultipleSkippedLinesWarning, T.left rest.now)
         ∷ [] else [])) result sink.new }
 {
     if !lines {
         return true;
     }
-    let warning = Element::Fault(EscapeError::MultipleSkippedLinesWarning);
+    let warning = Element::Diagnostic(EscapeError::MultipleSkippedLinesWarning);
     sink.take(start..rest.offset(), warning)
 }
 
@@ -170,7 +170,7 @@ fn warn_of_space<T: Text, S: Sink>(rest: &T, start: usize, sink: &mut S) -> bool
     if !c.is_whitespace() {
         return true;
     }
-    let warning = Element::Fault(EscapeError::UnskippedWhitespaceWarning);
+    let warning = Element::Diagnostic(EscapeError::UnskippedWhitespaceWarning);
     sink.take(start..ahead.offset(), warning)
 }
 
@@ -226,7 +226,7 @@ fn raw_element(c: char) -> Element
     ensures { result ≡ spec.raw_element c }
 {
     if c == '\r' {
-        Element::Fault(EscapeError::BareCarriageReturnInRawString)
+        Element::Diagnostic(EscapeError::BareCarriageReturnInRawString)
     } else {
         Element::Plain(c)
     }
@@ -238,8 +238,8 @@ fn unescaped(c: char) -> Element
     ensures { result ≡ spec.unescaped c }
 {
     match c {
-        '"' => Element::Fault(EscapeError::EscapeOnlyChar),
-        '\r' => Element::Fault(EscapeError::BareCarriageReturn),
+        '"' => Element::Diagnostic(EscapeError::EscapeOnlyChar),
+        '\r' => Element::Diagnostic(EscapeError::BareCarriageReturn),
         _ => Element::Plain(c),
     }
 }
@@ -262,7 +262,7 @@ pub struct ElementsOf<T: Text> {
 impl<T: Text> Model for ElementsOf<T> {
     ghost use Rattle.std.specs.Prelude.{List};
     ghost use Rattle.rustc_literal_escaper.specs.Grammar.{Item};
-    ghost use Rattle.rustc_literal_escaper.specs.means.Elements.{all_items};
+    ghost use Rattle.rustc_literal_escaper.specs.model.Elements.{all_items};
 
     ghost Value = { List Item };
 

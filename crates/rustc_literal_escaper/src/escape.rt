@@ -1,11 +1,11 @@
 //! Reads escapes.
 ghost use Rattle.std.specs.Prelude.{◌≡◌, ◌<◌, ◌^◌, ◌+◌, ◌*◌, ◌∷◌, ℕ, min, nat_le, nat_lt, if◌then◌else◌, MatchOption};
 ghost use Rattle.std.specs.Char.{digit_value};
-ghost use Rattle.rustc_literal_escaper.specs.means.Escape as spec;
-ghost use Rattle.rustc_literal_escaper.specs.means.Escape.{closed_at_run};
+ghost use Rattle.rustc_literal_escaper.specs.model.Escape as spec;
+ghost use Rattle.rustc_literal_escaper.specs.model.Escape.{closed_at_run};
 
 use crate::element::Element;
-use crate::element::Element::{Byte, Fault};
+use crate::element::Element::{Byte, Diagnostic};
 use crate::error::EscapeError;
 use crate::text::Text;
 
@@ -19,7 +19,7 @@ pub fn read_escape<T: Text>(rest: &mut T) -> Element
     ensures read { (result, T.left rest.new) ≡ spec.escape (T.left rest.old) }
 {
     let Some(c) = rest.next_char() else {
-        return Element::Fault(EscapeError::LoneSlash);
+        return Element::Diagnostic(EscapeError::LoneSlash);
     };
     match c {
         'x' => hex(rest),
@@ -35,7 +35,7 @@ pub fn read_escape<T: Text>(rest: &mut T) -> Element
 }
 
 /// The element for a backslash and a character that are not an escape.
-const NONE: Element = Fault(EscapeError::InvalidEscape);
+const NONE: Element = Diagnostic(EscapeError::InvalidEscape);
 
 // The values of the other short escapes.
 const NUL: Element = Byte(0);
@@ -116,16 +116,16 @@ fn hex<T: Text>(rest: &mut T) -> Element
     ensures read { (result, T.left rest.new) ≡ spec.hex (T.left rest.old) }
 {
     let Some(high) = rest.next_char() else {
-        return Element::Fault(EscapeError::TooShortHexEscape);
+        return Element::Diagnostic(EscapeError::TooShortHexEscape);
     };
     let Some(high) = hex_digit(high) else {
-        return Element::Fault(EscapeError::InvalidCharInHexEscape);
+        return Element::Diagnostic(EscapeError::InvalidCharInHexEscape);
     };
     let Some(low) = rest.next_char() else {
-        return Element::Fault(EscapeError::TooShortHexEscape);
+        return Element::Diagnostic(EscapeError::TooShortHexEscape);
     };
     let Some(low) = hex_digit(low) else {
-        return Element::Fault(EscapeError::InvalidCharInHexEscape);
+        return Element::Diagnostic(EscapeError::InvalidCharInHexEscape);
     };
     Element::Byte((high * 16 + low) as u8)
 }
@@ -137,12 +137,12 @@ fn unicode<T: Text>(rest: &mut T) -> Element
     ensures read { (result, T.left rest.new) ≡ spec.unicode (T.left rest.old) }
 {
     let Some(brace) = rest.next_char() else {
-        return Element::Fault(EscapeError::NoBraceInUnicodeEscape);
+        return Element::Diagnostic(EscapeError::NoBraceInUnicodeEscape);
     };
     if brace == '{' {
         braced(rest)
     } else {
-        Element::Fault(EscapeError::NoBraceInUnicodeEscape)
+        Element::Diagnostic(EscapeError::NoBraceInUnicodeEscape)
     }
 }
 
@@ -154,14 +154,14 @@ fn braced<T: Text>(rest: &mut T) -> Element
     ensures read { (result, T.left rest.new) ≡ spec.braced (T.left rest.old) }
 {
     let Some(first) = rest.next_char() else {
-        return Element::Fault(EscapeError::UnclosedUnicodeEscape);
+        return Element::Diagnostic(EscapeError::UnclosedUnicodeEscape);
     };
     match first {
-        '_' => Element::Fault(EscapeError::LeadingUnderscoreUnicodeEscape),
-        '}' => Element::Fault(EscapeError::EmptyUnicodeEscape),
+        '_' => Element::Diagnostic(EscapeError::LeadingUnderscoreUnicodeEscape),
+        '}' => Element::Diagnostic(EscapeError::EmptyUnicodeEscape),
         _ => match hex_digit(first) {
             Some(digit) => digits(digit, rest),
-            None => Element::Fault(EscapeError::InvalidCharInUnicodeEscape),
+            None => Element::Diagnostic(EscapeError::InvalidCharInUnicodeEscape),
         },
     }
 }
@@ -179,7 +179,7 @@ fn digits<T: Text>(first: u32, rest: &mut T) -> Element
     let mut count: usize = 1;
     'digits: loop {
         let Some(c) = rest.next_char() else {
-            return Element::Fault(EscapeError::UnclosedUnicodeEscape);
+            return Element::Diagnostic(EscapeError::UnclosedUnicodeEscape);
         };
         if c == '_' {
             continue;
@@ -188,7 +188,7 @@ fn digits<T: Text>(first: u32, rest: &mut T) -> Element
             return number(value, count);
         }
         let Some(digit) = hex_digit(c) else {
-            return Element::Fault(EscapeError::InvalidCharInUnicodeEscape);
+            return Element::Diagnostic(EscapeError::InvalidCharInUnicodeEscape);
         };
         if count > MOST_DIGITS {
             continue;
@@ -201,12 +201,12 @@ fn digits<T: Text>(first: u32, rest: &mut T) -> Element
 /// Returns the number with `count` digits. Its value is `value` unless it has too many digits.
 fn number(value: u32, count: usize) -> Element
     ensures { result ≡ if nat_le count MOST_DIGITS then Element.Unicode value
-        else Element.Fault EscapeError.OverlongUnicodeEscape }
+        else Element.Diagnostic EscapeError.OverlongUnicodeEscape }
 {
     if count <= MOST_DIGITS {
         Element::Unicode(value)
     } else {
-        Element::Fault(EscapeError::OverlongUnicodeEscape)
+        Element::Diagnostic(EscapeError::OverlongUnicodeEscape)
     }
 }
 

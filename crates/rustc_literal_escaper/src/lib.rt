@@ -10,7 +10,7 @@ mod element;
 mod elements;
 mod error;
 mod escape;
-mod faults;
+mod escape_errors;
 mod mode;
 mod scan;
 mod simple;
@@ -24,7 +24,7 @@ pub use check::check_for_errors;
 pub use element::Element;
 pub use elements::Elements;
 pub use error::EscapeError;
-pub use faults::Faults;
+pub use escape_errors::EscapeErrors;
 pub use mode::Mode;
 pub use single::{unescape_byte, unescape_char};
 pub use strings::{
@@ -34,7 +34,7 @@ pub use strings::{
 pub use unit::{MixedUnit, NonZeroChar, NonZeroU8};
 pub use written::{EscapeCStrError, escape_byte_str, escape_c_str, escape_str};
 
-// For `marks`, which reads literals with CRLF line endings.
+// For `rustc_lexer_highlight`, which reads literals with CRLF line endings.
 pub use elements::ElementsOf;
 pub use scan::split_first;
 pub use single::single_error;

@@ -3,7 +3,7 @@ ghost use Rattle.std.specs.Prelude.{◌≡◌, ◌≤◌, true, false, length, m
 ghost use Rattle.std.specs.List.{prefix_len};
 ghost use Rattle.std.specs.Simd.Lanes.{mask_l};
 ghost use Rattle.std.specs.Str.{chars, IsUtf8};
-ghost use Rattle.rustc_literal_escaper.specs.means.Plain as spec;
+ghost use Rattle.rustc_literal_escaper.specs.model.Plain as spec;
 
 use crate::text::Plain;
 use std::simd::prelude::*;

@@ -3,7 +3,7 @@ ghost use Rattle.std.specs.Prelude.{◌≡◌};
 ghost use Rattle.std.specs.Str.{chars};
 ghost use Rattle.rustc_literal_escaper.specs.Answers.{byte_literal, char_literal};
 ghost use Rattle.rustc_literal_escaper.specs.Written.{ByteComesBack, CharComesBack};
-ghost use Rattle.rustc_literal_escaper.specs.means.Single as spec;
+ghost use Rattle.rustc_literal_escaper.specs.model.Single as spec;
 
 use crate::element::Element;
 use crate::error::EscapeError;
@@ -114,8 +114,8 @@ fn unescaped(c: char) -> Element
     ensures { result ≡ spec.unescaped c }
 {
     match c {
-        '\n' | '\t' | '\'' => Element::Fault(EscapeError::EscapeOnlyChar),
-        '\r' => Element::Fault(EscapeError::BareCarriageReturn),
+        '\n' | '\t' | '\'' => Element::Diagnostic(EscapeError::EscapeOnlyChar),
+        '\r' => Element::Diagnostic(EscapeError::BareCarriageReturn),
         _ => Element::Plain(c),
     }
 }

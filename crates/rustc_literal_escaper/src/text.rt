@@ -76,7 +76,7 @@ impl<'a> Plain<'a> {
 }
 
 impl<'a> Text for Plain<'a> {
-    ghost use Rattle.rustc_literal_escaper.specs.means.Elements.{place};
+    ghost use Rattle.rustc_literal_escaper.specs.model.Elements.{place};
 
     ghost left = { λ p. p.1 };
 

@@ -1,18 +1,18 @@
 //! The arguments of `highlight`, its choice of colours, its output and its messages, also with streams that fail.
 
-#[path = "../../ends/tests/failing/mod.rs"]
+#[path = "../../program_io/tests/failing/mod.rs"]
 mod failing;
 
 use failing::{BYTES, Program, WHOLE, words_of};
 use highlight_run::program::{Start, program};
 use highlight_run::run::run;
 use highlight_run::{Job, read_job};
-use marks::Format::{self, Colours, Html, NoColours, Raw};
 use rattle_std::alloc::Global;
 use rattle_std::env::VarError::{self, NotPresent, NotUnicode, OutOfMemory};
 use rattle_std::io::ErrorKind;
 use rattle_std::prelude::String;
 use rustc_lexer::Edition::{self, E2015, E2018, E2021, E2024};
+use rustc_lexer_highlight::Format::{self, Colours, Html, NoColours, Raw};
 
 /// Arguments with bars between them, whether the output can show colours, and the format and the edition that they
 /// select.

@@ -1,6 +1,6 @@
 //! The arguments of the program.
 
-use marks::Edition;
+use rustc_lexer_highlight::Edition;
 use std::ffi::{OsStr, OsString};
 
 /// The output of `--help`.

@@ -1,14 +1,14 @@
 //! Checks Rust files: prints a line for each malformed token, and for each error or warning in a literal.
 
 mod arguments;
-mod faults;
+mod errors;
 mod position;
 
 use arguments::{Command, HELP};
-use faults::{faults_of, is_warning};
-use marks::Edition;
+use errors::{errors_of, is_warning};
 use position::Position;
 use rustc_lexer::fits;
+use rustc_lexer_highlight::Edition;
 use std::ffi::OsStr;
 use std::fmt::Display;
 use std::io::{self, BufWriter, ErrorKind, Read, Write};
@@ -79,13 +79,13 @@ impl<W: Write> Run<W> {
     /// Writes a line for each error and warning of a text.
     fn check_text(&mut self, name: &str, text: &str, edition: Edition) -> io::Result<()> {
         let mut position = Position::start_of(text);
-        for (offset, fault) in faults_of(text, edition) {
+        for (offset, error) in errors_of(text, edition) {
             position.advance_to(offset);
-            let mark = if is_warning(fault) { "warning: " } else { "" };
+            let mark = if is_warning(error) { "warning: " } else { "" };
             if mark.is_empty() {
                 self.status = self.status.max(Status::Errors);
             }
-            writeln!(self.output, "{name}:{position}: {mark}{fault}")?;
+            writeln!(self.output, "{name}:{position}: {mark}{error}")?;
         }
         Ok(())
     }

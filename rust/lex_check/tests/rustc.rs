@@ -67,7 +67,7 @@ const LINES: [(&str, &[usize], &[usize]); 50] = [
     ("1_u8 1.0_f32 \"a\"", &[], &[]),
 ];
 
-/// Whole files, the positions of their errors and warnings, and those of rustc where they differ.
+/// Document files, the positions of their errors and warnings, and those of rustc where they differ.
 #[rustfmt::skip]
 const FILES: [(&str, &[&str], &[&str]); 35] = [
     ("const A: u8 = b'a';\n", &[], &[]),

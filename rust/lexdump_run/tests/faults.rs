@@ -1,6 +1,6 @@
 //! Why a run stops, at input that it rejects or streams that fail, and the messages of the program.
 
-#[path = "../../ends/tests/failing/mod.rs"]
+#[path = "../../program_io/tests/failing/mod.rs"]
 mod failing;
 
 use failing::{BYTES, Program, Script, Turn, WHOLE, words_of};

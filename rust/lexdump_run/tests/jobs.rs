@@ -1,6 +1,6 @@
 //! The job that the arguments describe.
 
-#[path = "../../ends/tests/failing/mod.rs"]
+#[path = "../../program_io/tests/failing/mod.rs"]
 mod failing;
 
 use Wanted::{Edits, Front, Plain, Shebang};

@@ -1,6 +1,6 @@
 //! The listings of texts, with one byte for each read and write, and in blocks.
 
-#[path = "../../ends/tests/failing/mod.rs"]
+#[path = "../../program_io/tests/failing/mod.rs"]
 mod failing;
 
 use failing::{BYTES, Script, Turn, WHOLE, Writer, words_of};

@@ -10,7 +10,7 @@ fn main() -> std::io::Result<()> {
     let change = file.edit(0..3, "pub use");
     let kept = change.kept_front + change.kept_back;
     println!("{kept} tokens were kept. These were lexed:");
-    for piece in file.pieces_of_tokens(change.changed_tokens()) {
+    for piece in file.pieces_by_index(change.changed_tokens()) {
         println!("{:?} {:?}", piece.token.kind, piece.text);
     }
     Ok(())

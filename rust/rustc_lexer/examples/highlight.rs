@@ -39,7 +39,7 @@ fn highlight(output: &mut common::Output) -> Result<(), Box<dyn Error>> {
         }
         let relexed = lexed.edit(start..stop, insert);
         let painted: Vec<String> = lexed
-            .pieces_of_tokens(relexed.changed_tokens())
+            .pieces_by_index(relexed.changed_tokens())
             .map(paint)
             .collect();
         let kept = relexed.kept_front + relexed.kept_back;

@@ -91,7 +91,7 @@ impl Stream {
     }
 
     fn print(&mut self, end: usize, output: &mut impl Write) -> io::Result<()> {
-        for piece in self.lexed.pieces_of_tokens(self.printed..end) {
+        for piece in self.lexed.pieces_by_index(self.printed..end) {
             let kind = piece.token.kind;
             writeln!(output, "{} {kind:?} {:?}", piece.start, piece.text)?;
         }

@@ -11,7 +11,7 @@ fn update(mut lexed: LexedDocument, mut output: impl Write) -> io::Result<()> {
         let typed = typed?;
         let relexed = lexed.edit(cursor..cursor, &typed);
         cursor += typed.len();
-        for piece in lexed.pieces_of_tokens(relexed.changed_tokens()) {
+        for piece in lexed.pieces_by_index(relexed.changed_tokens()) {
             let kind = piece.token.kind;
             writeln!(output, "{} {kind:?} {:?}", piece.start, piece.text)?;
         }

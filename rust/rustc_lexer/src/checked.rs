@@ -1,7 +1,7 @@
 //! A stepper whose tokens are checked.
 
 use crate::Token;
-use crate::erased::Stepper;
+use crate::generated::Stepper;
 
 /// A [`Stepper`] of your own, inside a lexed text that checks where each of its tokens ends.
 ///

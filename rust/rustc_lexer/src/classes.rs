@@ -1,6 +1,6 @@
 //! Classes of characters, and tests of texts.
 
-use crate::erased;
+use crate::generated;
 
 /// Returns whether the character is whitespace in Rust: one of the eleven characters of `Pattern_White_Space`, to which
 /// no version of Unicode adds any.
@@ -16,7 +16,7 @@ use crate::erased;
 #[cfg_attr(not(debug_assertions), inline)]
 #[must_use]
 pub fn is_whitespace(c: char) -> bool {
-    erased::is_whitespace(c)
+    generated::is_whitespace(c)
 }
 
 /// Returns whether the character is horizontal whitespace: a tab or a space. The lines of the fences of a frontmatter
@@ -32,7 +32,7 @@ pub fn is_whitespace(c: char) -> bool {
 #[cfg_attr(not(debug_assertions), inline)]
 #[must_use]
 pub fn is_horizontal_whitespace(c: char) -> bool {
-    erased::is_horizontal_whitespace(c)
+    generated::is_horizontal_whitespace(c)
 }
 
 /// Returns whether an identifier can start with the character: `_`, or a character with the property `XID_Start` in
@@ -48,7 +48,7 @@ pub fn is_horizontal_whitespace(c: char) -> bool {
 #[cfg_attr(not(debug_assertions), inline)]
 #[must_use]
 pub fn is_id_start(c: char) -> bool {
-    erased::is_id_start(c)
+    generated::is_id_start(c)
 }
 
 /// Returns whether an identifier can continue with the character, which has the property `XID_Continue` in
@@ -64,7 +64,7 @@ pub fn is_id_start(c: char) -> bool {
 #[cfg_attr(not(debug_assertions), inline)]
 #[must_use]
 pub fn is_id_continue(c: char) -> bool {
-    erased::is_id_continue(c)
+    generated::is_id_continue(c)
 }
 
 /// Returns whether the text is an identifier or a keyword: a character that can start one, followed by characters that
@@ -80,7 +80,7 @@ pub fn is_id_continue(c: char) -> bool {
 #[cfg_attr(not(debug_assertions), inline)]
 #[must_use]
 pub fn is_ident(string: &str) -> bool {
-    erased::is_ident(string)
+    generated::is_ident(string)
 }
 
 /// Returns whether the text has at most `u32::MAX` bytes, so that all lengths fit in a `u32`. Functions that lex a text
@@ -92,7 +92,7 @@ pub fn is_ident(string: &str) -> bool {
 #[cfg_attr(not(debug_assertions), inline)]
 #[must_use]
 pub fn fits(text: &str) -> bool {
-    erased::fits(text)
+    generated::fits(text)
 }
 
 /// Returns whether [`validate_raw_str`](crate::validate_raw_str) can be called: `prefix_len` is at least 1, and the
@@ -106,5 +106,5 @@ pub fn fits(text: &str) -> bool {
 #[cfg_attr(not(debug_assertions), inline)]
 #[must_use]
 pub fn starts_raw(input: &str, prefix_len: u32) -> bool {
-    erased::starts_raw(input, prefix_len)
+    generated::starts_raw(input, prefix_len)
 }

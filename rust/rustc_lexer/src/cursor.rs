@@ -1,6 +1,6 @@
 //! A cursor over a text.
 
-use crate::{FrontmatterAllowed, GuardedStr, Token, erased, fitting};
+use crate::{FrontmatterAllowed, GuardedStr, Token, fitting, generated};
 use core::fmt;
 
 /// A cursor that returns the tokens of a text one by one, in [`Edition::NEWEST`](crate::Edition::NEWEST).
@@ -13,7 +13,7 @@ use core::fmt;
 /// assert_eq!(cursor.as_str(), " b");
 /// ```
 #[derive(Clone)]
-pub struct Cursor<'a>(erased::Cursor<'a>);
+pub struct Cursor<'a>(generated::Cursor<'a>);
 
 impl<'a> Cursor<'a> {
     /// Creates a cursor at the start of a text.
@@ -31,7 +31,7 @@ impl<'a> Cursor<'a> {
     #[must_use]
     #[track_caller]
     pub fn new(input: &'a str, frontmatter_allowed: FrontmatterAllowed) -> Cursor<'a> {
-        Cursor(erased::Cursor::new(fitting(input), frontmatter_allowed))
+        Cursor(generated::Cursor::new(fitting(input), frontmatter_allowed))
     }
 
     /// Returns the remaining text.

@@ -1,7 +1,7 @@
 //! The errors of lexed texts.
 
 use crate::AllocError;
-use crate::erased::{EditStop, Stopped};
+use crate::generated::{EditSequenceError, EditStop};
 use alloc::string::String;
 use core::error::Error;
 use core::fmt;
@@ -17,7 +17,7 @@ use core::fmt;
 /// ```
 ///
 /// The other errors of a lexed text add what the caller cannot know otherwise, and `?` converts each to this one:
-/// [`EditStop`] names an edit of a list, [`Stopped`] also has the counts of the edits before it, and
+/// [`EditStop`] names an edit of a list, [`EditSequenceError`] also has the counts of the edits before it, and
 /// [`FromStringError`] returns the text.
 ///
 /// ```
@@ -25,8 +25,8 @@ use core::fmt;
 ///
 /// fn edited(text: String, edits: &[Edit<'_>]) -> Result<LexedText, EditError> {
 ///     let mut lexed = LexedText::try_from_string_in(text, Edition::E2024)?;
-///     lexed.edit_each(edits)?;
-///     lexed.edit_at_once(edits)?;
+///     lexed.edit_sequence(edits)?;
+///     lexed.edit_batch(edits)?;
 ///     Ok(lexed)
 /// }
 ///
@@ -72,8 +72,8 @@ impl From<EditStop> for EditError {
     }
 }
 
-impl From<Stopped> for EditError {
-    fn from(stopped: Stopped) -> EditError {
+impl From<EditSequenceError> for EditError {
+    fn from(stopped: EditSequenceError) -> EditError {
         stopped.stop.into()
     }
 }

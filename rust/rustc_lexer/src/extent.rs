@@ -1,17 +1,17 @@
 //! How much of a file a text contains.
 
-pub use crate::erased::head::{Part, Whole};
+pub use crate::generated::head::{Document, Fragment};
 
 use crate::EditError;
 use crate::edit_error::try_fitting;
-use crate::erased::{Edition, Lexed, Steps, head};
+use crate::generated::{Edition, Lexed, Steps, head};
 use crate::support::Global;
 
-/// How much of a file a text contains: [`Part`] or [`Whole`]. This trait is sealed.
+/// How much of a file a text contains: [`Fragment`] or [`Document`]. This trait is sealed.
 pub trait Extent: Sealed {}
 
-impl Extent for Part {}
-impl Extent for Whole {}
+impl Extent for Fragment {}
+impl Extent for Document {}
 
 /// The trait of the generated code. [`Extent`] only seals it.
 pub trait Sealed: head::Extent {
@@ -22,20 +22,20 @@ pub trait Sealed: head::Extent {
     fn lex(text: &str, edition: Edition) -> Result<Lexed<Steps, Self>, EditError>;
 }
 
-impl Sealed for Part {
+impl Sealed for Fragment {
     const NAME: &'static str = "LexedText";
 
     #[cfg_attr(not(debug_assertions), inline)]
-    fn lex(text: &str, edition: Edition) -> Result<Lexed<Steps, Part>, EditError> {
+    fn lex(text: &str, edition: Edition) -> Result<Lexed<Steps, Fragment>, EditError> {
         Ok(Lexed::new_in(Global, try_fitting(text)?, edition)?)
     }
 }
 
-impl Sealed for Whole {
+impl Sealed for Document {
     const NAME: &'static str = "LexedDocument";
 
     #[cfg_attr(not(debug_assertions), inline)]
-    fn lex(text: &str, edition: Edition) -> Result<Lexed<Steps, Whole>, EditError> {
+    fn lex(text: &str, edition: Edition) -> Result<Lexed<Steps, Document>, EditError> {
         Ok(Lexed::new_in(Global, try_fitting(text)?, edition)?)
     }
 }

@@ -26,7 +26,7 @@
 //! impl File {
 //!     fn edit(&mut self, start: usize, stop: usize, insert: &str) {
 //!         self.text.replace_range(start..stop, insert);
-//!         let change = Change { start, old_stop: stop, new_stop: start + insert.len() };
+//!         let change = Change { start, old_end: stop, new_end: start + insert.len() };
 //!         let head = Head::find(&self.text);
 //!         let change = self.head.change_to(head, change).change;
 //!         let text = &self.text[head.body..];
@@ -54,6 +54,6 @@
 
 #[doc(alias("incremental", "relexing", "reparse"))]
 #[doc(inline)]
-pub use crate::erased::Relex;
+pub use crate::generated::Relex;
 #[doc(inline)]
-pub use crate::erased::{BodyChange, Change, Head, Measured, Relexing};
+pub use crate::generated::{BodyChange, Change, Head, Measured, Relexing};

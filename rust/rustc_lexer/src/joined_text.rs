@@ -2,7 +2,7 @@
 
 use crate::Edition;
 use crate::edit_error::unwrap_or_panic;
-use crate::erased::{self, JoinError};
+use crate::generated::{self, JoinError};
 use crate::support::Global;
 use alloc::string::String;
 use core::fmt;
@@ -38,7 +38,7 @@ use core::fmt;
 /// This type does not implement [`fmt::Write`], since a value may write itself in parts that are not whole tokens, such
 /// as the opening quote of a string. To push a value, push `format!("{value}")`.
 #[derive(Clone)]
-pub struct JoinedText(erased::JoinedText);
+pub struct JoinedText(generated::JoinedText);
 
 impl JoinedText {
     /// Creates an empty text whose pieces are lexed in the newest edition.
@@ -58,7 +58,7 @@ impl JoinedText {
     /// ```
     #[must_use]
     pub fn new_in(edition: Edition) -> JoinedText {
-        JoinedText(erased::JoinedText::new(Global, edition))
+        JoinedText(generated::JoinedText::new(Global, edition))
     }
 
     /// Appends a piece without changing any token: directly after the text if possible, otherwise after a space, and

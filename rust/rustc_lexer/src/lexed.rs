@@ -3,8 +3,8 @@
 use crate::checked::Checked;
 use crate::edit_error::{EditError, FromStringError};
 use crate::edit_error::{check_accepted, try_fitting, unwrap_or_panic};
-use crate::erased::{self, Edit, EditStop, Stopped};
-use crate::extent::{Extent, Part, Whole};
+use crate::extent::{Document, Extent, Fragment};
+use crate::generated::{self, Edit, EditSequenceError, EditStop};
 use crate::support::{self, AllocError, Global};
 use crate::{Edition, Piece, Pieces, Relexed, Stepper, Steps, Token, TokenStart};
 use alloc::string::String;
@@ -62,8 +62,8 @@ fn checked_range(numbers: &impl RangeBounds<usize>, tokens: &[Token]) -> Range<u
 /// If a step panics in an edit, the text is poisoned: [`text`](Lexed::text) has the edit, but each method that needs
 /// the tokens panics until `set_text` lexes a text again. A clone of it is poisoned too.
 #[derive(Clone)]
-pub struct Lexed<S: Stepper = Steps, E: Extent = Part> {
-    kept: erased::Lexed<S, E>,
+pub struct Lexed<S: Stepper = Steps, E: Extent = Fragment> {
+    kept: generated::Lexed<S, E>,
     /// Whether a step of an edit panicked. It is set while an edit runs, so it stays set if the edit never returns.
     is_poisoned: bool,
 }
@@ -83,7 +83,7 @@ pub struct Lexed<S: Stepper = Steps, E: Extent = Part> {
 /// assert_eq!(lexed.text(), "let ab = cd - 1 - ef;");
 /// assert_eq!((relexed.kept_front, relexed.lexed, relexed.kept_back), (6, 7, 3));
 /// ```
-pub type LexedText<S = Steps> = Lexed<S, Part>;
+pub type LexedText<S = Steps> = Lexed<S, Fragment>;
 
 /// A whole file, with tokens that are kept up to date as it is edited.
 ///
@@ -110,7 +110,7 @@ pub type LexedText<S = Steps> = Lexed<S, Part>;
 /// The first piece starts at [`tokens_start`](LexedDocument::tokens_start): a byte order mark (U+FEFF) and a shebang
 /// line come before it and are not pieces. If an edit changes them, `kept_front` is 0; repaint the text before the
 /// first piece too.
-pub type LexedDocument<S = Steps> = Lexed<S, Whole>;
+pub type LexedDocument<S = Steps> = Lexed<S, Document>;
 
 impl<E: Extent> Lexed<Steps, E> {
     /// Copies a text and lexes it in the newest edition.
@@ -283,7 +283,7 @@ impl<S: Stepper, E: Extent> Lexed<Checked<S>, E> {
     /// Returns `TooLong` if the text is longer than `u32::MAX` bytes, and `Memory` if an allocation fails.
     pub fn try_with(text: impl AsRef<str>, stepper: S) -> Result<Self, EditError> {
         let text = try_fitting(text.as_ref())?;
-        Ok(Lexed::from_proved(erased::Lexed::with(
+        Ok(Lexed::from_proved(generated::Lexed::with(
             Global,
             text,
             Checked(stepper),
@@ -306,7 +306,7 @@ impl<S: Stepper, E: Extent> Lexed<Checked<S>, E> {
 }
 
 impl<S: Stepper, E: Extent> Lexed<S, E> {
-    fn from_proved(kept: erased::Lexed<S, E>) -> Self {
+    fn from_proved(kept: generated::Lexed<S, E>) -> Self {
         Lexed {
             kept,
             is_poisoned: false,
@@ -315,7 +315,7 @@ impl<S: Stepper, E: Extent> Lexed<S, E> {
 
     /// Returns the lexed text. Panics if a step panicked during an edit, since the tokens then do not match the text.
     #[track_caller]
-    fn unpoisoned(&self) -> &erased::Lexed<S, E> {
+    fn unpoisoned(&self) -> &generated::Lexed<S, E> {
         assert!(
             !self.is_poisoned,
             "a panic in `Stepper::step` left this text without tokens"
@@ -325,7 +325,7 @@ impl<S: Stepper, E: Extent> Lexed<S, E> {
 
     /// Applies edits. If a step panics on the way, the text is poisoned: it has no tokens.
     #[track_caller]
-    fn apply<T>(&mut self, edits: impl FnOnce(&mut erased::Lexed<S, E>) -> T) -> T {
+    fn apply<T>(&mut self, edits: impl FnOnce(&mut generated::Lexed<S, E>) -> T) -> T {
         self.unpoisoned();
         self.is_poisoned = true;
         let result = edits(&mut self.kept);
@@ -402,7 +402,7 @@ impl<S: Stepper, E: Extent> Lexed<S, E> {
     ///
     /// let mut lexed = LexedText::new("a + b + c + d");
     /// let relexed = lexed.edit(8..8, "x");
-    /// let painted: Vec<&str> = lexed.pieces_of_tokens(relexed.changed_tokens()).map(|piece| piece.text).collect();
+    /// let painted: Vec<&str> = lexed.pieces_by_index(relexed.changed_tokens()).map(|piece| piece.text).collect();
     /// assert_eq!(painted, ["+", " ", "xc"]);
     /// ```
     ///
@@ -410,10 +410,10 @@ impl<S: Stepper, E: Extent> Lexed<S, E> {
     ///
     /// Panics if the range is out of bounds.
     #[track_caller]
-    pub fn pieces_of_tokens(&self, numbers: impl RangeBounds<usize>) -> Pieces<'_> {
+    pub fn pieces_by_index(&self, numbers: impl RangeBounds<usize>) -> Pieces<'_> {
         let numbers = checked_range(&numbers, self.tokens());
         self.unpoisoned()
-            .pieces_of_tokens(numbers.start, numbers.end)
+            .pieces_by_index(numbers.start, numbers.end)
     }
 
     /// Returns the index and the start of the token that contains the byte at `offset`. Returns `None` at and past the
@@ -568,18 +568,18 @@ impl<S: Stepper, E: Extent> Lexed<S, E> {
     ///
     /// let mut lexed = LexedText::new("a b c d e f g");
     /// let edits = [Edit { start: 8, stop: 9, insert: "+" }, Edit { start: 4, stop: 5, insert: "-" }];
-    /// let relexed = lexed.edit_each(&edits)?;
+    /// let relexed = lexed.edit_sequence(&edits)?;
     /// assert_eq!(relexed, Relexed { kept_front: 2, lexed: 7, kept_back: 4 });
     /// assert_eq!(lexed.text(), "a b - d + f g");
-    /// # Ok::<(), rustc_lexer::Stopped>(())
+    /// # Ok::<(), rustc_lexer::EditSequenceError>(())
     /// ```
     ///
     /// # Errors
     ///
     /// Returns which edit failed first, why, and which tokens the edits before it kept. Those edits have been applied.
     #[track_caller]
-    pub fn edit_each(&mut self, edits: &[Edit<'_>]) -> Result<Relexed, Stopped> {
-        self.apply(|kept| kept.edit_each(edits))
+    pub fn edit_sequence(&mut self, edits: &[Edit<'_>]) -> Result<Relexed, EditSequenceError> {
+        self.apply(|kept| kept.edit_sequence(edits))
     }
 
     /// Applies several edits at once, such as those of a rename or of several carets. All offsets refer to the current
@@ -593,10 +593,10 @@ impl<S: Stepper, E: Extent> Lexed<S, E> {
     ///
     /// let mut lexed = LexedText::new("a b c b d");
     /// let edits = [Edit { start: 2, stop: 3, insert: "new" }, Edit { start: 6, stop: 7, insert: "new" }];
-    /// let relexed = lexed.edit_at_once(&edits)?;
+    /// let relexed = lexed.edit_batch(&edits)?;
     /// assert_eq!(relexed, Relexed { kept_front: 0, lexed: 7, kept_back: 2 });
     /// assert_eq!(lexed.text(), "a new c new d");
-    /// assert_eq!(lexed.edit_at_once(&[edits[1], edits[0]]), Err(EditStop::Range { at: 1 }));
+    /// assert_eq!(lexed.edit_batch(&[edits[1], edits[0]]), Err(EditStop::Range { at: 1 }));
     /// # Ok::<(), EditStop>(())
     /// ```
     ///
@@ -605,8 +605,8 @@ impl<S: Stepper, E: Extent> Lexed<S, E> {
     /// Returns `Range` with the first edit that is out of bounds, is not on char boundaries, or starts before the
     /// previous edit ends. `TooLong` and `Memory` name the last edit. Text and tokens are then unchanged.
     #[track_caller]
-    pub fn edit_at_once(&mut self, edits: &[Edit<'_>]) -> Result<Relexed, EditStop> {
-        self.apply(|kept| kept.edit_at_once(edits))
+    pub fn edit_batch(&mut self, edits: &[Edit<'_>]) -> Result<Relexed, EditStop> {
+        self.apply(|kept| kept.edit_batch(edits))
     }
 
     /// Replaces the text, for example with a formatter's output, and re-lexes only the part that differs.
@@ -732,7 +732,7 @@ impl<E: Extent> Default for Lexed<Steps, E> {
     }
 }
 
-impl<S: Stepper> Lexed<S, Part> {
+impl<S: Stepper> Lexed<S, Fragment> {
     /// Returns the byte offset up to which tokens are final, whatever is appended to the text, or 0 if none are.
     ///
     /// A token is final once at least two characters follow it. To lex a stream, append each chunk with an edit. This
@@ -753,7 +753,7 @@ impl<S: Stepper> Lexed<S, Part> {
     }
 }
 
-impl<S: Stepper> Lexed<S, Whole> {
+impl<S: Stepper> Lexed<S, Document> {
     /// Returns the offset of the first token, in bytes: only a byte order mark and a shebang line come before it.
     ///
     /// ```

@@ -19,7 +19,7 @@
 //! | many tokens at once | [`Tokens::fill`], `Tokens::into_vec` |
 //! | one token after another, with lookahead | [`Cursor`] |
 //! | the tokens of a file while it is edited | [`LexedDocument`], or [`LexedText`] for a fragment |
-//! | several edits at once, such as those of a rename | [`LexedText::edit_at_once`] |
+//! | several edits at once, such as those of a rename | [`LexedText::edit_batch`] |
 //! | incremental lexing with your own data structures | the module [`incremental`] |
 //! | the final tokens of a text that is still arriving | [`LexedText::settled`]; [`settled_in`] lexes the whole text |
 //! | to print tokens so that they lex back to themselves | [`JoinedText`] |
@@ -27,11 +27,11 @@
 //!
 //! # What is proved
 //!
-//! The module `erased` is generated from a source in Rattle, which is Rust with contracts, by deleting the contracts.
+//! The module `generated` is generated from a source in Rattle, which is Rust with contracts, by deleting the contracts.
 //! It is proved for that source that, for every text under 4 GiB, it returns the only tokens that a grammar of Rust
 //! allows. The rest of this crate is hand-written: its functions check the preconditions of the contracts, and where
 //! the tokens of a [`Stepper`] end. The module [`incremental`] cannot check that lists and heads belong to the old
-//! text; if they do not, tokens are wrong, or it panics. `docs/ERASED.md` in the repository says what is claimed and
+//! text; if they do not, tokens are wrong, or it panics. `docs/GENERATED.md` in the repository says what is claimed and
 //! what is trusted.
 #![cfg_attr(
     feature = "alloc",
@@ -60,9 +60,11 @@ mod classes;
 mod cursor;
 #[cfg(feature = "alloc")]
 mod edit_error;
+#[cfg(feature = "alloc")]
+mod extent;
 /// The proved source without its contracts, generated from `crates/rustc_lexer`.
 ///
-/// This is for packages that are generated in the same way, such as `marks` and the programs, whose calls are proved to
+/// This is for packages that are generated in the same way, such as `rustc_lexer_highlight` and the programs, whose calls are proved to
 /// meet the preconditions. Nothing here checks preconditions; if they are not met, results are arbitrary, or it panics.
 /// Everything here can change with the source. Other callers use the functions at the crate's root.
 // Only contracts use some of its imports, and Clippy would write some of it differently.
@@ -75,9 +77,7 @@ mod edit_error;
 #[allow(clippy::manual_map)]
 #[allow(clippy::len_without_is_empty)]
 #[doc(hidden)]
-pub mod erased;
-#[cfg(feature = "alloc")]
-mod extent;
+pub mod generated;
 pub mod incremental;
 #[cfg(feature = "alloc")]
 mod joined_text;
@@ -97,27 +97,27 @@ pub use cursor::Cursor;
 #[cfg(feature = "alloc")]
 pub use edit_error::{EditError, FromStringError};
 #[cfg(feature = "alloc")]
+pub use extent::{Document, Extent, Fragment};
+#[cfg(feature = "alloc")]
 #[doc(inline)]
-pub use erased::JoinError;
+pub use generated::JoinError;
 #[doc(alias("offset", "range", "span"))]
 #[doc(inline)]
-pub use erased::Piece;
+pub use generated::Piece;
 #[doc(alias("highlight", "keyword"))]
 #[doc(inline)]
-pub use erased::TokenKind;
+pub use generated::TokenKind;
 #[doc(alias("offset", "position"))]
 #[doc(inline)]
-pub use erased::TokenStart;
+pub use generated::TokenStart;
 #[doc(inline)]
-pub use erased::{
+pub use generated::{
     Base, DocStyle, Edition, FromToken, FrontmatterAllowed, GuardedStr, LiteralKind, RawStrError,
     Relexed, Stepper, Steps, Token, UnknownEdition,
 };
 #[cfg(feature = "alloc")]
 #[doc(inline)]
-pub use erased::{Edit, EditStop, Pieces, Stopped};
-#[cfg(feature = "alloc")]
-pub use extent::{Extent, Part, Whole};
+pub use generated::{Edit, EditSequenceError, EditStop, Pieces};
 #[cfg(feature = "alloc")]
 pub use joined_text::JoinedText;
 #[cfg(feature = "alloc")]
@@ -125,7 +125,7 @@ pub use joined_text::JoinedText;
 pub use lexed::{Lexed, LexedDocument, LexedText};
 // Names that links in the documentation need: some are in other modules, and some are hidden without `alloc`.
 #[cfg(all(doc, not(feature = "alloc")))]
-use erased::{JoinedText, LexedDocument, LexedText, Pieces};
+use generated::{JoinedText, LexedDocument, LexedText, Pieces};
 #[cfg(doc)]
 use incremental::{Head, Relex};
 pub use pieces::TokenPieces;
@@ -172,7 +172,7 @@ fn fitting(text: &str) -> &str {
 #[must_use]
 #[track_caller]
 pub fn strip_shebang(input: &str) -> Option<usize> {
-    erased::strip_shebang(fitting(input))
+    generated::strip_shebang(fitting(input))
 }
 
 /// Validates the raw string at the start of a text. `prefix_len` is the length of its prefix in characters, including
@@ -201,7 +201,7 @@ pub fn validate_raw_str(input: &str, prefix_len: u32) -> Result<(), RawStrError>
         starts_raw(text, prefix_len),
         "character number `prefix_len`, from 1, is not `r`"
     );
-    erased::validate_raw_str(text, prefix_len)
+    generated::validate_raw_str(text, prefix_len)
 }
 
 /// Returns whether the tokens of a text are those of its part before `at`, followed by those of its part after `at`.
@@ -209,11 +209,11 @@ pub fn validate_raw_str(input: &str, prefix_len: u32) -> Result<(), RawStrError>
 /// Use it to find out whether two pieces of text in your own buffer would merge into one token.
 ///
 /// ```
-/// use rustc_lexer::{Edition, is_seam};
+/// use rustc_lexer::{Edition, is_token_boundary};
 ///
-/// assert!(is_seam("a+b", 1, Edition::E2024));
-/// assert!(!is_seam("a1", 1, Edition::E2024));
-/// assert!(is_seam("0..2", 1, Edition::E2024) && !is_seam("0..2", 2, Edition::E2024));
+/// assert!(is_token_boundary("a+b", 1, Edition::E2024));
+/// assert!(!is_token_boundary("a1", 1, Edition::E2024));
+/// assert!(is_token_boundary("0..2", 1, Edition::E2024) && !is_token_boundary("0..2", 2, Edition::E2024));
 /// ```
 ///
 /// # Panics
@@ -221,10 +221,10 @@ pub fn validate_raw_str(input: &str, prefix_len: u32) -> Result<(), RawStrError>
 /// Panics if the text has more than `u32::MAX` bytes, or if `at` is not on a char boundary.
 #[must_use]
 #[track_caller]
-pub fn is_seam(text: &str, at: usize, edition: Edition) -> bool {
+pub fn is_token_boundary(text: &str, at: usize, edition: Edition) -> bool {
     let text = fitting(text);
     assert!(text.is_char_boundary(at), "`at` is not on a char boundary");
-    erased::is_seam(text, at, edition)
+    generated::is_token_boundary(text, at, edition)
 }
 
 /// Returns the byte offset up to which the tokens of a fragment are final, whatever is appended, or 0 if none are. The
@@ -245,7 +245,7 @@ pub fn is_seam(text: &str, at: usize, edition: Edition) -> bool {
 #[must_use]
 #[track_caller]
 pub fn settled(input: &str) -> usize {
-    erased::settled(fitting(input))
+    generated::settled(fitting(input))
 }
 
 /// Returns the byte offset up to which the tokens of a fragment are final, like [`settled`], in the given edition.
@@ -263,7 +263,7 @@ pub fn settled(input: &str) -> usize {
 #[must_use]
 #[track_caller]
 pub fn settled_in(text: &str, edition: Edition) -> usize {
-    erased::settled_in(fitting(text), edition)
+    generated::settled_in(fitting(text), edition)
 }
 
 // The program of the README.

@@ -1,6 +1,6 @@
 //! The iterator over the tokens of a text.
 
-use crate::{Edition, FromToken, FrontmatterAllowed, Token, TokenPieces, erased, fitting};
+use crate::{Edition, FromToken, FrontmatterAllowed, Token, TokenPieces, fitting, generated};
 #[cfg(feature = "alloc")]
 use alloc::vec::Vec;
 use core::fmt;
@@ -33,7 +33,7 @@ pub fn tokenize(input: &str, frontmatter_allowed: FrontmatterAllowed) -> Tokens<
 #[derive(Clone)]
 #[must_use = "iterators are lazy and do nothing unless consumed"]
 pub struct Tokens<'a> {
-    left: erased::Tokens<'a>,
+    left: generated::Tokens<'a>,
     /// The length of the whole text. Offsets are relative to its start.
     pub(crate) len: usize,
 }
@@ -222,7 +222,7 @@ pub fn tokenize_as(
     frontmatter_allowed: FrontmatterAllowed,
     edition: Edition,
 ) -> Tokens<'_> {
-    let left = erased::tokenize_as(fitting(text), frontmatter_allowed, edition);
+    let left = generated::tokenize_as(fitting(text), frontmatter_allowed, edition);
     let len = text.len();
     Tokens { left, len }
 }
@@ -250,7 +250,7 @@ pub fn tokenize_as(
 #[cfg_attr(not(debug_assertions), inline)]
 #[track_caller]
 pub fn tokenize_document(text: &str, edition: Edition) -> Tokens<'_> {
-    let left = erased::tokenize_document(fitting(text), edition);
+    let left = generated::tokenize_document(fitting(text), edition);
     let len = text.len();
     Tokens { left, len }
 }

@@ -6,12 +6,12 @@ mod panics;
 #[cfg(target_pointer_width = "64")]
 use panics::too_long;
 use rustc_lexer::{
-    Cursor, Edition, FrontmatterAllowed, is_seam, settled, settled_in, strip_shebang, tokenize,
-    tokenize_as, tokenize_document, tokenize_in, validate_raw_str,
+    Cursor, Edition, FrontmatterAllowed, is_token_boundary, settled, settled_in, strip_shebang,
+    tokenize, tokenize_as, tokenize_document, tokenize_in, validate_raw_str,
 };
 #[test]
 fn bad_offsets() {
-    panics_here!(is_seam("é", 1, Edition::E2024));
+    panics_here!(is_token_boundary("é", 1, Edition::E2024));
     panics_here!(validate_raw_str("\"", 1));
 }
 
@@ -28,7 +28,7 @@ fn texts_that_are_too_long() {
     panics_here!(Cursor::new(text, no));
     panics_here!(strip_shebang(text));
     panics_here!(validate_raw_str(text, 1));
-    panics_here!(is_seam(text, 0, newest));
+    panics_here!(is_token_boundary(text, 0, newest));
     panics_here!(settled(text));
     panics_here!(settled_in(text, newest));
 }
@@ -46,7 +46,7 @@ mod kept {
                 let mut lexed = $Kept::new("é");
                 panics_here!(lexed.edit(1..2, ""));
                 panics_here!(lexed.edit(9.., ""));
-                panics_here!(lexed.pieces_of_tokens(0..9));
+                panics_here!(lexed.pieces_by_index(0..9));
                 #[cfg(target_pointer_width = "64")]
                 {
                     let long = too_long();
@@ -92,15 +92,15 @@ mod kept {
         let edits: [Edit<'_>; 0] = [];
         panics_here!(text.tokens().len());
         panics_here!(text.pieces());
-        panics_here!(text.pieces_of_tokens(0..0));
+        panics_here!(text.pieces_by_index(0..0));
         panics_here!(text.pieces_in_bytes(0..1));
         panics_here!(text.token_start_at(0));
         panics_here!(text.piece_at(0));
         panics_here!(text.edit(0..0, ""));
         panics_here!(text.try_edit(0..0, ""));
         panics_here!(text.edit_all(&edits));
-        panics_here!(text.edit_each(&edits));
-        panics_here!(text.edit_at_once(&edits));
+        panics_here!(text.edit_sequence(&edits));
+        panics_here!(text.edit_batch(&edits));
         panics_here!(text.settled());
         let second = text.clone();
         panics_here!(text == second);

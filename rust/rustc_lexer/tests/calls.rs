@@ -3,7 +3,7 @@
 use RawStrError::{InvalidStarter, NoTerminator, TooManyDelimiters};
 use rustc_lexer::{
     Base, Cursor, DocStyle, Edition, FrontmatterAllowed, GuardedStr, LiteralKind, RawStrError,
-    Steps, Token, TokenKind, TokenStart, Tokens, UNICODE_VERSION, UnknownEdition, erased,
+    Steps, Token, TokenKind, TokenStart, Tokens, UNICODE_VERSION, UnknownEdition, generated,
     incremental, is_horizontal_whitespace, is_id_continue, is_id_start, is_ident, is_whitespace,
     settled, settled_in, starts_raw, strip_shebang, tokenize, tokenize_as, tokenize_document,
     tokenize_in, validate_raw_str,
@@ -414,7 +414,7 @@ fn classes_of_characters() {
     }
     assert_eq!(UNICODE_VERSION, unicode_ident::UNICODE_VERSION);
     // The version of the proved source's tables, which this build does not contain.
-    assert_eq!(erased::UNICODE_VERSION, (18, 0, 0));
+    assert_eq!(generated::UNICODE_VERSION, (18, 0, 0));
     let none = "-'😀\0\u{8}\u{e}\u{a0}\u{2027}\u{202a}\u{feff}";
     for (text, is) in [
         ("\t ", [true, true, false, false]),
@@ -633,17 +633,17 @@ fn many_tokens_at_once() {
         use rustc_lexer::{Edit, LexedDocument, LexedText};
         assert!(tokenize(&text, FrontmatterAllowed::No).into_vec() == wanted);
         let lexed = LexedText::new(&text);
-        assert!(lexed.tokens() == wanted && lexed.pieces_of_tokens(0..70_000).count() == 70_000);
+        assert!(lexed.tokens() == wanted && lexed.pieces_by_index(0..70_000).count() == 70_000);
         let edit = Edit {
             start: 1,
             stop: 1,
             insert: &text[2..],
         };
         let mut lexed = LexedDocument::try_with(";;", Steps::new()).unwrap();
-        let relexed = lexed.edit_each(&[edit]).unwrap();
+        let relexed = lexed.edit_sequence(&[edit]).unwrap();
         assert!(
             lexed.tokens() == wanted
-                && lexed.pieces_of_tokens(relexed.changed_tokens()).len() > 69_990
+                && lexed.pieces_by_index(relexed.changed_tokens()).len() > 69_990
         );
         assert_eq!(lexed.pieces_in_bytes(0..70_000).count(), 70_000);
     }
@@ -733,9 +733,9 @@ fn traits() {
     {
         is_error::<rustc_lexer::EditError>();
         is_error::<rustc_lexer::EditStop>();
-        is_error::<rustc_lexer::Stopped>();
+        is_error::<rustc_lexer::EditSequenceError>();
         is_key::<(rustc_lexer::EditError, rustc_lexer::EditStop)>();
-        is_key::<rustc_lexer::Stopped>();
+        is_key::<rustc_lexer::EditSequenceError>();
         is_key::<rustc_lexer::Edit<'_>>();
         stays_at_its_end::<rustc_lexer::Pieces<'_>>();
         has_two_ends::<rustc_lexer::Pieces<'_>>();
@@ -818,8 +818,8 @@ fn fill_agrees_with_next() {
             while !tokens.as_str().is_empty() {
                 let count = tokens.fill(&mut buffer);
                 filled.extend_from_slice(&buffer[..count]);
-                let is_over = tokens.as_str().is_empty();
-                assert!(count == room || is_over, "{count} where {room} fit");
+                let is_done = tokens.as_str().is_empty();
+                assert!(count == room || is_done, "{count} where {room} fit");
             }
             assert_eq!(filled, stepped);
         }

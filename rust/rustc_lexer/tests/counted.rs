@@ -8,13 +8,15 @@ mod random;
 mod refusing;
 
 use defined::{
-    Counting, Kept, LANGUAGES, Language, Made, Part, Whole, is_inside, of_all, of_list, of_other,
+    Counting, Document, Fragment, Kept, LANGUAGES, Language, Made, is_inside, of_all, of_list,
+    of_other,
 };
 use made::{counts, edit, token};
 use random::Random;
 use refusing::in_turn;
 use rustc_lexer::{
-    Edit, EditStop, Edition, LexedText, Relexed, Stepper, Steps, Stopped, Token, TokenKind,
+    Edit, EditSequenceError, EditStop, Edition, LexedText, Relexed, Stepper, Steps, Token,
+    TokenKind,
 };
 use std::ops::{Range, RangeInclusive};
 
@@ -52,14 +54,14 @@ fn check<K: Kept>(
     );
 }
 
-/// Applies a list with `edit_all` and with `edit_each`. Returns what both made.
+/// Applies a list with `edit_all` and with `edit_sequence`. Returns what both made.
 fn list<K: Kept>(held: &mut K, text: &str, language: Language, edits: &[Edit<'_>]) -> Made {
     let made = of_list::<K>(text, language, edits);
     let context = format!("{text:?} with {edits:?} in {language:?}");
     let before = held.steps();
     let mut by_all = held.clone();
     let all = made.answer.map(drop).map_err(|stopped| stopped.stop);
-    assert_eq!(held.edit_each(edits), made.answer, "{context}");
+    assert_eq!(held.edit_sequence(edits), made.answer, "{context}");
     assert_eq!(by_all.edit_all(edits), all, "{context}");
     for held in [&*held, &by_all] {
         check(held, before, &made, made.steps..=made.steps, &context);
@@ -67,7 +69,7 @@ fn list<K: Kept>(held: &mut K, text: &str, language: Language, edits: &[Edit<'_>
     made
 }
 
-/// Applies edits with `edit_at_once`. Returns the text that they leave.
+/// Applies edits with `edit_batch`. Returns the text that they leave.
 fn all<K: Kept>(held: &mut K, text: &str, language: Language, edits: &[Edit<'_>]) -> String {
     let context = format!("{text:?} with {edits:?} at once in {language:?}");
     let (before, made) = (held.steps(), of_all::<K>(text, language, edits));
@@ -75,7 +77,7 @@ fn all<K: Kept>(held: &mut K, text: &str, language: Language, edits: &[Edit<'_>]
         .as_ref()
         .map(|made| made.answer.unwrap())
         .map_err(|&stop| stop);
-    assert_eq!(held.edit_at_once(edits), answer, "{context}");
+    assert_eq!(held.edit_batch(edits), answer, "{context}");
     let made = made.unwrap_or_else(|_| of_list::<K>(text, language, &[]));
     check(held, before, &made, made.steps..=made.steps, &context);
     made.text
@@ -211,8 +213,8 @@ fn rounds<K: Kept>(count: usize, seed: u64) {
 fn random_lists() {
     let asked = std::env::var("EDITS").map(|count| count.parse());
     let count: usize = asked.map_or(2_000, |count| count.expect("EDITS is a number"));
-    rounds::<Part>(count / 2, 11);
-    rounds::<Whole>(count / 2, 12);
+    rounds::<Fragment>(count / 2, 11);
+    rounds::<Document>(count / 2, 12);
 }
 
 /// Lists and edits at once of many lengths, after each start of a text.
@@ -233,8 +235,8 @@ fn lengths<K: Kept>() {
 
 #[test]
 fn lists_of_every_length() {
-    lengths::<Part>();
-    lengths::<Whole>();
+    lengths::<Fragment>();
+    lengths::<Document>();
 }
 
 /// A long list whose edits replace each `a` of a text, and a function that returns the text after some of them.
@@ -250,7 +252,7 @@ fn replacing(front: &str) -> (Vec<Edit<'static>>, impl Fn(usize) -> String + use
 }
 
 /// An invalid edit of each sort in a long list, at its ends and inside: the edits before it stay applied.
-/// `edit_at_once` applies none.
+/// `edit_batch` applies none.
 fn bad_edits<K: Kept>() {
     for front in ["", "#!/é\n---\na\n---\n"] {
         let (edits, text) = replacing(front);
@@ -272,7 +274,7 @@ fn bad_edits<K: Kept>() {
                 let mut held = K::held(&text(0), NEWEST);
                 assert_eq!(all(&mut held, &text(0), NEWEST, &edits), text(0));
                 let stop = Err(EditStop::Range { at });
-                assert_eq!(held.edit_at_once(&edits), stop, "{range:?}");
+                assert_eq!(held.edit_batch(&edits), stop, "{range:?}");
             }
         }
     }
@@ -280,8 +282,8 @@ fn bad_edits<K: Kept>() {
 
 #[test]
 fn invalid_edits_in_long_lists() {
-    bad_edits::<Part>();
-    bad_edits::<Whole>();
+    bad_edits::<Fragment>();
+    bad_edits::<Document>();
 }
 
 const NEWEST: Language = Some(Edition::E2024);
@@ -296,7 +298,7 @@ fn list_refused<K: Kept>(text: &str, language: Language, edits: &[Edit<'_>]) {
     for each in [true, false] {
         let call = |held: &mut K| match each {
             true => held
-                .edit_each(edits)
+                .edit_sequence(edits)
                 .map(Some)
                 .map_err(|it| (it.stop, Some(it.relexed))),
             false => held
@@ -376,7 +378,7 @@ fn refused<K: Kept>() {
         let edits = as_edits(&edits);
         if let Ok(made) = of_all::<K>(&text, language, &edits) {
             one_refused(&text, language, &made, |held: &mut K| {
-                held.edit_at_once(&edits).ok()
+                held.edit_batch(&edits).ok()
             });
         }
     }
@@ -385,7 +387,7 @@ fn refused<K: Kept>() {
     list_refused::<K>(&text(0), NEWEST, &edits[..66]);
 }
 
-fn stop_at(stopped: Stopped) -> usize {
+fn stop_at(stopped: EditSequenceError) -> usize {
     match stopped.stop {
         EditStop::Range { at } => at,
         stop => panic!("{stop:?}"),
@@ -394,8 +396,8 @@ fn stop_at(stopped: Stopped) -> usize {
 
 #[test]
 fn allocation_failures() {
-    refused::<Part>();
-    refused::<Whole>();
+    refused::<Fragment>();
+    refused::<Document>();
 }
 
 /// The end of the shebang line and the start of the body.
@@ -491,13 +493,13 @@ fn edits_of_heads() {
     for &(text, ends, at, insert, new_ends) in HEADS {
         for language in LANGUAGES {
             let to = edit(at, at, insert);
-            let made = by_each_call::<Whole>(text, language, to);
-            by_each_call::<Part>(text, language, to);
+            let made = by_each_call::<Document>(text, language, to);
+            by_each_call::<Fragment>(text, language, to);
             let back = edit(at, at + insert.len(), "");
-            let again = by_each_call::<Whole>(&made.text, language, back);
-            by_each_call::<Part>(&made.text, language, back);
+            let again = by_each_call::<Document>(&made.text, language, back);
+            by_each_call::<Fragment>(&made.text, language, back);
             for (made, wanted) in [(&made, new_ends), (&again, ends)] {
-                let held = Whole::try_with(&made.text, Counting(None, 0)).unwrap();
+                let held = Document::try_with(&made.text, Counting(None, 0)).unwrap();
                 let told = (held.tokens_start(), held.body_start().offset);
                 assert_eq!(told, wanted, "{:?}", made.text);
             }
@@ -548,7 +550,7 @@ fn edits_with_steppers() {
     assert_eq!(held.edit(3..3, "é"), counts(1, 3, 2), "counts of {context}");
     let lens = held.tokens().iter().map(|token| token.len);
     assert!(lens.eq([1, 1, 1, 2, 1, 1]), "tokens of {context}");
-    let mut counted = Whole::held("ab cd ef", NEWEST);
+    let mut counted = Document::held("ab cd ef", NEWEST);
     let (before, edits) = (counted.steps(), [edit(8, 8, "z"), edit(0, 3, "")]);
     assert_eq!(counted.edit_all(&edits), Ok(()));
     assert_eq!(counted.steps() - before, 1, "steps of {edits:?}");
@@ -561,7 +563,7 @@ fn edits_with_steppers() {
 fn typing_lexes_few_tokens() {
     for lines in [2, 1_000] {
         let text = "fn main() {}\n".repeat(lines);
-        let mut held = Part::held(&text, NEWEST);
+        let mut held = Fragment::held(&text, NEWEST);
         for (at, typed, deleted) in [
             (
                 text.len() / 2,
@@ -573,7 +575,7 @@ fn typing_lexes_few_tokens() {
             for (edit, lexed) in [(edit(at, at, "x"), typed), (edit(at, at + 1, ""), deleted)] {
                 let before = held.steps();
                 let relexed = Kept::try_edit(&mut held, &edit).unwrap();
-                let pieces = held.pieces_of_tokens(relexed.changed_tokens());
+                let pieces = held.pieces_by_index(relexed.changed_tokens());
                 assert!(pieces.map(|piece| piece.text).eq(lexed.iter().copied()));
                 assert_eq!(held.steps() - before, lexed.len());
             }

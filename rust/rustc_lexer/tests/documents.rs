@@ -9,7 +9,7 @@ use rattle_support::Global;
 use rustc_lexer::incremental::{Change, Head, Relex, Relexing};
 use rustc_lexer::{
     EditStop, Edition, FrontmatterAllowed, LexedDocument, LexedText, Relexed, Stepper, Steps,
-    Token, TokenKind, TokenStart, erased, strip_shebang, tokenize_as, tokenize_document,
+    Token, TokenKind, TokenStart, generated, strip_shebang, tokenize_as, tokenize_document,
 };
 use std::ops::Range;
 
@@ -114,7 +114,7 @@ fn edit_and_check(lexed: &mut LexedDocument, range: Range<usize>, insert: &str) 
         Some(wanted) => assert_eq!(relexed, wanted, "{context}"),
         None => assert_eq!(kept_front, 0, "{context}"),
     }
-    let painted = lexed.pieces_of_tokens(relexed.changed_tokens());
+    let painted = lexed.pieces_by_index(relexed.changed_tokens());
     let all = lexed.pieces().skip(kept_front);
     assert!(painted.eq(all.take(relexed.lexed)), "{context}");
 }
@@ -173,7 +173,7 @@ fn another_edition() {
     }
     let (text, edition) = ("#!a\n---\n---\n'r#foo", Edition::E2021);
     rows!(LexedDocument::new_in(text, edition), try_set_edition);
-    let proved = erased::LexedDocument::new_in(Global, text, edition);
+    let proved = generated::LexedDocument::new_in(Global, text, edition);
     rows!(proved.unwrap(), set_edition);
     let mut lexed = LexedDocument::new("#!a\n---\n---\nfn");
     lexed.edit(12..14, "");
@@ -181,7 +181,7 @@ fn another_edition() {
     let told = (lexed.edition(), lexed.text());
     assert_eq!(told, (Edition::E2024, "#!a\n---\n---\n"));
     let pieces = lexed
-        .pieces_of_tokens(0..2)
+        .pieces_by_index(0..2)
         .map(|piece| (piece.start, piece.text));
     assert!(pieces.eq([(3, "\n"), (4, "---\n---")]));
 }
@@ -245,7 +245,7 @@ fn what_a_list_keeps() {
         ([edit(20, 20, "fn "), edit(14, 15, "bc")], counts(0, 5, 1)),
     ] {
         let mut lexed = LexedDocument::new(SCRIPT);
-        assert_eq!(lexed.edit_each(&edits), Ok(kept), "{edits:?}");
+        assert_eq!(lexed.edit_sequence(&edits), Ok(kept), "{edits:?}");
         check(&lexed, Edition::E2024, "a list of edits");
     }
 }
@@ -266,7 +266,7 @@ fn a_long_list_that_makes_a_head() {
             front = front.min(relexed.kept_front);
             back = back.min(relexed.kept_back);
         }
-        let relexed = lexed.edit_each(&edits).unwrap();
+        let relexed = lexed.edit_sequence(&edits).unwrap();
         assert_eq!((relexed.kept_front, relexed.kept_back), (front, back));
         assert_eq!((lexed.text(), lexed.tokens()), (made.text(), made.tokens()));
         assert_eq!(lexed.tokens()[0].kind.name(), "Frontmatter");
@@ -322,7 +322,7 @@ fn what_is_held() {
     let lens = by_characters.tokens().iter().map(|token| token.len);
     assert!(lens.eq([1, 1, 2]));
     assert_eq!(by_characters.stepper().0, 3);
-    let pieces = lexed.pieces_of_tokens(1..3);
+    let pieces = lexed.pieces_by_index(1..3);
     let pieces: Vec<_> = pieces.map(|piece| (piece.start, piece.text)).collect();
     assert_eq!(pieces, [(10, "---\na\n---"), (19, "\n")]);
     let empty = LexedDocument::default();
@@ -346,10 +346,13 @@ fn calls_with_a_stepper() {
             lexed.edit(0..1, "bc");
             assert!(lexed.try_edit(0..1, "").is_ok());
             assert_eq!(lexed.edit_all(&[edit(0, 1, "bc")]), Ok(()));
-            assert_eq!(lexed.edit_each(&[]).map(|counts| counts.kept_front), Ok(3));
+            assert_eq!(
+                lexed.edit_sequence(&[]).map(|counts| counts.kept_front),
+                Ok(3)
+            );
             lexed.shrink_to_fit();
             assert_eq!((lexed.text(), lexed.tokens().len()), ("bcé", 3));
-            let counts = (lexed.pieces().len(), lexed.pieces_of_tokens(1..2).len());
+            let counts = (lexed.pieces().len(), lexed.pieces_by_index(1..2).len());
             assert_eq!(counts, (3, 1));
             assert!(lexed.stepper().0 >= 5);
             assert!(format!("{lexed:?}").starts_with(stringify!($lexed)));
@@ -377,8 +380,8 @@ fn a_list_of_the_caller() {
     let (old, text) = ([word, space, word, space, word], "ab x y ef");
     let change = Change {
         start: 3,
-        old_stop: 5,
-        new_stop: 6,
+        old_end: 5,
+        new_end: 6,
     };
     let mut relex = Relex::begin(text, &old, change, TokenStart::default()).unwrap();
     let (mut steps, mut buffer) = (Steps::new(), [token(TokenKind::Eof, 0); 2]);
@@ -387,10 +390,10 @@ fn a_list_of_the_caller() {
     // A second value continues where the first one stopped.
     let mut relex = Relex::resume(text, &old, change, relex.state()).unwrap();
     assert_eq!(relex.next(&mut steps), Some(letter));
-    assert!(!relex.is_over());
+    assert!(!relex.is_done());
     assert_eq!(relex.fill(&mut steps, &mut buffer), 2);
     assert_eq!(buffer, [space, letter]);
-    assert!(relex.is_over());
+    assert!(relex.is_done());
     assert_eq!(relex.fill(&mut steps, &mut buffer), 0);
     assert_eq!(relex.next(&mut steps), None);
     assert_eq!(relex.counts(), counts(0, 5, 2));
@@ -402,10 +405,10 @@ fn a_list_of_the_caller() {
 fn relexing_that_cannot_start() {
     let old = [1, 2].map(|len| token(TokenKind::Ident, len));
     let text = "aé";
-    let change = |start, old_stop, new_stop| Change {
+    let change = |start, old_end, new_end| Change {
         start,
-        old_stop,
-        new_stop,
+        old_end,
+        new_end,
     };
     let begins = |change| Relex::begin(text, &old, change, TokenStart::default()).is_some();
     assert!(begins(change(1, 3, 3)) && begins(change(0, u32::MAX as usize, 1)));
@@ -417,7 +420,10 @@ fn relexing_that_cannot_start() {
         change(1, 1, 4),
         change(0, u32::MAX as usize + 1, 1),
     ] {
-        assert!(!refused.may_make(text) && !begins(refused), "{refused:?}");
+        assert!(
+            !refused.is_valid_for(text) && !begins(refused),
+            "{refused:?}"
+        );
     }
     let change = change(1, 3, 3);
     let resumes = |state| Relex::resume(text, &old, change, state).is_some();
@@ -454,8 +460,8 @@ fn lists_of_the_caller() {
         assert_eq!(now.body, held.body_start().offset);
         let edit = Change {
             start: range.start,
-            old_stop: range.end,
-            new_stop: range.start + insert.len(),
+            old_end: range.end,
+            new_end: range.start + insert.len(),
         };
         let of_body = head.change_to(now, edit);
         let (body, old_body) = (&held.text()[now.body..], &tokens[head.count()..]);
@@ -472,18 +478,18 @@ fn lists_of_the_caller() {
         while let Some(token) = relex.next(&mut steps) {
             made.push(token);
             let state = relex.state();
-            let passed = state.at.checked_sub(change.new_stop);
-            assert!(passed.is_none_or(|passed| state.back.offset >= change.old_stop + passed));
+            let passed = state.at.checked_sub(change.new_end);
+            assert!(passed.is_none_or(|passed| state.back.offset >= change.old_end + passed));
         }
         let mut wanted = relex.counts();
         assert_eq!(made.len(), kept + wanted.lexed);
         // The same with a buffer, which is full except at the end.
         let mut buffer = [token(TokenKind::Eof, 0); 3];
         let mut filled = Vec::new();
-        while !again.is_over() {
+        while !again.is_done() {
             let count = again.fill(&mut steps, &mut buffer);
             filled.extend_from_slice(&buffer[..count]);
-            assert!(count == buffer.len() || again.is_over());
+            assert!(count == buffer.len() || again.is_done());
         }
         assert_eq!(
             (filled, again.state()),

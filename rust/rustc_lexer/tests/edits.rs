@@ -7,8 +7,8 @@ use made::{counts, edit, token};
 use random::Random;
 use rattle_support::Global;
 use rustc_lexer::{
-    EditError, EditStop, Edition, FrontmatterAllowed, LexedDocument, LexedText, Relexed, Steps,
-    Stopped, Token, TokenKind, erased, tokenize, tokenize_in,
+    EditError, EditSequenceError, EditStop, Edition, FrontmatterAllowed, LexedDocument, LexedText,
+    Relexed, Steps, Token, TokenKind, generated, tokenize, tokenize_in,
 };
 use std::ops::Range;
 use std::panic::catch_unwind;
@@ -92,7 +92,7 @@ fn edit_and_check(lexed: &mut LexedText, range: Range<usize>, insert: &str) {
     check(lexed, &context);
     let wanted = wanted(&before, &old, lexed.tokens(), &range, insert.len());
     assert_eq!(relexed, wanted, "{context}");
-    let painted = lexed.pieces_of_tokens(relexed.changed_tokens());
+    let painted = lexed.pieces_by_index(relexed.changed_tokens());
     let all = lexed.pieces().skip(relexed.kept_front);
     assert!(painted.eq(all.take(relexed.lexed)), "{context}");
 }
@@ -218,7 +218,7 @@ fn set_edition() {
         };
     }
     rows!(LexedText::new("'r#foo"), try_set_edition);
-    let proved = erased::LexedText::new(Global, "'r#foo");
+    let proved = generated::LexedText::new(Global, "'r#foo");
     rows!(proved.unwrap(), set_edition);
 }
 
@@ -251,19 +251,19 @@ fn ranges_that_panic() {
         (|| LexedText::new("é").edit(1..2, "").lexed, EDIT),
         (|| LexedDocument::new("é").edit(1..2, "").lexed, EDIT),
         (
-            || LexedText::new("a b").pieces_of_tokens(2..4).len(),
+            || LexedText::new("a b").pieces_by_index(2..4).len(),
             "token range 2..4 out of range for 3 tokens",
         ),
         (
-            || LexedDocument::new("#!a\nb").pieces_of_tokens(1..3).len(),
+            || LexedDocument::new("#!a\nb").pieces_by_index(1..3).len(),
             "token range 1..3 out of range for 2 tokens",
         ),
         (
-            || LexedText::new("a b").pieces_of_tokens(2..1).len(),
+            || LexedText::new("a b").pieces_by_index(2..1).len(),
             "token range 2..1 out of range for 3 tokens",
         ),
         (
-            || LexedDocument::new("#!a\nb c").pieces_of_tokens(2..1).len(),
+            || LexedDocument::new("#!a\nb c").pieces_by_index(2..1).len(),
             "token range 2..1 out of range for 4 tokens",
         ),
     ];
@@ -324,11 +324,11 @@ fn a_list_of_edits() {
     let edits: Vec<_> = (0..MANY).map(|at| edit(at, at, ";")).collect();
     let (mut text, mut document) = (LexedText::new(""), LexedDocument::new(""));
     assert_eq!(text.edit_all(&edits), Ok(()));
-    assert_eq!(document.edit_each(&edits), Ok(counts(0, MANY, 0)));
+    assert_eq!(document.edit_sequence(&edits), Ok(counts(0, MANY, 0)));
     assert_eq!((text.tokens().len(), document.tokens().len()), (MANY, MANY));
     // At once, all have offsets of the current text.
     let edits = vec![edit(0, 0, ";"); MANY];
-    assert_eq!(text.edit_at_once(&edits), Ok(counts(0, MANY, MANY)));
+    assert_eq!(text.edit_batch(&edits), Ok(counts(0, MANY, MANY)));
     assert_eq!(text.tokens().len(), 2 * MANY);
 }
 
@@ -352,8 +352,8 @@ fn what_a_list_keeps() {
     ] {
         let mut text = LexedText::new("a b c d e f g");
         let mut document = LexedDocument::new("a b c d e f g");
-        assert_eq!(text.edit_each(edits), Ok(kept), "{edits:?}");
-        assert_eq!(document.edit_each(edits), Ok(kept), "{edits:?}");
+        assert_eq!(text.edit_sequence(edits), Ok(kept), "{edits:?}");
+        assert_eq!(document.edit_sequence(edits), Ok(kept), "{edits:?}");
         check(&text, "a list of edits");
     }
 }
@@ -445,7 +445,7 @@ fn what_two_lists_keep() {
     ] {
         let mut lexed = LexedText::new("a b c d e f g");
         let [first_counts, second_counts] =
-            [first, second].map(|edits| lexed.edit_each(edits).unwrap());
+            [first, second].map(|edits| lexed.edit_sequence(edits).unwrap());
         let all = first_counts.then(second_counts, 13);
         assert_eq!(all, kept, "{first:?}, {second:?}");
         assert_eq!(none.then(all, 13), all);
@@ -483,7 +483,7 @@ fn random_lists_of_edits() {
                     front = front.min(relexed.kept_front);
                     back = back.min(relexed.kept_back);
                     kept = kept.then(relexed, old.len());
-                    kept = kept.then(made.edit_each(&[]).unwrap(), old.len());
+                    kept = kept.then(made.edit_sequence(&[]).unwrap(), old.len());
                     unpainted = unpainted.then(relexed, 0);
                     ranges.push(range);
                     inserts.push(insert);
@@ -491,7 +491,7 @@ fn random_lists_of_edits() {
                 let pairs = ranges.iter().zip(&inserts);
                 let edits = pairs.map(|(range, insert)| edit(range.start, range.end, insert));
                 let edits: Vec<_> = edits.collect();
-                let relexed = lexed.edit_each(&edits).unwrap();
+                let relexed = lexed.edit_sequence(&edits).unwrap();
                 let new = lexed.tokens();
                 assert_eq!((lexed.text(), new), (made.text(), made.tokens()));
                 assert_eq!((relexed.kept_front, relexed.kept_back), (front, back));
@@ -540,7 +540,7 @@ fn long_lists_in_order() {
                 let pairs = ranges.iter().zip(&inserts);
                 let edits = pairs.map(|(range, insert)| edit(range.start, range.end, insert));
                 let edits: Vec<_> = edits.collect();
-                let relexed = lexed.edit_each(&edits).unwrap();
+                let relexed = lexed.edit_sequence(&edits).unwrap();
                 let (text, new) = (lexed.text(), lexed.tokens());
                 assert_eq!((text, new), (made.text(), made.tokens()), "{edits:?}");
                 let back = back.min(new.len().min(old) - front);
@@ -563,7 +563,7 @@ fn a_long_list_that_goes_back() {
     let inserts = (0..40).flat_map(|at| [(7 * at + 3, "9"), (7 * at + 2, "5")]);
     let edits: Vec<_> = inserts.map(|(at, insert)| edit(at, at, insert)).collect();
     let mut lexed = LexedText::new("1..2 ".repeat(40));
-    assert_eq!(lexed.edit_each(&edits), Ok(counts(0, 159, 1)));
+    assert_eq!(lexed.edit_sequence(&edits), Ok(counts(0, 159, 1)));
     assert_eq!(lexed.text(), "1.5.92 ".repeat(40));
     check(&lexed, "a list that goes back");
 }
@@ -586,7 +586,10 @@ fn a_long_list_that_stops() {
                     _ => counts(0, 2 * at - 1, 201 - 2 * at),
                 };
                 let stop = EditStop::Range { at };
-                assert_eq!(lexed.edit_each(&edits), Err(Stopped { stop, relexed }));
+                assert_eq!(
+                    lexed.edit_sequence(&edits),
+                    Err(EditSequenceError { stop, relexed })
+                );
                 let text = "bb ".repeat(at) + &"a ".repeat(100 - at);
                 assert_eq!(lexed.text(), text);
                 assert!(tokenize_in(&text, Edition::NEWEST).eq(lexed.tokens().iter().copied()));
@@ -607,7 +610,10 @@ fn a_list_of_edits_that_stops() {
                 0 => counts(1, 0, 0),
                 _ => counts(0, 1, 0),
             };
-            assert_eq!(lexed.edit_each($edits), Err(Stopped { stop, relexed }));
+            assert_eq!(
+                lexed.edit_sequence($edits),
+                Err(EditSequenceError { stop, relexed })
+            );
             assert_eq!(lexed.text(), "b".repeat($at) + "a");
             let mut lexed = $lexed;
             assert_eq!(lexed.edit_all($edits), Err(stop));
@@ -627,7 +633,7 @@ fn a_list_of_edits_that_stops() {
     ] {
         let relexed = counts(0, 0, 0);
         assert_eq!(stop.to_string(), said);
-        assert_eq!(Stopped { stop, relexed }.to_string(), said);
+        assert_eq!(EditSequenceError { stop, relexed }.to_string(), said);
     }
 }
 
@@ -732,8 +738,8 @@ fn kinds_of_ranges() {
             };
             assert_eq!(shown(lexed.pieces_in_bytes(..2)), "a ");
             assert_eq!(shown(lexed.pieces_in_bytes(3..)), " c");
-            assert_eq!(shown(lexed.pieces_of_tokens(1..=2)), " b");
-            assert_eq!(shown(lexed.pieces_of_tokens(..)), "a b c");
+            assert_eq!(shown(lexed.pieces_by_index(1..=2)), " b");
+            assert_eq!(shown(lexed.pieces_by_index(..)), "a b c");
         };
     }
     rows!(LexedText);
@@ -832,7 +838,7 @@ fn byte_order_marks_and_nul() {
     keeps_them!(LexedDocument, 1);
 }
 
-/// Edits at once agree with a text made by hand, with one edit, and with `edit_each` from the back.
+/// Edits at once agree with a text made by hand, with one edit, and with `edit_sequence` from the back.
 #[test]
 fn random_edits_at_once() {
     macro_rules! lists {
@@ -857,7 +863,7 @@ fn random_edits_at_once() {
                     each.edit(edit.start..edit.stop, edit.insert);
                 }
                 let mut one = lexed.clone();
-                let relexed = lexed.edit_at_once(&edits).unwrap();
+                let relexed = lexed.edit_batch(&edits).unwrap();
                 assert_eq!((lexed.text(), lexed.tokens()), (each.text(), each.tokens()));
                 let (Some(first), Some(last)) = (edits.first(), edits.last()) else {
                     assert_eq!(
@@ -904,11 +910,11 @@ fn edits_at_once_that_are_rejected() {
             LexedDocument::new("a\u{e9} b c"),
         );
         assert_eq!(
-            text.edit_at_once(edits),
+            text.edit_batch(edits),
             Err(EditStop::Range { at }),
             "{edits:?}"
         );
-        assert_eq!(document.edit_at_once(edits), Err(EditStop::Range { at }));
+        assert_eq!(document.edit_batch(edits), Err(EditStop::Range { at }));
         assert_eq!(
             (text.text(), document.text()),
             ("a\u{e9} b c", "a\u{e9} b c")
@@ -918,6 +924,6 @@ fn edits_at_once_that_are_rejected() {
     let mut text = LexedText::new("ab");
     // They can touch.
     let edits = [edit(1, 1, "c"), edit(1, 2, "d"), edit(2, 2, "e")];
-    assert_eq!(text.edit_at_once(&edits), Ok(counts(0, 1, 0)));
+    assert_eq!(text.edit_batch(&edits), Ok(counts(0, 1, 0)));
     assert_eq!(text.text(), "acde");
 }

@@ -1,6 +1,6 @@
 //! Texts joined from pieces.
 
-use rustc_lexer::{Edition, JoinError, JoinedText, Token, is_seam, tokenize_in};
+use rustc_lexer::{Edition, JoinError, JoinedText, Token, is_token_boundary, tokenize_in};
 use std::panic::{AssertUnwindSafe, catch_unwind};
 
 /// Joins the pieces, or returns the index of the first rejected one.
@@ -116,12 +116,12 @@ fn editions() {
 #[test]
 fn offsets_that_panic() {
     for at in [1, 2, 4, 5, usize::MAX] {
-        let call = || is_seam("\u{20ac}", at, Edition::E2024);
+        let call = || is_token_boundary("\u{20ac}", at, Edition::E2024);
         let said = catch_unwind(call).expect_err("it panics");
         let said = said.downcast_ref::<&str>().copied();
         assert_eq!(said, Some("`at` is not on a char boundary"), "{at}");
     }
-    assert!(is_seam("\u{20ac}", 3, Edition::E2024));
+    assert!(is_token_boundary("\u{20ac}", 3, Edition::E2024));
 }
 
 /// Truncated to the end of any piece, a text is what it was at that time, also for the pieces that follow.
@@ -158,7 +158,8 @@ fn truncate() {
             assert_eq!(whole, text);
         }
         for len in (0..text.len()).filter(|len| !places.contains(len)) {
-            let seam = text.as_str().is_char_boundary(len) && is_seam(text.as_str(), len, edition);
+            let seam = text.as_str().is_char_boundary(len)
+                && is_token_boundary(text.as_str(), len, edition);
             let cut = AssertUnwindSafe(|| whole.truncate(len));
             assert_eq!(catch_unwind(cut).is_ok(), seam, "{len}");
             assert!(seam || whole == text);
@@ -195,7 +196,7 @@ fn seams() {
                     .chain(tokenize_in(right, edition))
                     .collect();
                 assert_eq!(
-                    is_seam(text, at, edition),
+                    is_token_boundary(text, at, edition),
                     tokenize_in(text, edition).eq(parts),
                     "{text:?} {at}"
                 );

@@ -6,7 +6,7 @@
 mod random;
 
 use random::Random;
-use rustc_lexer::{Edition, JoinError, JoinedText, Token, is_seam, tokenize_in};
+use rustc_lexer::{Edition, JoinError, JoinedText, Token, is_token_boundary, tokenize_in};
 use std::thread;
 
 const SEPARATORS: [&str; 3] = ["", " ", "\n"];
@@ -118,7 +118,7 @@ fn seams(text: &str, edition: Edition) {
         let (left, right) = text.split_at(at);
         let parts = tokens(left, edition).chain(tokens(right, edition));
         let touch = tokens(text, edition).eq(parts);
-        assert_eq!(is_seam(text, at, edition), touch, "{text:?} {at}");
+        assert_eq!(is_token_boundary(text, at, edition), touch, "{text:?} {at}");
     }
 }
 

@@ -11,8 +11,8 @@ use rustc_lexer::RawStrError::{self, InvalidStarter, NoTerminator, TooManyDelimi
 use rustc_lexer::TokenKind::{self, *};
 use rustc_lexer::{
     Cursor, Edition, GuardedStr, Token, fits, is_horizontal_whitespace, is_id_continue,
-    is_id_start, is_ident, is_seam, is_whitespace, settled, starts_raw, strip_shebang, tokenize,
-    validate_raw_str,
+    is_id_start, is_ident, is_token_boundary, is_whitespace, settled, starts_raw, strip_shebang,
+    tokenize, validate_raw_str,
 };
 
 /// A text, whether a frontmatter is allowed, its tokens, the offset up to which they are final, and the error of the
@@ -166,7 +166,7 @@ fn others_hold() -> bool {
 fn seams() {
     for (text, at, touch) in [("a+", 1, true), ("ab", 1, false), ("\"é\"s", 4, false)] {
         assert_eq!(
-            given(0, || is_seam(text, at, Edition::E2024)),
+            given(0, || is_token_boundary(text, at, Edition::E2024)),
             touch,
             "{text:?}"
         );

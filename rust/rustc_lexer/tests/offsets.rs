@@ -69,7 +69,7 @@ macro_rules! check {
             let range = $random.below(end)..$random.below(end);
             let numbers = touched(&starts, &range);
             let first = numbers.first().copied().unwrap_or(0);
-            let wanted = lexed.pieces_of_tokens(first..first + numbers.len());
+            let wanted = lexed.pieces_by_index(first..first + numbers.len());
             let pieces = lexed.pieces_in_bytes(range.clone());
             let mixed = from_both_ends(pieces.clone(), &mut $random);
             assert!(pieces.eq(wanted.clone()), "{range:?} in {lexed:?}");
@@ -234,7 +234,7 @@ fn pieces_by_hand() {
     let all = [(3, "\n"), (4, "---\nb\n---"), (13, "\n"), (14, "fn")];
     assert_eq!(told(document.pieces()), all);
     for range in [0..0, 0..2, 1..3, 3..4, 4..4] {
-        assert_eq!(told(document.pieces_of_tokens(range.clone())), all[range]);
+        assert_eq!(told(document.pieces_by_index(range.clone())), all[range]);
     }
     assert_eq!(told(document.pieces_in_bytes(0..5)), all[..2]);
     assert_eq!(told(document.pieces_in_bytes(14..99)), all[3..]);
@@ -258,7 +258,7 @@ fn pieces_at_the_end_of_a_long_text() {
             let check = |lexed: &$Kept, from: usize, wanted: &[(u32, &str)]| {
                 let from = from + $tokens;
                 let wanted = wanted.iter().map(|&(start, text)| (start + $bytes, text));
-                let pieces = told(lexed.pieces_of_tokens(from..from + wanted.len()));
+                let pieces = told(lexed.pieces_by_index(from..from + wanted.len()));
                 assert!(wanted.eq(pieces.iter().copied()), "{pieces:?}");
             };
             check(&lexed, 1501, &[(3004, " "), (3005, "12"), (3007, " ")]);

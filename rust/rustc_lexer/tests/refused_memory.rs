@@ -9,7 +9,8 @@ use rattle_support::Global;
 use refusing::{given, greatest_request, in_turn, refused_once, requests};
 use rustc_lexer::{
     AllocError, Checked, EditError, EditStop, Edition, JoinError, JoinedText, LexedDocument,
-    LexedText, Relexed, Stepper, Steps, Token, TokenKind, erased, tokenize_document, tokenize_in,
+    LexedText, Relexed, Stepper, Steps, Token, TokenKind, generated, tokenize_document,
+    tokenize_in,
 };
 use std::ops::Range;
 use std::panic::{AssertUnwindSafe, catch_unwind};
@@ -162,7 +163,7 @@ fn lists_of_edits() {
                 in_turn(
                     || $Kept::new($texts[0]),
                     |lexed| match each {
-                        true => lexed.edit_each(&$edits).map(drop).map_err(|it| it.stop),
+                        true => lexed.edit_sequence(&$edits).map(drop).map_err(|it| it.stop),
                         false => lexed.edit_all(&$edits),
                     },
                     |lexed, answer| {
@@ -198,7 +199,7 @@ fn a_long_list_of_edits() {
     let mut stops = Vec::new();
     for requests in 0.. {
         let mut lexed = LexedText::new("a ".repeat(70));
-        let answer = given(requests, || lexed.edit_each(&edits));
+        let answer = given(requests, || lexed.edit_sequence(&edits));
         let made = match answer {
             Ok(_) => 70,
             Err(stopped) => match stopped.stop {
@@ -223,7 +224,7 @@ fn edits_at_once() {
     let (texts, edits) = (["ab cd", "xab + d"], [edit(0, 0, "x"), edit(2, 4, " + ")]);
     in_turn(
         || LexedText::new(texts[0]),
-        |lexed| lexed.edit_at_once(&edits),
+        |lexed| lexed.edit_batch(&edits),
         |lexed, answer| {
             let made = answer.is_ok();
             assert!(made || answer == Err(EditStop::Memory { at: 1 }));
@@ -241,7 +242,7 @@ fn edits_at_once_that_are_too_long() {
     for last in [&insert[..], &insert[1..]] {
         edits[4095].insert = last;
         let mut lexed = LexedText::new("ab");
-        let answer = given(0, || lexed.edit_at_once(&edits));
+        let answer = given(0, || lexed.edit_batch(&edits));
         assert_eq!(answer, Err(EditStop::TooLong { at: 4095 }));
         assert_held!(lexed, "ab", tokenize_in("ab", Edition::E2024));
     }
@@ -277,12 +278,12 @@ fn set_edition() {
         };
     }
     let text = "'r#foo";
-    let proved = || erased::LexedText::new(Global, text).unwrap();
+    let proved = || generated::LexedText::new(Global, text).unwrap();
     editions!(LexedText::new(text), try_set_edition, text, tokenize_in, 1);
     editions!(proved(), set_edition, text, tokenize_in, 1);
     let text = "---\n---\n'r#foo";
     let new = || LexedDocument::new(text);
-    let proved = || erased::LexedDocument::new(Global, text).unwrap();
+    let proved = || generated::LexedDocument::new(Global, text).unwrap();
     editions!(new(), try_set_edition, text, tokenize_document, 3);
     editions!(proved(), set_edition, text, tokenize_document, 3);
 }
@@ -367,10 +368,10 @@ fn the_longest_text() {
     assert_eq!(answers, [Err(EditError::Memory); 4]);
     let mut lexed = LexedText::new("ab");
     let edits = [edit(0, 1, "c"), edit(1, 1, &text[2..])];
-    let answer = given(0, || lexed.edit_at_once(&edits));
+    let answer = given(0, || lexed.edit_batch(&edits));
     assert_eq!(answer, Err(EditStop::Memory { at: 1 }));
     let edits = [edit(0, 1, "cd"), edit(1, 1, &text[2..])];
-    let answer = given(0, || lexed.edit_at_once(&edits));
+    let answer = given(0, || lexed.edit_batch(&edits));
     assert_eq!(answer, Err(EditStop::TooLong { at: 1 }));
 }
 

@@ -50,7 +50,7 @@ macro_rules! has_no_tokens {
         let mut second = lexed.clone();
         assert_eq!(panic_message(|| lexed.tokens().len()), LEFT);
         assert_eq!(panic_message(|| lexed.pieces().len()), LEFT);
-        assert_eq!(panic_message(|| lexed.pieces_of_tokens(0..0).len()), LEFT);
+        assert_eq!(panic_message(|| lexed.pieces_by_index(0..0).len()), LEFT);
         assert_eq!(panic_message(|| lexed.pieces_in_bytes(0..1).len()), LEFT);
         assert_eq!(panic_message(|| lexed.token_start_at(0)), LEFT);
         assert_eq!(panic_message(|| lexed.piece_at(0).is_some()), LEFT);
@@ -62,8 +62,8 @@ macro_rules! has_no_tokens {
         assert_eq!(lexed.try_edit(0..99, ""), Err(EditError::Range));
         assert_eq!(panic_message(|| lexed == second), LEFT);
         assert_eq!(panic_message(|| lexed.edit_all(&[])), LEFT);
-        assert_eq!(panic_message(|| lexed.edit_each(&[])), LEFT);
-        assert_eq!(panic_message(|| lexed.edit_at_once(&[])), LEFT);
+        assert_eq!(panic_message(|| lexed.edit_sequence(&[])), LEFT);
+        assert_eq!(panic_message(|| lexed.edit_batch(&[])), LEFT);
         assert_eq!(panic_message(|| second.edit(0..0, "")), LEFT);
         assert_eq!((lexed.text(), second.text()), ($text, $text));
         assert!(lexed.accepts(0..1, "") && !lexed.accepts(0..99, ""));
@@ -99,7 +99,7 @@ fn tokens_that_break_the_rule() {
                 assert_eq!(panic_message(|| lexed.edit_all(&bad)), broken(len, 4));
                 has_no_tokens!(lexed, "ca!éb");
                 let mut lexed = kept();
-                assert_eq!(panic_message(|| lexed.edit_each(&bad)), broken(len, 4));
+                assert_eq!(panic_message(|| lexed.edit_sequence(&bad)), broken(len, 4));
                 has_no_tokens!(lexed, "ca!éb");
             }
             // A token can be the whole remaining text, or all but its last character.
@@ -183,7 +183,10 @@ fn a_panic_at_each_step() {
             // A list is applied edit by edit, so the text is that after one of them.
             let mut lexed = $Kept::try_with("a;".repeat(70), Few(140 + 90)).unwrap();
             let edits: Vec<_> = (0..70).map(|at| edit(3 * at, 3 * at, "b")).collect();
-            assert_eq!(panic_message(|| lexed.edit_each(&edits)), "no step is left");
+            assert_eq!(
+                panic_message(|| lexed.edit_sequence(&edits)),
+                "no step is left"
+            );
             let made = lexed.text().len() - 140;
             assert!(1 < made && made < 70, "{made}");
             let text = "ba;".repeat(made) + &"a;".repeat(70 - made);
@@ -193,7 +196,7 @@ fn a_panic_at_each_step() {
             let mut lexed = $Kept::try_with("ab", Few(3)).unwrap();
             let edits = [edit(0, 0, "c"), edit(2, 2, "d")];
             assert_eq!(
-                panic_message(|| lexed.edit_at_once(&edits)),
+                panic_message(|| lexed.edit_batch(&edits)),
                 "no step is left"
             );
             has_no_tokens!(lexed, "cabd");
@@ -202,7 +205,7 @@ fn a_panic_at_each_step() {
                 let mut lexed = $Kept::try_with("a", Few(3)).unwrap();
                 let edits = [edit(1, 1, "b"), edit(2, 2, "c"), edit(3, 3, "d")];
                 let made = || match each {
-                    true => lexed.edit_each(&edits).map(drop).map_err(|it| it.stop),
+                    true => lexed.edit_sequence(&edits).map(drop).map_err(|it| it.stop),
                     false => lexed.edit_all(&edits),
                 };
                 assert_eq!(panic_message(made), "no step is left");

@@ -5,8 +5,9 @@ mod panics;
 
 use panics::{panic_message, too_long as too_long_string};
 use rustc_lexer::{
-    Cursor, Edition, FrontmatterAllowed, fits, is_ident, is_seam, settled, settled_in, starts_raw,
-    strip_shebang, tokenize, tokenize_as, tokenize_document, tokenize_in, validate_raw_str,
+    Cursor, Edition, FrontmatterAllowed, fits, is_ident, is_token_boundary, settled, settled_in,
+    starts_raw, strip_shebang, tokenize, tokenize_as, tokenize_document, tokenize_in,
+    validate_raw_str,
 };
 #[cfg(feature = "alloc")]
 use rustc_lexer::{Edit, EditError, EditStop, FromStringError, LexedDocument, LexedText, Steps};
@@ -59,8 +60,8 @@ fn calls_that_panic() {
         ("settled_in", |text| {
             let _ = settled_in(text, Edition::E2018);
         }),
-        ("is_seam", |text| {
-            let _ = is_seam(text, 1, Edition::E2024);
+        ("is_token_boundary", |text| {
+            let _ = is_token_boundary(text, 1, Edition::E2024);
         }),
     ]);
 }
@@ -172,7 +173,7 @@ fn edits() {
     assert_eq!(text.edit_all(&edits), Err(EditStop::TooLong { at: 1 }));
     assert_eq!(document.edit_all(&edits), Err(EditStop::TooLong { at: 1 }));
     assert_eq!((text.text(), document.text()), ("baé", "baé"));
-    for each in [text.edit_each(&edits), document.edit_each(&edits)] {
+    for each in [text.edit_sequence(&edits), document.edit_sequence(&edits)] {
         assert_eq!(each.map_err(|it| it.stop), Err(EditStop::TooLong { at: 1 }));
     }
     assert_eq!((text.text(), document.text()), ("bbaé", "bbaé"));

@@ -1,12 +1,12 @@
 //! The exported C functions. Each builds slices from its pointers and lengths, and calls the generated function with
 //! the same name.
 
-use crate::erased::batch::CPlace;
-use crate::erased::escapes::CUnit;
-use crate::erased::head::CHead;
-use crate::erased::raw_str::{CGuardedStr, CRawStrError};
-use crate::erased::relex::{CEdit, CRelexing};
-use crate::erased::token::CToken;
+use crate::generated::batch::CPlace;
+use crate::generated::escapes::CUnit;
+use crate::generated::head::CHead;
+use crate::generated::raw_str::{CGuardedStr, CRawStrError};
+use crate::generated::relex::{CEdit, CRelexing};
+use crate::generated::token::CToken;
 use core::panic::PanicInfo;
 use core::slice::{from_raw_parts, from_raw_parts_mut};
 
@@ -42,7 +42,7 @@ macro_rules! calls {
         /// The function with this name in `rustc_lexer.h`.
         #[unsafe(no_mangle)]
         unsafe extern "C" fn $name($($crossing)*) -> $answer {
-            crate::erased::$module::$name($($passed)*)
+            crate::generated::$module::$name($($passed)*)
         }
     };
     (@ $m:ident $n:ident $a:ty [$($c:tt)*] [$($p:tt)*] $item:ident: &[$type:ty], $($rest:tt)*) => {
@@ -104,7 +104,7 @@ calls! {
         fn rustc_lexer_settled_unchecked(text: &[u8], end: &mut usize) -> u32;
     }
     seam {
-        fn rustc_lexer_is_seam(text: &[u8], at: usize, edition: u32, is: &mut u32) -> u32;
+        fn rustc_lexer_is_token_boundary(text: &[u8], at: usize, edition: u32, is: &mut u32) -> u32;
     }
     splice {
         fn rustc_lexer_splice(
@@ -130,12 +130,12 @@ calls! {
             text: &[u8], mode: u32, passed: usize, buffer: &mut [CUnit], count: &mut usize
         ) -> u32;
     }
-    faults {
+    errors {
         fn rustc_lexer_class(text: &[u8], token: &CToken, edition: u32, number: &mut u32) -> u32;
-        fn rustc_lexer_fault(text: &[u8], token: &CToken, number: &mut u32) -> u32;
+        fn rustc_lexer_token_error(text: &[u8], token: &CToken, number: &mut u32) -> u32;
     }
-    marked {
-        fn rustc_lexer_marks(
+    highlighted {
+        fn rustc_lexer_write_highlighted(
             text: &[u8], format: u32, edition: u32, count: usize, buffer: &mut [u8], written: &mut usize
         ) -> u32;
     }

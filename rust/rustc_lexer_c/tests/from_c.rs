@@ -321,7 +321,7 @@ fn listed() -> Vec<(PathBuf, &'static str)> {
         .flat_map(|(_, entries)| entries)
     {
         match *entry {
-            Entry::Part(part, times) => text += &part.repeat(times as usize),
+            Entry::Fragment(part, times) => text += &part.repeat(times as usize),
             Entry::Token(_) => {}
             Entry::End(ways) => {
                 let words = [(No, ""), (Yes, "front")];

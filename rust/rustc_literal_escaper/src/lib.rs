@@ -7,18 +7,18 @@
 //! ```
 //! use rustc_literal_escaper::{unescape_str, EscapeError};
 //!
-//! let mut faults = Vec::new();
+//! let mut escape_errors = Vec::new();
 //! let mut value = String::new();
 //! unescape_str(r"a\n\q", |range, unit| match unit {
 //!     Ok(c) => value.push(c),
-//!     Err(error) => faults.push((range, error)),
+//!     Err(error) => escape_errors.push((range, error)),
 //! });
 //! assert_eq!(value, "a\n");
-//! assert_eq!(faults, [(3..5, EscapeError::InvalidEscape)]);
+//! assert_eq!(escape_errors, [(3..5, EscapeError::InvalidEscape)]);
 //! ```
 //!
-//! The modules below `erased` are generated from a proved source in Rattle, which is Rust with contracts, by deleting
-//! its contracts. The rest is written by hand. The repository's `docs/ERASED.md` says what is claimed and what is
+//! The modules below `generated` are generated from a proved source in Rattle, which is Rust with contracts, by deleting
+//! its contracts. The rest is written by hand. The repository's `docs/GENERATED.md` says what is claimed and what is
 //! trusted.
 
 #![no_std]
@@ -38,7 +38,7 @@ extern crate std;
 
 /// The proved source without its contracts, generated from `crates/rustc_literal_escaper`.
 ///
-/// This is for packages that are generated in the same way, like `marks`. It has types of its own for units of C
+/// This is for packages that are generated in the same way, like `rustc_lexer_highlight`. It has types of its own for units of C
 /// strings, and may change with the source. All other callers use the calls at the crate's root.
 // Contracts alone use some of its imports and variables.
 #[allow(missing_docs, unused_imports, unused_variables, dead_code)]
@@ -50,13 +50,13 @@ extern crate std;
 #[allow(clippy::assign_op_pattern, clippy::collapsible_if)]
 #[allow(clippy::question_mark)]
 #[doc(hidden)]
-pub mod erased;
+pub mod generated;
 mod unit;
 #[cfg(feature = "alloc")]
 mod written;
 
 #[doc(inline)]
-pub use erased::{
+pub use generated::{
     EscapeError, Mode, check_for_errors, check_raw_byte_str, check_raw_str, unescape_byte,
     unescape_byte_str, unescape_char, unescape_str,
 };

@@ -1,7 +1,7 @@
 //! The units of C strings, by `NonZero` of the standard library. The proved source has types of its own for it.
 
 use crate::EscapeError;
-use crate::erased::{self, NonZeroChar};
+use crate::generated::{self, NonZeroChar};
 use core::num::NonZero;
 use core::ops::Range;
 
@@ -21,10 +21,10 @@ fn nonzero(c: NonZeroChar) -> NonZero<char> {
 }
 
 #[inline(always)]
-fn mixed(unit: erased::MixedUnit) -> MixedUnit {
+fn mixed(unit: generated::MixedUnit) -> MixedUnit {
     match unit {
-        erased::MixedUnit::Char(c) => MixedUnit::Char(nonzero(c)),
-        erased::MixedUnit::HighByte(byte) => {
+        generated::MixedUnit::Char(c) => MixedUnit::Char(nonzero(c)),
+        generated::MixedUnit::HighByte(byte) => {
             MixedUnit::HighByte(NonZero::new(byte.get()).expect("it is not 0"))
         }
     }
@@ -45,7 +45,7 @@ pub fn unescape_c_str(
     src: &str,
     mut callback: impl FnMut(Range<usize>, Result<MixedUnit, EscapeError>),
 ) {
-    erased::unescape_c_str(src, |range, unit| callback(range, unit.map(mixed)));
+    generated::unescape_c_str(src, |range, unit| callback(range, unit.map(mixed)));
 }
 
 /// Calls `callback` with each character of a raw C string, or an error, and its range in bytes, in order.
@@ -55,16 +55,16 @@ pub fn unescape_c_str(
 /// ```
 /// use rustc_literal_escaper::{EscapeError, check_raw_c_str};
 ///
-/// let mut faults = Vec::new();
-/// check_raw_c_str("a\0", |range, unit| faults.extend(unit.err().map(|error| (range, error))));
-/// assert_eq!(faults, [(1..2, EscapeError::NulInCStr)]);
+/// let mut escape_errors = Vec::new();
+/// check_raw_c_str("a\0", |range, unit| escape_errors.extend(unit.err().map(|error| (range, error))));
+/// assert_eq!(escape_errors, [(1..2, EscapeError::NulInCStr)]);
 /// ```
 #[inline]
 pub fn check_raw_c_str(
     src: &str,
     mut callback: impl FnMut(Range<usize>, Result<NonZero<char>, EscapeError>),
 ) {
-    erased::check_raw_c_str(src, |range, c| callback(range, c.map(nonzero)));
+    generated::check_raw_c_str(src, |range, c| callback(range, c.map(nonzero)));
 }
 
 impl From<NonZero<char>> for MixedUnit {
@@ -75,7 +75,7 @@ impl From<NonZero<char>> for MixedUnit {
 
 impl From<NonZero<u8>> for MixedUnit {
     fn from(byte: NonZero<u8>) -> MixedUnit {
-        let unit = erased::MixedUnit::try_from(byte.get());
+        let unit = generated::MixedUnit::try_from(byte.get());
         mixed(unit.expect("the byte is not 0"))
     }
 }
@@ -84,7 +84,7 @@ impl TryFrom<char> for MixedUnit {
     type Error = EscapeError;
 
     fn try_from(c: char) -> Result<MixedUnit, EscapeError> {
-        erased::MixedUnit::try_from(c).map(mixed)
+        generated::MixedUnit::try_from(c).map(mixed)
     }
 }
 
@@ -92,6 +92,6 @@ impl TryFrom<u8> for MixedUnit {
     type Error = EscapeError;
 
     fn try_from(byte: u8) -> Result<MixedUnit, EscapeError> {
-        erased::MixedUnit::try_from(byte).map(mixed)
+        generated::MixedUnit::try_from(byte).map(mixed)
     }
 }

@@ -1,8 +1,8 @@
 //! Texts and bytes, escaped for the inside of double quotes. The original has no such calls.
 
-pub use crate::erased::EscapeCStrError;
+pub use crate::generated::EscapeCStrError;
 
-use crate::erased;
+use crate::generated;
 use crate::support;
 use crate::support::AllocError;
 use alloc::string::String;
@@ -44,7 +44,7 @@ fn lent<T>(out: &mut String, call: impl FnOnce(&mut support::String) -> T) -> T 
 ///
 /// Returns an error if an allocation fails. Then `out` is as it was.
 pub fn escape_str(text: &str, out: &mut String) -> Result<(), AllocError> {
-    lent(out, |out| erased::escape_str(text, out))
+    lent(out, |out| generated::escape_str(text, out))
 }
 
 /// Appends `bytes` to `out`, escaped for the inside of a byte string in double quotes.
@@ -62,7 +62,7 @@ pub fn escape_str(text: &str, out: &mut String) -> Result<(), AllocError> {
 ///
 /// Returns an error if an allocation fails. Then `out` is as it was.
 pub fn escape_byte_str(bytes: &[u8], out: &mut String) -> Result<(), AllocError> {
-    lent(out, |out| erased::escape_byte_str(bytes, out))
+    lent(out, |out| generated::escape_byte_str(bytes, out))
 }
 
 /// Appends `bytes` to `out`, escaped for the inside of a C string in double quotes.
@@ -80,5 +80,5 @@ pub fn escape_byte_str(bytes: &[u8], out: &mut String) -> Result<(), AllocError>
 ///
 /// Returns an error if a byte is 0, which no C string has, or if an allocation fails. Then `out` is as it was.
 pub fn escape_c_str(bytes: &[u8], out: &mut String) -> Result<(), EscapeCStrError> {
-    lent(out, |out| erased::escape_c_str(bytes, out))
+    lent(out, |out| generated::escape_c_str(bytes, out))
 }

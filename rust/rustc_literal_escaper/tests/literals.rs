@@ -2,7 +2,7 @@
 
 use core::num::NonZero;
 use rustc_literal_escaper::EscapeError::*;
-use rustc_literal_escaper::erased::{Elements, Faults};
+use rustc_literal_escaper::generated::{Elements, EscapeErrors};
 use rustc_literal_escaper::{
     EscapeError, MixedUnit, Mode, check_for_errors, check_raw_byte_str, check_raw_c_str,
     check_raw_str, unescape_byte, unescape_byte_str, unescape_c_str, unescape_char, unescape_str,
@@ -24,9 +24,12 @@ macro_rules! units {
 fn errors(text: &str, mode: Mode) -> Vec<(Range<usize>, EscapeError)> {
     let mut errors = Vec::new();
     check_for_errors(text, mode, |range, error| errors.push((range, error)));
-    let mut faults = Faults::new(text, mode);
-    assert!(faults.by_ref().eq(errors.iter().cloned()), "in {text:?}");
-    assert_eq!(faults.next(), None, "in {text:?}");
+    let mut escape_errors = EscapeErrors::new(text, mode);
+    assert!(
+        escape_errors.by_ref().eq(errors.iter().cloned()),
+        "in {text:?}"
+    );
+    assert_eq!(escape_errors.next(), None, "in {text:?}");
     errors
 }
 
@@ -428,7 +431,7 @@ fn modes_and_units() {
     is_key::<(MixedUnit, Mode, EscapeError)>();
 }
 
-/// An error works with `?` and has a message. `marks/tests/sentences.rs` has each message.
+/// An error works with `?` and has a message. `rustc_lexer_highlight/tests/sentences.rs` has each message.
 #[test]
 fn error_messages() {
     fn is_error<T: std::error::Error + Send + Sync + 'static>() {}

@@ -25,20 +25,20 @@ macro_rules! edits {
         $($made:literal)?
         [$($token:expr),* $(,)?]),* $(,)?) => {
         &[$(
-            $($($crate::tables::row::Entry::Part($part, 1 $(* $times)?),)+)?
-            $($crate::tables::row::Entry::Part($text, 1),)?
+            $($($crate::tables::row::Entry::Fragment($part, 1 $(* $times)?),)+)?
+            $($crate::tables::row::Entry::Fragment($text, 1),)?
             $crate::tables::row::Entry::End($crate::tables::edits::Role::Before(rustc_lexer::Edition::$edition)),
             $(
-                $($($crate::tables::row::Entry::Part($new_part, 1 $(* $new_times)?),)+)?
-                $($crate::tables::row::Entry::Part($new, 1),)?
+                $($($crate::tables::row::Entry::Fragment($new_part, 1 $(* $new_times)?),)+)?
+                $($crate::tables::row::Entry::Fragment($new, 1),)?
                 $crate::tables::row::Entry::End($crate::tables::edits::Role::Edit(
                     $start,
                     $stop,
                     $crate::tables::edits::counts!($($kept_front, $lexed, $kept_back)?),
                 )),
             )*
-            $($($($crate::tables::row::Entry::Token($of_each),)* $crate::tables::row::Entry::Part($each, 1 $(* $each_times)?),)+)?
-            $($crate::tables::row::Entry::Part($made, 1),)?
+            $($($($crate::tables::row::Entry::Token($of_each),)* $crate::tables::row::Entry::Fragment($each, 1 $(* $each_times)?),)+)?
+            $($crate::tables::row::Entry::Fragment($made, 1),)?
             $($crate::tables::row::Entry::Token($token),)*
             $crate::tables::row::Entry::End($crate::tables::edits::Role::After),
         )*]

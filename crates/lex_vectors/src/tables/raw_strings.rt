@@ -80,8 +80,8 @@ pub(crate) type Check = (u32, Result<(), RawStrError>);
 macro_rules! checks {
     ($($([$($part:literal $(* $times:literal)?),+])? $($text:literal)?, $prefix_len:literal => $answer:expr),* $(,)?) => {
         &[$(
-            $($(Entry::Part($part, 1 $(* $times)?),)+)?
-            $(Entry::Part($text, 1),)?
+            $($(Entry::Fragment($part, 1 $(* $times)?),)+)?
+            $(Entry::Fragment($text, 1),)?
             Entry::End(($prefix_len, $answer)),
         )*]
     };

@@ -5,7 +5,7 @@ use rustc_lexer::{Edition, FrontmatterAllowed, TokenKind};
 #[derive(Clone, Copy)]
 pub enum Entry<M> {
     /// A part of a text, and how often it is repeated. The tokens before it end in it each time.
-    Part(&'static str, u32),
+    Fragment(&'static str, u32),
     /// A token of the text, by kind and length.
     Token((TokenKind, u32)),
     /// The end of the text, and what it is for.
@@ -18,7 +18,7 @@ pub enum Way {
     /// `tokenize`.
     Newest(FrontmatterAllowed),
     /// `tokenize_in`.
-    Part(Edition),
+    Fragment(Edition),
     /// `tokenize_as`, with a frontmatter allowed.
     Document(Edition),
 }
@@ -27,10 +27,10 @@ impl Way {
     pub const ALL: [Way; 10] = [
         Way::Newest(FrontmatterAllowed::No),
         Way::Newest(FrontmatterAllowed::Yes),
-        Way::Part(Edition::E2015),
-        Way::Part(Edition::E2018),
-        Way::Part(Edition::E2021),
-        Way::Part(Edition::E2024),
+        Way::Fragment(Edition::E2015),
+        Way::Fragment(Edition::E2018),
+        Way::Fragment(Edition::E2021),
+        Way::Fragment(Edition::E2024),
         Way::Document(Edition::E2015),
         Way::Document(Edition::E2018),
         Way::Document(Edition::E2021),
@@ -54,7 +54,7 @@ impl Ways {
     pub fn has(self, way: Way) -> bool {
         match (self, way) {
             (Ways::Newest(allowed), Way::Newest(other)) => allowed == other,
-            (Ways::Editions(first, last), Way::Part(edition) | Way::Document(edition))
+            (Ways::Editions(first, last), Way::Fragment(edition) | Way::Document(edition))
             | (Ways::Documents(first, last), Way::Document(edition)) => {
                 first <= edition && edition <= last
             }
@@ -77,10 +77,10 @@ macro_rules! rows {
         $([$($part:literal $(* $times:literal)?),+])? $($text:literal)? $($name:ident)?
         => [$($token:expr),* $(,)?]),* $(,)?) => {
         &[$(
-            $($($($crate::tables::row::Entry::Token($of_each),)* $crate::tables::row::Entry::Part($each, 1 $(* $each_times)?),)+)?
-            $($($crate::tables::row::Entry::Part($part, 1 $(* $times)?),)+)?
-            $($crate::tables::row::Entry::Part($text, 1),)?
-            $($crate::tables::row::Entry::Part($name, 1),)?
+            $($($($crate::tables::row::Entry::Token($of_each),)* $crate::tables::row::Entry::Fragment($each, 1 $(* $each_times)?),)+)?
+            $($($crate::tables::row::Entry::Fragment($part, 1 $(* $times)?),)+)?
+            $($crate::tables::row::Entry::Fragment($text, 1),)?
+            $($crate::tables::row::Entry::Fragment($name, 1),)?
             $($crate::tables::row::Entry::Token($token),)*
             $crate::tables::row::Entry::End($ways),
         )*]

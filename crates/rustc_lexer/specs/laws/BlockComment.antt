@@ -4,9 +4,9 @@ use Rattle.std.proofs.Common.{sym, ap, ◌∙◌, subst, arith, append_assoc, le
 use Rattle.std.proofs.lemmas.Grind.{common_steps}
 use Rattle.rustc_lexer.specs.Language as the
 use Rattle.rustc_lexer.specs.Language.{IsCommentRest}
-use Rattle.rustc_lexer.specs.means.BlockComment.{at_closing, at_opening, block_doc_style, comment_end, out_of}
-use Rattle.rustc_lexer.specs.means.Least.{more}
-use Rattle.rustc_lexer.specs.means.Scan.{begins}
+use Rattle.rustc_lexer.specs.model.BlockComment.{at_closing, at_opening, block_doc_style, comment_end, out_of}
+use Rattle.rustc_lexer.specs.model.Least.{more}
+use Rattle.rustc_lexer.specs.model.Scan.{begins}
 use Rattle.rustc_lexer.specs.laws.Choice.{by_either}
 use Rattle.rustc_lexer.specs.laws.Fences.{begins-whole}
 use Rattle.rustc_lexer.specs.laws.LanguageRuns.{decided-front}

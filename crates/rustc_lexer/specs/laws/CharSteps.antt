@@ -3,7 +3,7 @@ use Rattle.std.proofs.Common.{◌≡◌, ℕ, suc, ◌+◌, List, ◌∷◌, len
 use Rattle.std.proofs.Math.Seq.{take-add}
 use Rattle.std.specs.{Char.{encode_utf8}, Str.{encode_utf8_all}}
 use Rattle.std.proofs.lemmas.Str.{encodes-append}
-use Rattle.rustc_lexer.specs.means.Scan.{bytes_of}
+use Rattle.rustc_lexer.specs.model.Scan.{bytes_of}
 
 pub bytes_of-suc : (n c : ℕ) (cs : List ℕ) → bytes_of (suc n) (c ∷ cs) ≡ length (encode_utf8 c) + bytes_of n cs
 bytes_of-suc n c cs = length-append (encode_utf8 c) (encode_utf8_all (take n cs))

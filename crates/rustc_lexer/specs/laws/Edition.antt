@@ -13,9 +13,9 @@ use Rattle.rustc_lexer.specs.laws.LanguageIn.{Front, first-front, token-read-in}
 use Rattle.rustc_lexer.specs.laws.Language.{token-alike}
 use Rattle.rustc_lexer.specs.laws.Reach.{cut, decided_same}
 use Rattle.rustc_lexer.specs.laws.LanguageFront.{split, split-boundary, split-same, Split}
-use Rattle.rustc_lexer.specs.means.Edition.{first_token_in}
-use Rattle.rustc_lexer.specs.means.Ident.{begins_hash_ident}
-use Rattle.rustc_lexer.specs.means.Lexeme.{first_token}
+use Rattle.rustc_lexer.specs.model.Edition.{first_token_in}
+use Rattle.rustc_lexer.specs.model.Ident.{begins_hash_ident}
+use Rattle.rustc_lexer.specs.model.Lexeme.{first_token}
 
 reach-two : (kind : TokenKind) (w : List ℕ) → reach kind w ≤ 2
 reach-two kind w = grind (arith, common_steps)

@@ -7,11 +7,11 @@ use Rattle.std.proofs.lemmas.Grind.{common_steps}
 use Rattle.rustc_lexer.specs.Classes.{is_horizontal_whitespace, is_inline}
 use Rattle.memchr.specs.Find.{IsFirstByte, is_byte}
 use Rattle.rustc_lexer.specs.FrontmatterGrammar.{fence}
-use Rattle.rustc_lexer.specs.means.Frontmatter.{first, blank_past, blank_over, first_lone, is_dash, is_newline}
-use Rattle.rustc_lexer.specs.means.Frontmatter.{line_end}
-use Rattle.rustc_lexer.specs.means.Least.{more, one_more}
-use Rattle.rustc_lexer.specs.means.Raw.{least_offset}
-use Rattle.rustc_lexer.specs.means.Scan.{begins, run_len}
+use Rattle.rustc_lexer.specs.model.Frontmatter.{first, blank_past, blank_over, first_lone, is_dash, is_newline}
+use Rattle.rustc_lexer.specs.model.Frontmatter.{line_end}
+use Rattle.rustc_lexer.specs.model.Least.{more, one_more}
+use Rattle.rustc_lexer.specs.model.Raw.{least_offset}
+use Rattle.rustc_lexer.specs.model.Scan.{begins, run_len}
 use Rattle.rustc_lexer.specs.laws.Choice.{by_either}
 use Rattle.rustc_lexer.specs.laws.Least.{more-more, more-zero, one_more-more, offset-here, offset-on, one_more-none}
 use Rattle.rustc_lexer.specs.laws.Reach.{one_more-some}

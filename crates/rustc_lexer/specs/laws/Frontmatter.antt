@@ -11,15 +11,15 @@ use Rattle.std.proofs.{Math.Bool.{and-false}, lemmas.Grind.{common_steps}}
 use Rattle.rustc_lexer.specs.{Edition, Token, Frontmatter}
 use Rattle.rustc_lexer.specs.Classes.{is_whitespace, is_id_start, is_info}
 use Rattle.rustc_lexer.specs.LanguageText.{Mode}
-use Rattle.rustc_lexer.specs.means.Edition.{first_token_in}
+use Rattle.rustc_lexer.specs.model.Edition.{first_token_in}
 use Rattle.rustc_lexer.specs.FrontmatterGrammar as the
 use Rattle.rustc_lexer.specs.FrontmatterGrammar.{fence, endings}
-use Rattle.rustc_lexer.specs.means.Frontmatter.{closing_end, ends_line, fence_len, first, first_lone, frontmatter}
-use Rattle.rustc_lexer.specs.means.Frontmatter.{if_found, infostring_len, is_dash, is_newline, label_len, line_end}
-use Rattle.rustc_lexer.specs.means.Frontmatter.{newline, opening_len, opens, past_opening, spaces_len, then_len}
+use Rattle.rustc_lexer.specs.model.Frontmatter.{closing_end, ends_line, fence_len, first, first_lone, frontmatter}
+use Rattle.rustc_lexer.specs.model.Frontmatter.{if_found, infostring_len, is_dash, is_newline, label_len, line_end}
+use Rattle.rustc_lexer.specs.model.Frontmatter.{newline, opening_len, opens, past_opening, spaces_len, then_len}
 use Rattle.rustc_lexer.specs.laws.Reach.{run_len_le}
-use Rattle.rustc_lexer.specs.means.Scan.{begins, bytes_of, next_is, past, run_len}
-use Rattle.rustc_lexer.specs.means.Taking.{token_at}
+use Rattle.rustc_lexer.specs.model.Scan.{begins, bytes_of, next_is, past, run_len}
+use Rattle.rustc_lexer.specs.model.Taking.{token_at}
 use Rattle.rustc_lexer.specs.laws.CharSteps.{bytes_of-add}
 use Rattle.rustc_lexer.specs.laws.Fences.{begins-enough, begins-few, begins-dashes}
 use Rattle.rustc_lexer.specs.laws.LanguageClosing.{body-at, body-read, endings-patterns}

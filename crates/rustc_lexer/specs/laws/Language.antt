@@ -14,7 +14,7 @@ use Rattle.rustc_lexer.specs.declared.lexemes.raw.RawPrefix.TheVariants.{Br, Cr}
 use Rattle.rustc_lexer.specs.{LiteralKind, TokenKind}
 use Rattle.rustc_lexer.specs.Classes.{is_whitespace, is_id_start, NextIs}
 use Rattle.rustc_lexer.specs.Tables.{is_emoji}
-use Rattle.rustc_lexer.specs.means.Ident.{ident_or_unknown_prefix}
+use Rattle.rustc_lexer.specs.model.Ident.{ident_or_unknown_prefix}
 use Rattle.rustc_lexer.specs.laws.Choice.{by_test}
 use Rattle.rustc_lexer.specs.laws.LanguageComments.{space-sound, space-read, hash-sound, pound-read, guarded-read}
 use Rattle.rustc_lexer.specs.laws.LanguageComments.{symbol-read, slash-sound, slash-read, line-read, block-read}
@@ -40,12 +40,12 @@ use Rattle.rustc_lexer.specs.Language.{begins_prefixed, IsTokenBefore}
 use Rattle.rustc_lexer.specs.LiteralGrammar.{IsLiteralBefore}
 use Rattle.rustc_lexer.specs.LanguageText.{TheOnly}
 use Rattle.rustc_lexer.specs.GrammarLaws.{reach, BeginsWith}
-use Rattle.rustc_lexer.specs.means.Lexeme.{opens_raw, begins_raw, raw_past_or_ident, letter_r, letter_k, letter_b}
-use Rattle.rustc_lexer.specs.means.Lexeme.{letter_c, word, past_first, read_by, lexeme}
-use Rattle.rustc_lexer.specs.means.Literal.{literal}
-use Rattle.rustc_lexer.specs.means.Quoted.{byte_body, byte_str_body, c_str_body}
-use Rattle.rustc_lexer.specs.means.Raw.{raw_literal}
-use Rattle.rustc_lexer.specs.means.Scan.{after, begins}
+use Rattle.rustc_lexer.specs.model.Lexeme.{opens_raw, begins_raw, raw_past_or_ident, letter_r, letter_k, letter_b}
+use Rattle.rustc_lexer.specs.model.Lexeme.{letter_c, word, past_first, read_by, lexeme}
+use Rattle.rustc_lexer.specs.model.Literal.{literal}
+use Rattle.rustc_lexer.specs.model.Quoted.{byte_body, byte_str_body, c_str_body}
+use Rattle.rustc_lexer.specs.model.Raw.{raw_literal}
+use Rattle.rustc_lexer.specs.model.Scan.{after, begins}
 
 -- ---- what is read is a token
 

@@ -12,9 +12,9 @@ use Rattle.rustc_lexer.specs.Classes.{is_inline, bytes, Chars, AreAll, NextIsNot
 use Rattle.rustc_lexer.specs.FrontmatterGrammar as the
 use Rattle.rustc_lexer.specs.FrontmatterGrammar.{fence, IsFirstPositionOf, IsNowhere, IsAt, IsLone, endings}
 use Rattle.rustc_lexer.specs.FrontmatterGrammar.{IsBodyBefore}
-use Rattle.rustc_lexer.specs.means.Frontmatter.{first, line_end, blank_past, first_lone, end_by, closing_end}
-use Rattle.rustc_lexer.specs.means.Least.{one_more, more, least}
-use Rattle.rustc_lexer.specs.means.Scan.{begins, bytes_of, run_len}
+use Rattle.rustc_lexer.specs.model.Frontmatter.{first, line_end, blank_past, first_lone, end_by, closing_end}
+use Rattle.rustc_lexer.specs.model.Least.{one_more, more, least}
+use Rattle.rustc_lexer.specs.model.Scan.{begins, bytes_of, run_len}
 use Rattle.rustc_lexer.specs.laws.CharSteps.{bytes_of-suc}
 use Rattle.rustc_lexer.specs.laws.Choice.{by_either, by_found}
 use Rattle.rustc_lexer.specs.laws.Fences.{begins-whole}

@@ -6,10 +6,10 @@ use Rattle.std.proofs.{Math.Seq.{take-append_seam, drop-length}, lemmas.Bool.{an
 use Rattle.std.proofs.lemmas.{List.{append-nil}, Grind.{common_steps}}
 use Rattle.rustc_lexer.specs.{DocStyle, Outer, Inner, LineComment, BlockComment, Whitespace, GuardedStrPrefix, Pound}
 use Rattle.rustc_lexer.specs.{Slash}
-use Rattle.rustc_lexer.specs.means.BlockComment.{block_doc_style, block_comment_to, block_comment, comment_end}
+use Rattle.rustc_lexer.specs.model.BlockComment.{block_doc_style, block_comment_to, block_comment, comment_end}
 use Rattle.rustc_lexer.specs.Classes.{is_among, is_whitespace, NextNotIn, AreAll, NextIsNot, is_inline}
-use Rattle.rustc_lexer.specs.means.Comment.{line_doc_style, line_comment, slash}
-use Rattle.rustc_lexer.specs.means.Hash.{opens_guarded, hash}
+use Rattle.rustc_lexer.specs.model.Comment.{line_doc_style, line_comment, slash}
+use Rattle.rustc_lexer.specs.model.Hash.{opens_guarded, hash}
 use Rattle.rustc_lexer.specs.laws.BlockComment.{comment_end-found, comment_end-rest, rest-long, style_decided}
 use Rattle.rustc_lexer.specs.laws.Choice.{by_found, by_test}
 use Rattle.rustc_lexer.specs.laws.LanguageRuns.{run_len-here, run-stops, Sound, Read, read-first, sound-after}
@@ -18,8 +18,8 @@ use Rattle.rustc_lexer.specs.laws.LanguageRuns.{chooses-symbol, pair}
 use Rattle.rustc_lexer.specs.laws.Reach.{run_all}
 use Rattle.rustc_lexer.specs.Language as the
 use Rattle.rustc_lexer.specs.Language.{IsStyle, inner, outer, no_outer, neither, IsCommentRest, IsTokenBefore, has_rule}
-use Rattle.rustc_lexer.specs.means.Lexeme.{whitespace, symbol, symbol_kind}
-use Rattle.rustc_lexer.specs.means.Scan.{after, begins, gives, next_is, run_len}
+use Rattle.rustc_lexer.specs.model.Lexeme.{whitespace, symbol, symbol_kind}
+use Rattle.rustc_lexer.specs.model.Scan.{after, begins, gives, next_is, run_len}
 
 -- ---- white space and symbols
 

@@ -12,7 +12,7 @@ use Rattle.rustc_lexer.specs.laws.Language.{token-read}
 use Rattle.rustc_lexer.specs.laws.Texts.{scalars-take, scalars-drop}
 use Rattle.rustc_lexer.specs.Language.{IsTokenBefore}
 use Rattle.rustc_lexer.specs.Classes.{bytes, IsText}
-use Rattle.rustc_lexer.specs.means.Lexeme.{first_token}
+use Rattle.rustc_lexer.specs.model.Lexeme.{first_token}
 
 -- ---- texts and characters
 

@@ -8,14 +8,14 @@ use Rattle.std.proofs.lemmas.Bool.{and_parts, eqb-true, or_parts, not-true, fals
 use Rattle.unicode_ident.proofs.Computing.{unicode_ident}
 use Rattle.rustc_lexer.specs.Classes.{is_among, is_whitespace, is_horizontal_whitespace, is_id_start, AreAll, NextIsNot}
 use Rattle.rustc_lexer.specs.Classes.{is_info}
-use Rattle.rustc_lexer.specs.means.Frontmatter.{is_dash, then_len, spaces_len, fence_len, blanks_len, infostring_len}
-use Rattle.rustc_lexer.specs.means.Frontmatter.{label_len, opening_len, ends_line, opens}
+use Rattle.rustc_lexer.specs.model.Frontmatter.{is_dash, then_len, spaces_len, fence_len, blanks_len, infostring_len}
+use Rattle.rustc_lexer.specs.model.Frontmatter.{label_len, opening_len, ends_line, opens}
 use Rattle.rustc_lexer.specs.laws.LanguageRuns.{run_len-here, run-stops, either-way, none-among}
 use Rattle.rustc_lexer.specs.laws.Reach.{run_all, run_len-out}
 use Rattle.rustc_lexer.specs.laws.Fences.{begins-dashes, begins-enough}
 use Rattle.rustc_lexer.specs.FrontmatterGrammar as the
 use Rattle.rustc_lexer.specs.FrontmatterGrammar.{fence, IsLabelBefore, IsOpeningBefore, OpensNone}
-use Rattle.rustc_lexer.specs.means.Scan.{begins, next_is, run_len}
+use Rattle.rustc_lexer.specs.model.Scan.{begins, next_is, run_len}
 
 -- ---- classes
 

@@ -8,17 +8,17 @@ use Rattle.std.specs.Str.{chars}
 use Rattle.std.proofs.{Math.Bool.{or-false}, lemmas.Grind.{common_steps}}
 use Rattle.rustc_lexer.specs.{GuardedStr}
 use Rattle.rustc_lexer.specs.Classes.{is_among, NextIsNot, bytes}
-use Rattle.rustc_lexer.specs.means.Guarded as spec
-use Rattle.rustc_lexer.specs.means.Guarded.{closing_len, guarded_body, string_past, guarded_by}
+use Rattle.rustc_lexer.specs.model.Guarded as spec
+use Rattle.rustc_lexer.specs.model.Guarded.{closing_len, guarded_body, string_past, guarded_by}
 use Rattle.rustc_lexer.specs.LiteralGrammar.{hashes, IsDoubleQuoted, IsSuffixBefore}
 use Rattle.rustc_lexer.specs.LanguageCalls as the
 use Rattle.rustc_lexer.specs.LanguageCalls.{IsGuardedBefore}
 use Rattle.rustc_lexer.specs.State as holds
 use Rattle.rustc_lexer.specs.State.{TakesGuarded, State}
-use Rattle.rustc_lexer.specs.means.Literal.{suffix_len}
-use Rattle.rustc_lexer.specs.means.Quoted.{double_quoted_string}
-use Rattle.rustc_lexer.specs.means.Raw.{is_hash, is_quote, hash_run}
-use Rattle.rustc_lexer.specs.means.Scan.{bytes_of, next_is}
+use Rattle.rustc_lexer.specs.model.Literal.{suffix_len}
+use Rattle.rustc_lexer.specs.model.Quoted.{double_quoted_string}
+use Rattle.rustc_lexer.specs.model.Raw.{is_hash, is_quote, hash_run}
+use Rattle.rustc_lexer.specs.model.Scan.{bytes_of, next_is}
 use Rattle.rustc_lexer.specs.laws.Choice.{by_either}
 use Rattle.rustc_lexer.specs.laws.LanguageLiterals.{suffix-sound, suffix-read}
 use Rattle.rustc_lexer.specs.laws.LanguageQuoted.{double-read, double-sound}

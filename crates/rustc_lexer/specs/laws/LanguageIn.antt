@@ -11,11 +11,11 @@ use Rattle.rustc_lexer.specs.Classes.{is_among, is_id_continue, is_ident, is_wor
 use Rattle.rustc_lexer.specs.Classes.{begins_ident_after, AreAll, NextIs, bytes, IsText, is_bad_name}
 use Rattle.rustc_lexer.specs.LanguageText.{year, lexed_since, newest, IsTokenIn, kept, pound, ident, lifetime}
 use Rattle.rustc_lexer.specs.LanguageText.{lifetime_r}
-use Rattle.rustc_lexer.specs.means.Edition.{token, has_bad_name, before_2024, before_2021, changed, first_token_in}
+use Rattle.rustc_lexer.specs.model.Edition.{token, has_bad_name, before_2024, before_2021, changed, first_token_in}
 use Rattle.rustc_lexer.specs.Language as the
 use Rattle.rustc_lexer.specs.Language.{IsTokenBefore}
-use Rattle.rustc_lexer.specs.means.Lexeme.{past_first, lexeme, first_token, symbols, symbol_kind}
-use Rattle.rustc_lexer.specs.means.Scan.{bytes_of, next_is, run_len}
+use Rattle.rustc_lexer.specs.model.Lexeme.{past_first, lexeme, first_token, symbols, symbol_kind}
+use Rattle.rustc_lexer.specs.model.Scan.{bytes_of, next_is, run_len}
 use Rattle.rustc_lexer.specs.laws.Choice.{by_either, by_symbol}
 use Rattle.rustc_lexer.specs.laws.Language.{lexeme-sound}
 use Rattle.rustc_lexer.specs.laws.LanguageRuns.{run_len-here}

@@ -12,7 +12,7 @@ use Rattle.rustc_lexer.specs.Classes.{is_among, is_id_continue, is_ident, is_wor
 use Rattle.rustc_lexer.specs.Classes.{is_name_start, begins_ident_after, AreAll, NextIs, NextIsNot, bytes, ends_prefix}
 use Rattle.rustc_lexer.specs.Classes.{is_bad_name}
 use Rattle.rustc_lexer.specs.Tables.{is_emoji, emoji_ranges}
-use Rattle.rustc_lexer.specs.means.Ident.{begins_hash_ident}
+use Rattle.rustc_lexer.specs.model.Ident.{begins_hash_ident}
 use Rattle.rustc_lexer.specs.laws.Choice.{by_either, by_test}
 use Rattle.rustc_lexer.specs.laws.LanguageLiterals.{bytes-append, bytes-one, literal-sound, past-read, ReadsLiteral}
 use Rattle.rustc_lexer.specs.laws.LanguageQuoted.{single-read, single-sound}
@@ -26,10 +26,10 @@ use Rattle.rustc_lexer.specs.Language as the
 use Rattle.rustc_lexer.specs.LiteralGrammar as lit
 use Rattle.rustc_lexer.specs.Language.{IsTokenBefore}
 use Rattle.rustc_lexer.specs.LiteralGrammar.{ends, plain, escape, IsSingleQuoted, IsLiteralBefore}
-use Rattle.rustc_lexer.specs.means.Lifetime.{past_name, plain_lifetime, is_character, is_raw, lifetime_or_char}
-use Rattle.rustc_lexer.specs.means.Literal.{literal}
-use Rattle.rustc_lexer.specs.means.Quoted.{single_quoted_string, char_body}
-use Rattle.rustc_lexer.specs.means.Scan.{begins, run_len}
+use Rattle.rustc_lexer.specs.model.Lifetime.{past_name, plain_lifetime, is_character, is_raw, lifetime_or_char}
+use Rattle.rustc_lexer.specs.model.Literal.{literal}
+use Rattle.rustc_lexer.specs.model.Quoted.{single_quoted_string, char_body}
+use Rattle.rustc_lexer.specs.model.Scan.{begins, run_len}
 
 -- ---- classes
 

@@ -11,7 +11,7 @@ use Rattle.rustc_lexer.specs.declared.lexemes.raw.RawPrefix.TheVariants.{R, Br, 
 use Rattle.rustc_lexer.specs.{LiteralKind, RawStrError, TokenKind, Byte, Str, ByteStr, CStr, RawStr, RawByteStr}
 use Rattle.rustc_lexer.specs.{RawCStr, Literal}
 use Rattle.rustc_lexer.specs.Classes.{is_id_start, is_id_continue, begins_ident_after, NextIs, bytes}
-use Rattle.rustc_lexer.specs.means.Ident.{begins_hash_ident}
+use Rattle.rustc_lexer.specs.model.Ident.{begins_hash_ident}
 use Rattle.rustc_lexer.specs.laws.Choice.{by_test}
 use Rattle.rustc_lexer.specs.laws.Ident.{begins_hash_ident-decided}
 use Rattle.rustc_lexer.specs.laws.LanguageQuoted.{double-read, double-sound, single-read, single-sound}
@@ -26,14 +26,14 @@ use Rattle.rustc_lexer.specs.LiteralGrammar as lit
 use Rattle.rustc_lexer.specs.LiteralGrammar.{hashes, IsDoubleQuoted, IsSingleQuoted, IsRaw, IsLiteralBefore}
 use Rattle.rustc_lexer.specs.LiteralGrammar.{IsSuffixBefore}
 use Rattle.rustc_lexer.specs.Language.{IsTokenBefore}
-use Rattle.rustc_lexer.specs.means.Lexeme.{opens_raw, word}
-use Rattle.rustc_lexer.specs.means.Literal.{Body, suffix_len, suffixed, literal_past, literal}
-use Rattle.rustc_lexer.specs.means.Number.{number_kind, number}
+use Rattle.rustc_lexer.specs.model.Lexeme.{opens_raw, word}
+use Rattle.rustc_lexer.specs.model.Literal.{Body, suffix_len, suffixed, literal_past, literal}
+use Rattle.rustc_lexer.specs.model.Number.{number_kind, number}
 use Rattle.rustc_lexer.specs.NumberGrammar.{HasNumberForm, IsNumberBefore}
-use Rattle.rustc_lexer.specs.means.Quoted.{double_quoted_string, single_quoted_string, quoted_body, str_body}
-use Rattle.rustc_lexer.specs.means.Quoted.{byte_str_body, c_str_body, byte_body}
-use Rattle.rustc_lexer.specs.means.Raw.{raw_read, accepted, is_accepted, raw_body, prefix_kind, prefix_len, raw_literal}
-use Rattle.rustc_lexer.specs.means.Scan.{after, begins, bytes_of, run_len}
+use Rattle.rustc_lexer.specs.model.Quoted.{double_quoted_string, single_quoted_string, quoted_body, str_body}
+use Rattle.rustc_lexer.specs.model.Quoted.{byte_str_body, c_str_body, byte_body}
+use Rattle.rustc_lexer.specs.model.Raw.{raw_read, accepted, is_accepted, raw_body, prefix_kind, prefix_len, raw_literal}
+use Rattle.rustc_lexer.specs.model.Scan.{after, begins, bytes_of, run_len}
 
 -- ---- bytes
 

@@ -10,9 +10,9 @@ use Rattle.std.proofs.lemmas.Grind.{common_steps}
 use Rattle.rustc_lexer.specs.Classes.{is_horizontal_whitespace, Chars, AreAll}
 use Rattle.rustc_lexer.specs.FrontmatterGrammar as the
 use Rattle.rustc_lexer.specs.FrontmatterGrammar.{fence, IsEdge, IsLone}
-use Rattle.rustc_lexer.specs.means.Frontmatter.{blank_past, first_lone}
-use Rattle.rustc_lexer.specs.means.Least.{one_more, least}
-use Rattle.rustc_lexer.specs.means.Scan.{begins}
+use Rattle.rustc_lexer.specs.model.Frontmatter.{blank_past, first_lone}
+use Rattle.rustc_lexer.specs.model.Least.{one_more, least}
+use Rattle.rustc_lexer.specs.model.Scan.{begins}
 use Rattle.rustc_lexer.specs.laws.Choice.{by_either}
 use Rattle.rustc_lexer.specs.laws.Fences.{begins-whole}
 use Rattle.rustc_lexer.specs.laws.LanguageRuns.{either-way}

@@ -7,9 +7,9 @@ use Rattle.rustc_lexer.specs.Classes.{is_among, NextIn}
 use Rattle.rustc_lexer.specs.laws.Choice.{by_either}
 use Rattle.rustc_lexer.specs.LiteralGrammar as lit
 use Rattle.rustc_lexer.specs.LiteralGrammar.{QuotedTo, ends, plain, escape, SingleTo, IsDoubleQuoted, IsSingleQuoted}
-use Rattle.rustc_lexer.specs.means.Quoted.{is_backslash, one_past, quoted_from, quoted, at_double_quote}
-use Rattle.rustc_lexer.specs.means.Quoted.{double_quoted_string, at_single_stop, is_lone, single_quoted_string}
-use Rattle.rustc_lexer.specs.means.Scan.{begins}
+use Rattle.rustc_lexer.specs.model.Quoted.{is_backslash, one_past, quoted_from, quoted, at_double_quote}
+use Rattle.rustc_lexer.specs.model.Quoted.{double_quoted_string, at_single_stop, is_lone, single_quoted_string}
+use Rattle.rustc_lexer.specs.model.Scan.{begins}
 
 -- ---- one pass
 

@@ -13,10 +13,10 @@ use Rattle.rustc_lexer.specs.laws.Reach.{run_len-none}
 use Rattle.rustc_lexer.specs.{InvalidStarter, NoTerminator}
 use Rattle.rustc_lexer.specs.LiteralGrammar as lit
 use Rattle.rustc_lexer.specs.LiteralGrammar.{hashes, NoQuoteWith, IsRaw}
-use Rattle.rustc_lexer.specs.means.Least.{one_more}
-use Rattle.rustc_lexer.specs.means.Lexeme.{opens_raw}
-use Rattle.rustc_lexer.specs.means.Raw.{is_hash, is_quote, hash_run, closes, close, most_hashes, best_quote, quote_end}
-use Rattle.rustc_lexer.specs.means.Raw.{hash_count, raw_starter, raw_read, accepted}
+use Rattle.rustc_lexer.specs.model.Least.{one_more}
+use Rattle.rustc_lexer.specs.model.Lexeme.{opens_raw}
+use Rattle.rustc_lexer.specs.model.Raw.{is_hash, is_quote, hash_run, closes, close, most_hashes, best_quote, quote_end}
+use Rattle.rustc_lexer.specs.model.Raw.{hash_count, raw_starter, raw_read, accepted}
 
 -- ---- hashes
 

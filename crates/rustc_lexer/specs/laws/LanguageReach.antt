@@ -16,12 +16,12 @@ use Rattle.rustc_lexer.specs.Language.{known_prefixes, begins_prefixed, IsTokenB
 use Rattle.rustc_lexer.specs.GrammarLaws.{reach}
 use Rattle.rustc_lexer.specs.NumberGrammar as number
 use Rattle.rustc_lexer.specs.NumberGrammar.{HasNumberForm, IsNumberBefore}
-use Rattle.rustc_lexer.specs.means.Scan.{begins, next_is}
+use Rattle.rustc_lexer.specs.model.Scan.{begins, next_is}
 use Rattle.rustc_lexer.specs.laws.LanguageLiterals.{HasDigit, number-digit}
 use Rattle.rustc_lexer.specs.laws.LanguageRuns.{word-no_prefix_end}
 use Rattle.rustc_lexer.specs.laws.LanguageLifetimes.{end-stops}
 use Rattle.rustc_lexer.specs.laws.Ident.{begins_hash_ident-decided}
-use Rattle.rustc_lexer.specs.means.Ident.{begins_hash_ident}
+use Rattle.rustc_lexer.specs.model.Ident.{begins_hash_ident}
 use Rattle.rustc_lexer.specs.laws.NumberLongest.{number-looks, number_reach, number-alike}
 use Rattle.rustc_lexer.specs.laws.Reach.{begins-decided, cut, decided_same, next_is-decided, past}
 

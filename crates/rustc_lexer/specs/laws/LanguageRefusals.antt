@@ -11,10 +11,10 @@ use Rattle.rustc_lexer.specs.LiteralGrammar as lit
 use Rattle.rustc_lexer.specs.LiteralGrammar.{hashes, NoQuoteWith}
 use Rattle.rustc_lexer.specs.LanguageCalls as the
 use Rattle.rustc_lexer.specs.LanguageCalls.{IsLikelyEnd, IsRawAnswer}
-use Rattle.rustc_lexer.specs.means.Least.{one_more}
-use Rattle.rustc_lexer.specs.means.Raw.{hash_run, most_hashes, quote_hashes, quote_with, best_quote, quote_if}
-use Rattle.rustc_lexer.specs.means.Raw.{quote_end, raw_read, checked, check_raw}
-use Rattle.rustc_lexer.specs.means.Scan.{bytes_of}
+use Rattle.rustc_lexer.specs.model.Least.{one_more}
+use Rattle.rustc_lexer.specs.model.Raw.{hash_run, most_hashes, quote_hashes, quote_with, best_quote, quote_if}
+use Rattle.rustc_lexer.specs.model.Raw.{quote_end, raw_read, checked, check_raw}
+use Rattle.rustc_lexer.specs.model.Scan.{bytes_of}
 use Rattle.rustc_lexer.specs.Classes.{bytes}
 use Rattle.rustc_lexer.specs.laws.Choice.{by_either}
 use Rattle.rustc_lexer.specs.laws.LanguageRaw.{hash_run-hashes, hash_run-before, lacks-rest, lacks-front, Closing}

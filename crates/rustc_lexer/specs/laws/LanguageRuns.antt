@@ -18,8 +18,8 @@ use Rattle.rustc_lexer.specs.Tables.{is_emoji, emoji_ranges}
 use Rattle.rustc_lexer.specs.laws.Choice.{by_test}
 use Rattle.rustc_lexer.specs.laws.Reach.{IsDecidedBy, decided_same, run_len-in, run_len-out}
 use Rattle.rustc_lexer.specs.Language.{has_rule, IsTokenBefore}
-use Rattle.rustc_lexer.specs.means.Lexeme.{family_of, past_first, read_by, lexeme}
-use Rattle.rustc_lexer.specs.means.Scan.{after, next_is, begins, run_len}
+use Rattle.rustc_lexer.specs.model.Lexeme.{family_of, past_first, read_by, lexeme}
+use Rattle.rustc_lexer.specs.model.Scan.{after, next_is, begins, run_len}
 
 -- ---- runs
 

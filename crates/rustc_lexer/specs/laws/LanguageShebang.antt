@@ -15,10 +15,10 @@ use Rattle.rustc_lexer.specs.Language as grammar
 use Rattle.rustc_lexer.specs.Language.{has_rule, IsTokenBefore}
 use Rattle.rustc_lexer.specs.LanguageCalls as the
 use Rattle.rustc_lexer.specs.LanguageCalls.{IsAttributeRest, IsLineBefore, IsShebang}
-use Rattle.rustc_lexer.specs.means.Lexeme.{first_token, symbols, kind_among}
-use Rattle.rustc_lexer.specs.means.Scan.{begins}
-use Rattle.rustc_lexer.specs.means.Shebang.{is_passed, is_open_bracket, is_attribute, line_len, shebang_past}
-use Rattle.rustc_lexer.specs.means.Shebang.{read_shebang}
+use Rattle.rustc_lexer.specs.model.Lexeme.{first_token, symbols, kind_among}
+use Rattle.rustc_lexer.specs.model.Scan.{begins}
+use Rattle.rustc_lexer.specs.model.Shebang.{is_passed, is_open_bracket, is_attribute, line_len, shebang_past}
+use Rattle.rustc_lexer.specs.model.Shebang.{read_shebang}
 use Rattle.rustc_lexer.specs.Classes.{AreAll, bytes, is_inline, IsText}
 use Rattle.rustc_lexer.specs.laws.Choice.{by_either}
 use Rattle.rustc_lexer.specs.laws.Fences.{begins-whole}

@@ -6,10 +6,10 @@ use Rattle.std.specs.Str.{chars, encode_utf8_all}
 use Rattle.std.proofs.lemmas.Grind.{common_steps}
 use Rattle.rustc_lexer.specs.{Edition, Token, TokenKind, Frontmatter}
 use Rattle.rustc_lexer.specs.Classes.{is_among, is_whitespace, bytes, IsText}
-use Rattle.rustc_lexer.specs.means.Tokens.{read_tokens}
-use Rattle.rustc_lexer.specs.means.Edition.{token, first_token_in}
-use Rattle.rustc_lexer.specs.means.Frontmatter.{is_newline, fence_len, opening_len, opens, closing_end, past_opening}
-use Rattle.rustc_lexer.specs.means.Frontmatter.{frontmatter}
+use Rattle.rustc_lexer.specs.model.Tokens.{read_tokens}
+use Rattle.rustc_lexer.specs.model.Edition.{token, first_token_in}
+use Rattle.rustc_lexer.specs.model.Frontmatter.{is_newline, fence_len, opening_len, opens, closing_end, past_opening}
+use Rattle.rustc_lexer.specs.model.Frontmatter.{frontmatter}
 use Rattle.rustc_lexer.specs.laws.LanguageClosing.{body-at, body-read, endings-patterns}
 use Rattle.rustc_lexer.specs.laws.LanguageFrontmatter.{fence-length, opening-read, Opened, opened, opens-none}
 use Rattle.rustc_lexer.specs.laws.LanguageFrontmatter.{none-opens}
@@ -17,8 +17,8 @@ use Rattle.rustc_lexer.specs.laws.LanguageLiterals.{bytes-append}
 use Rattle.rustc_lexer.specs.FrontmatterGrammar.{fence, IsOpeningBefore, opening}
 use Rattle.rustc_lexer.specs.LanguageText.{IsTokenIn, Mode, is_source, source, part, mode_edition, mode_after}
 use Rattle.rustc_lexer.specs.LanguageText.{AreTokens, nothing, something, frontmatter_first}
-use Rattle.rustc_lexer.specs.means.Scan.{bytes_of, next_is, past}
-use Rattle.rustc_lexer.specs.means.Taking.{token_at}
+use Rattle.rustc_lexer.specs.model.Scan.{bytes_of, next_is, past}
+use Rattle.rustc_lexer.specs.model.Taking.{token_at}
 use Rattle.rustc_lexer.specs.laws.LanguageIn.{token-read-in, first-front}
 use Rattle.rustc_lexer.specs.laws.LanguageFront.{empty-text, split}
 use Rattle.rustc_lexer.specs.laws.Tokens.{token_at-cuts, by_tokens, tokens-nil, tokens-cons}

@@ -10,17 +10,17 @@ use Rattle.rustc_lexer.specs.{TokenKind, Ident, InvalidIdent, RawIdent, ForcedKe
 use Rattle.rustc_lexer.specs.Classes.{is_id_start, is_id_continue, is_ident, is_word_continue, is_word_start}
 use Rattle.rustc_lexer.specs.Classes.{begins_ident_after, AreAll, NextIs, NextIsNot, ends_prefix}
 use Rattle.rustc_lexer.specs.Tables.{is_emoji, emoji_ranges}
-use Rattle.rustc_lexer.specs.means.Ident.{ident_kind, ident_or_unknown_prefix, invalid_ident, begins_hash_ident}
-use Rattle.rustc_lexer.specs.means.Ident.{hash_ident_or}
+use Rattle.rustc_lexer.specs.model.Ident.{ident_kind, ident_or_unknown_prefix, invalid_ident, begins_hash_ident}
+use Rattle.rustc_lexer.specs.model.Ident.{hash_ident_or}
 use Rattle.rustc_lexer.specs.laws.LanguageRuns.{run_len-here, run-stops, Sound, Read, read-first, begins-next}
 use Rattle.rustc_lexer.specs.laws.LanguageRuns.{chooses-word, chooses-emoji, word-no_prefix_end, prefix_end-stops}
 use Rattle.rustc_lexer.specs.laws.LanguageRuns.{start-word_start, letters-start}
 use Rattle.rustc_lexer.specs.laws.Reach.{run_all}
 use Rattle.rustc_lexer.specs.Language as the
 use Rattle.rustc_lexer.specs.Language.{IsTokenBefore, begins_prefixed}
-use Rattle.rustc_lexer.specs.means.Lexeme.{letter_r, letter_k, letter_b, letter_c, raw_or_ident, word, opens_raw}
-use Rattle.rustc_lexer.specs.means.Lexeme.{begins_raw}
-use Rattle.rustc_lexer.specs.means.Scan.{after, begins, next_is, run, run_len}
+use Rattle.rustc_lexer.specs.model.Lexeme.{letter_r, letter_k, letter_b, letter_c, raw_or_ident, word, opens_raw}
+use Rattle.rustc_lexer.specs.model.Lexeme.{begins_raw}
+use Rattle.rustc_lexer.specs.model.Scan.{after, begins, next_is, run, run_len}
 
 -- ---- a choice by letters
 

@@ -1,8 +1,8 @@
 -- The least offset at which a test passes.
 use Rattle.std.proofs.lemmas.Grind.{common_steps}
 use Rattle.std.proofs.Common.{◌≡◌, ℕ, suc, ◌+◌, Bool, true, false, List, ◌∷◌, Option, Some, None, refl, arith}
-use Rattle.rustc_lexer.specs.means.Least.{one_more, more}
-use Rattle.rustc_lexer.specs.means.Raw.{least_offset}
+use Rattle.rustc_lexer.specs.model.Least.{one_more, more}
+use Rattle.rustc_lexer.specs.model.Raw.{least_offset}
 
 -- the offset where a test passes
 module _ (test : List ℕ → Bool) where

@@ -3,7 +3,7 @@ use Rattle.std.proofs.Common.{ℕ, ◌+◌, ◌&&◌, not, true, if◌then◌els
 use Rattle.std.specs.{Char.{is_ascii_digit}, Str.{encode_utf8_all}}
 use Rattle.rustc_lexer.specs.{TokenKind, Char, Literal, Lifetime, RawLifetime, UnknownPrefixLifetime}
 use Rattle.rustc_lexer.specs.Classes.{is_id_continue, is_word_continue, is_bad_name}
-use Rattle.rustc_lexer.specs.means.Scan.{after, begins, gives, run, run_as}
+use Rattle.rustc_lexer.specs.model.Scan.{after, begins, gives, run, run_as}
 
 -- what a name is that no quote follows, and one that a quote follows
 abbrev pub unquoted_name : ℕ → List ℕ → List ℕ → TokenKind × ℕ

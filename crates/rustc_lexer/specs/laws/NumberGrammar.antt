@@ -7,14 +7,14 @@ use Rattle.std.proofs.lemmas.Grind.{common_steps}
 use Rattle.rustc_lexer.specs.{Base, LiteralKind, Binary, Octal, Hexadecimal, Int, Float}
 use Rattle.rustc_lexer.specs.laws.Choice.{by_test}
 use Rattle.rustc_lexer.specs.laws.Reach.{run_all}
-use Rattle.rustc_lexer.specs.means.Number.{or_underscore, is_underscore, digits, IntegerPart, prefixed, binary, octal}
-use Rattle.rustc_lexer.specs.means.Number.{hexadecimal, decimal, part_past_zero, integer_part, is_exponent_letter}
-use Rattle.rustc_lexer.specs.means.Number.{is_sign, past_sign, float_exponent, optional_exponent, fraction_digits}
-use Rattle.rustc_lexer.specs.means.Number.{fraction, is_no_fraction, begins_fraction, past_digits, tail, number_kind}
+use Rattle.rustc_lexer.specs.model.Number.{or_underscore, is_underscore, digits, IntegerPart, prefixed, binary, octal}
+use Rattle.rustc_lexer.specs.model.Number.{hexadecimal, decimal, part_past_zero, integer_part, is_exponent_letter}
+use Rattle.rustc_lexer.specs.model.Number.{is_sign, past_sign, float_exponent, optional_exponent, fraction_digits}
+use Rattle.rustc_lexer.specs.model.Number.{fraction, is_no_fraction, begins_fraction, past_digits, tail, number_kind}
 use Rattle.rustc_lexer.specs.NumberGrammar.{AreDigits, is_digit_of, IsWholePart, plain, with_b, with_o, with_x}
 use Rattle.rustc_lexer.specs.NumberGrammar.{IsExponent, signed, unsigned, IsTailBefore, nothing, dot, of_fraction}
 use Rattle.rustc_lexer.specs.NumberGrammar.{of_exponent, of_both, HasNumberForm, of_prefix, of_parts}
-use Rattle.rustc_lexer.specs.means.Scan.{after, begins, gives, next_is, read_as, run_len}
+use Rattle.rustc_lexer.specs.model.Scan.{after, begins, gives, next_is, read_as, run_len}
 
 -- what a scanner takes past one character, and what it leaves
 take-one : (c n : ℕ) (s : List ℕ) → c ∷ take n s ≡ take (1 + n) (c ∷ s)

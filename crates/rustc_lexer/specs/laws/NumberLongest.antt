@@ -15,15 +15,15 @@ use Rattle.std.proofs.Math.Seq.{take-append_seam, drop-append_seam}
 use Rattle.rustc_lexer.specs.laws.Reach.{begins-length, next_is-length, IsDecidedBy, decided_same, next_is-decided}
 use Rattle.rustc_lexer.specs.laws.Reach.{run_len-next, run_len-none}
 use Rattle.rustc_lexer.specs.laws.NumberGrammar.{number-form}
-use Rattle.rustc_lexer.specs.means.Number.{or_underscore, digits, IntegerPart, part_of, prefixed, binary, octal}
-use Rattle.rustc_lexer.specs.means.Number.{hexadecimal, decimal, part_past_zero, integer_part, float}
-use Rattle.rustc_lexer.specs.means.Number.{is_exponent_letter, is_sign, past_sign, float_exponent, optional_exponent}
-use Rattle.rustc_lexer.specs.means.Number.{fraction_digits, fraction, is_no_fraction, begins_fraction, past_digits}
-use Rattle.rustc_lexer.specs.means.Number.{tail, number_kind}
+use Rattle.rustc_lexer.specs.model.Number.{or_underscore, digits, IntegerPart, part_of, prefixed, binary, octal}
+use Rattle.rustc_lexer.specs.model.Number.{hexadecimal, decimal, part_past_zero, integer_part, float}
+use Rattle.rustc_lexer.specs.model.Number.{is_exponent_letter, is_sign, past_sign, float_exponent, optional_exponent}
+use Rattle.rustc_lexer.specs.model.Number.{fraction_digits, fraction, is_no_fraction, begins_fraction, past_digits}
+use Rattle.rustc_lexer.specs.model.Number.{tail, number_kind}
 use Rattle.rustc_lexer.specs.NumberGrammar.{AreDigits, is_digit_of, IsWholePart, plain, with_b, with_o, with_x}
 use Rattle.rustc_lexer.specs.NumberGrammar.{IsExponent, signed, unsigned, IsTailBefore, nothing, dot, of_fraction}
 use Rattle.rustc_lexer.specs.NumberGrammar.{of_exponent, of_both, HasNumberForm, of_prefix, of_parts, IsNumberBefore}
-use Rattle.rustc_lexer.specs.means.Scan.{and_then, after, begins, gives, next_is, read_as, run, run_as, run_len}
+use Rattle.rustc_lexer.specs.model.Scan.{and_then, after, begins, gives, next_is, read_as, run, run_as, run_len}
 use Rattle.rustc_lexer.specs.laws.LanguageRuns.{begins-next, digit-small, IsSolid, other_than, pair, run_len-here}
 use Rattle.rustc_lexer.specs.laws.LanguageRuns.{solid-by}
 

@@ -4,7 +4,7 @@ use Rattle.std.proofs.Common.{length-append, take-append-drop, drop_at, drop-dro
 use Rattle.std.specs.{Char.{encode_utf8}, Str.{chars, encode_utf8_all, IsUtf8}}
 use Rattle.std.proofs.lemmas.Str.{chars-encodes, encodes-chars, scalars-chars, encodes-append, chars_past_char}
 use Rattle.std.proofs.lemmas.Str.{IsUtf8-past_char}
-use Rattle.rustc_lexer.specs.means.Scan.{past, bytes_of}
+use Rattle.rustc_lexer.specs.model.Scan.{past, bytes_of}
 use Rattle.rustc_lexer.specs.laws.Texts.{scalars-drop}
 
 pub past-zero : (text : List ℕ) → IsUtf8 text → past 0 text ≡ text

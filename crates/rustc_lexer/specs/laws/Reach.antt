@@ -7,8 +7,8 @@ use Rattle.std.specs.List.{list_all}
 use Rattle.std.proofs.lemmas.Bool.{and_parts}
 use Rattle.rustc_lexer.specs.laws.Choice.{by_either}
 use Rattle.rustc_lexer.specs.laws.Least.{one_more-none}
-use Rattle.rustc_lexer.specs.means.Least.{one_more, least}
-use Rattle.rustc_lexer.specs.means.Scan.{begins, next_is, run_len}
+use Rattle.rustc_lexer.specs.model.Least.{one_more, least}
+use Rattle.rustc_lexer.specs.model.Scan.{begins, next_is, run_len}
 
 -- ---- texts that begin alike
 

@@ -3,7 +3,7 @@ use Rattle.std.proofs.Common.{◌≡◌, ℕ, zero, suc, ◌+◌, ◌-◌, ◌�
 use Rattle.std.proofs.Common.{length, drop, refl, sym, ap, ◌∙◌, arith}
 use Rattle.std.specs.{Char.{encode_utf8}, Str.{chars, IsUtf8}}
 use Rattle.std.proofs.lemmas.{Str.{encode_ascii}, Grind.{common_steps}}
-use Rattle.rustc_lexer.specs.means.Scan.{bytes_of, after, and_then, gives, next_is, past, read_as, run_len, scanned}
+use Rattle.rustc_lexer.specs.model.Scan.{bytes_of, after, and_then, gives, next_is, past, read_as, run_len, scanned}
 use Rattle.rustc_lexer.specs.laws.CharSteps.{bytes_of-suc}
 use Rattle.rustc_lexer.specs.laws.Choice.{by_either}
 use Rattle.rustc_lexer.specs.laws.Past.{past-zero, past-past, chars-past, IsUtf8-past, length-past, past_le}

@@ -4,7 +4,7 @@ use Rattle.std.proofs.lemmas.{Bool.{eqb-true}, Grind.{common_steps}}
 use Rattle.rustc_lexer.specs.{Token, TokenKind, Eof}
 use Rattle.rustc_lexer.specs.LanguageText.{Mode, mode_after, mode_edition}
 use Rattle.rustc_lexer.specs.State.{State, token_past}
-use Rattle.rustc_lexer.specs.means.Taking.{token_at, take_next}
+use Rattle.rustc_lexer.specs.model.Taking.{token_at, take_next}
 
 abbrev pub state : ℕ → List ℕ → Mode → State
 state pending rest mode = record { pending = pending; rest = rest; mode = mode }

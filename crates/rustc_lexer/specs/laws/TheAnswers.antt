@@ -17,13 +17,13 @@ use Rattle.rustc_lexer.specs.laws.LanguageShebang.{shebang-answer}
 use Rattle.rustc_lexer.specs.laws.LanguageTokens.{language, tokens-are, tokens-read}
 use Rattle.rustc_lexer.specs.laws.State.{past_token, advance-end, advance-some}
 use Rattle.rustc_lexer.specs.laws.Tokens.{tokens-cons, tokens-nil}
-use Rattle.rustc_lexer.specs.means.Edition.{first_token_in}
-use Rattle.rustc_lexer.specs.means.Guarded as means_guarded
-use Rattle.rustc_lexer.specs.means.Raw as means_raw
-use Rattle.rustc_lexer.specs.means.Shebang as means_shebang
-use Rattle.rustc_lexer.specs.means.Taking as means_taking
-use Rattle.rustc_lexer.specs.means.Taking.{token_at}
-use Rattle.rustc_lexer.specs.means.Tokens as means_tokens
+use Rattle.rustc_lexer.specs.model.Edition.{first_token_in}
+use Rattle.rustc_lexer.specs.model.Guarded as means_guarded
+use Rattle.rustc_lexer.specs.model.Raw as means_raw
+use Rattle.rustc_lexer.specs.model.Shebang as means_shebang
+use Rattle.rustc_lexer.specs.model.Taking as means_taking
+use Rattle.rustc_lexer.specs.model.Taking.{token_at}
+use Rattle.rustc_lexer.specs.model.Tokens as means_tokens
 
 abbrev pub the_tokens : (mode : Mode) (text : List ℕ) → TheOnly (IsText text) (AreTokens mode (chars text))
 the_tokens mode text = record { answer = means_tokens.read_tokens mode text; only = language text mode }

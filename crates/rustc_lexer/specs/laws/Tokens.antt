@@ -5,10 +5,10 @@ use Rattle.std.proofs.lemmas.Str.{IsCharBoundary-start, IsCharBoundary-from_rest
 use Rattle.std.proofs.lemmas.{List.Elements.{All-nil, All-cons}, Grind.{common_steps}}
 use Rattle.rustc_lexer.specs.{Token}
 use Rattle.rustc_lexer.specs.Partition.{bound, Partitions}
-use Rattle.rustc_lexer.specs.means.Tokens.{cut, tokens_of_source, read_tokens}
+use Rattle.rustc_lexer.specs.model.Tokens.{cut, tokens_of_source, read_tokens}
 use Rattle.rustc_lexer.specs.LanguageText.{Mode, source, part, mode_after}
 use Rattle.rustc_lexer.specs.laws.Edition.{edition_grammar}
-use Rattle.rustc_lexer.specs.means.Taking.{token_at}
+use Rattle.rustc_lexer.specs.model.Taking.{token_at}
 use Rattle.rustc_lexer.specs.laws.Cuts.{tokens-nil as part-nil, tokens-cons as part-cons}
 use Rattle.rustc_lexer.specs.laws.Frontmatter.{frontmatter-cut, token_at-either}
 use Rattle.rustc_lexer.specs.laws.Texts.{left_text}

@@ -1,7 +1,7 @@
 //! The class of emoji.
 ghost use Rattle.std.specs.Prelude.{◌≡◌};
 ghost use Rattle.rustc_lexer.specs.Tables;
-ghost use Rattle.rustc_lexer.specs.means.Emoji as Search;
+ghost use Rattle.rustc_lexer.specs.model.Emoji as Search;
 
 use std::cmp::Ordering;
 

@@ -2,9 +2,9 @@
 ghost use Rattle.std.specs.Prelude.{◌≡◌, ◌≤◌, IfSome, min, length};
 ghost use Rattle.std.specs.Str.{chars, IsCharBoundary};
 ghost use Rattle.rustc_lexer.specs.Answers.{guarded};
-ghost use Rattle.rustc_lexer.specs.means.Guarded as spec;
-ghost use Rattle.rustc_lexer.specs.means.Raw.{hash_run};
-ghost use Rattle.rustc_lexer.specs.means.Scan.{past, scanned};
+ghost use Rattle.rustc_lexer.specs.model.Guarded as spec;
+ghost use Rattle.rustc_lexer.specs.model.Raw.{hash_run};
+ghost use Rattle.rustc_lexer.specs.model.Scan.{past, scanned};
 
 use crate::cursor::Cursor;
 use crate::lexemes::body::BodyEnd;

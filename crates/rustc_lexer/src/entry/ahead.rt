@@ -1,6 +1,6 @@
 //! The place of the iterator in its text, and the tokens past it that the ends of runs tell, 64 bytes at a time.
 ghost use Rattle.std.specs.Prelude.{◌≡◌, ◌+◌, ◌≤◌, ◌-◌, drop, length, MatchOption};
-ghost use Rattle.rustc_lexer.specs.means.Ends.{AreEndsPast, IsUnclassified, TakesClassified, TellsAhead};
+ghost use Rattle.rustc_lexer.specs.model.Ends.{AreEndsPast, IsUnclassified, TakesClassified, TellsAhead};
 
 use crate::kernels::ends_of_runs;
 use crate::lexemes::classified::{ends_after, may_continue, past_lowest};
@@ -19,7 +19,7 @@ pub(crate) struct Ahead {
     pub(crate) block: usize,
     /// The ends of runs from `block` on, as bits, or 0. Those up to `at` mean nothing.
     pub(crate) ends: u64,
-    /// The kind of the next token, if its first byte and `ends` may determine all of it. Then no bit up to `at` is set.
+    /// The kind of the next token, if its first byte and `program_io` may determine all of it. Then no bit up to `at` is set.
     pub(crate) classified: Option<TokenKind>,
 }
 

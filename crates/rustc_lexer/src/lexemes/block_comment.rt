@@ -1,8 +1,8 @@
 //! Block comments, which nest.
 ghost use Rattle.std.specs.Prelude.{◌≡◌};
 ghost use Rattle.std.specs.Str.{chars};
-ghost use Rattle.rustc_lexer.specs.means.BlockComment as spec;
-ghost use Rattle.rustc_lexer.specs.means.Scan.{or_all, scanned};
+ghost use Rattle.rustc_lexer.specs.model.BlockComment as spec;
+ghost use Rattle.rustc_lexer.specs.model.Scan.{or_all, scanned};
 
 use crate::lexemes::body::BodyEnd;
 use crate::scan::{begins_with, eat_until_either, split_first, strip};

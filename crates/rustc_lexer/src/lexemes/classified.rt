@@ -1,6 +1,6 @@
 //! The ends of runs, and the bytes after a run that may change its token.
 ghost use Rattle.std.specs.Prelude.{◌≡◌, ◌≢◌, ◌≤◌, ◌<◌, ℕ, false, true, IsFalse};
-ghost use Rattle.rustc_lexer.specs.means.Ends.{bit, IsLowest, StaysWithin};
+ghost use Rattle.rustc_lexer.specs.model.Ends.{bit, IsLowest, StaysWithin};
 
 use crate::kernels::turns_word;
 use crate::token::TokenKind;

@@ -1,8 +1,8 @@
 //! Comments.
 ghost use Rattle.std.specs.Prelude.{◌≡◌};
 ghost use Rattle.std.specs.Str.{chars};
-ghost use Rattle.rustc_lexer.specs.means.Comment as spec;
-ghost use Rattle.rustc_lexer.specs.means.Scan.{scanned};
+ghost use Rattle.rustc_lexer.specs.model.Comment as spec;
+ghost use Rattle.rustc_lexer.specs.model.Scan.{scanned};
 
 use crate::lexemes::block_comment::block_comment;
 use crate::scan::{begins_with, eat_until, strip};

@@ -3,8 +3,8 @@
 
 ghost use Rattle.std.specs.Prelude.{◌≡◌, ◌<◌, ◌≤◌, MatchOption};
 ghost use Rattle.rustc_lexer.specs.declared.lexemes.family.Family.TheVariants.{Symbol};
-ghost use Rattle.rustc_lexer.specs.means.Ends as spec;
-ghost use Rattle.rustc_lexer.specs.means.Lexeme;
+ghost use Rattle.rustc_lexer.specs.model.Ends as spec;
+ghost use Rattle.rustc_lexer.specs.model.Lexeme;
 
 use crate::classes::emoji::is_emoji;
 use crate::classes::is_whitespace;

@@ -2,8 +2,8 @@
 ghost use Rattle.std.specs.Prelude.{◌≡◌, ◌+◌, true, false, MatchOption, drop};
 ghost use Rattle.std.specs.Str.{chars};
 ghost use Rattle.rustc_lexer.specs.Classes;
-ghost use Rattle.rustc_lexer.specs.means.Ident as spec;
-ghost use Rattle.rustc_lexer.specs.means.Scan.{past, run_len, scanned};
+ghost use Rattle.rustc_lexer.specs.model.Ident as spec;
+ghost use Rattle.rustc_lexer.specs.model.Scan.{past, run_len, scanned};
 
 use crate::classes::emoji::is_emoji;
 use crate::classes::{ends_prefix, is_id_continue, is_id_start};

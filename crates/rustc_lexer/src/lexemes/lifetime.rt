@@ -4,10 +4,10 @@ ghost use Rattle.std.specs.Char.{is_ascii_digit, len_utf8};
 ghost use Rattle.std.specs.Str.{chars};
 ghost use Rattle.rustc_lexer.specs.{Lifetime, UnknownPrefixLifetime};
 ghost use Rattle.rustc_lexer.specs.Tables.{is_emoji};
-ghost use Rattle.rustc_lexer.specs.means.Lifetime as spec;
-ghost use Rattle.rustc_lexer.specs.means.Lifetime.{is_character_at};
-ghost use Rattle.rustc_lexer.specs.means.Quoted.{single_quoted_string};
-ghost use Rattle.rustc_lexer.specs.means.Scan.{begins, scanned};
+ghost use Rattle.rustc_lexer.specs.model.Lifetime as spec;
+ghost use Rattle.rustc_lexer.specs.model.Lifetime.{is_character_at};
+ghost use Rattle.rustc_lexer.specs.model.Quoted.{single_quoted_string};
+ghost use Rattle.rustc_lexer.specs.model.Scan.{begins, scanned};
 
 use crate::classes::emoji::is_emoji;
 use crate::classes::is_id_start;

@@ -2,8 +2,8 @@
 ghost use Rattle.std.specs.Prelude.{◌≡◌, ◌+◌, ◌-◌, ◌≤◌, ◌<◌, ◌^◌, length};
 ghost use Rattle.std.specs.Str.{chars};
 ghost use Rattle.rustc_lexer.specs.{Literal};
-ghost use Rattle.rustc_lexer.specs.means.Literal.{suffix_len};
-ghost use Rattle.rustc_lexer.specs.means.Scan.{past};
+ghost use Rattle.rustc_lexer.specs.model.Literal.{suffix_len};
+ghost use Rattle.rustc_lexer.specs.model.Scan.{past};
 
 use crate::classes::is_id_start;
 use crate::scan::{eat_continue, split_first};

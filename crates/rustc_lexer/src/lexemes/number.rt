@@ -5,8 +5,8 @@ ghost use Rattle.std.specs.Prelude.{◌≡◌, ◌+◌, ◌<◌, ◌^◌, false,
 ghost use Rattle.std.specs.Char.{is_ascii_digit, is_ascii_hexdigit};
 ghost use Rattle.std.specs.Str.{chars};
 ghost use Rattle.rustc_lexer.specs.{Float};
-ghost use Rattle.rustc_lexer.specs.means.Number as spec;
-ghost use Rattle.rustc_lexer.specs.means.Scan.{scanned};
+ghost use Rattle.rustc_lexer.specs.model.Number as spec;
+ghost use Rattle.rustc_lexer.specs.model.Scan.{scanned};
 
 use crate::classes::is_id_start;
 use crate::lexemes::literal::{eat_literal_suffix, literal};
@@ -32,7 +32,7 @@ pub(crate) fn number(first_digit: char, tail: &str) -> (TokenKind, &str)
 
 /// Returns the kind of the number, and the text from its suffix on.
 #[inline(always)]
-#[tactic(auto, using(crate::proofs::lemmas::tokens::Numbers::number_lemmas, std::proofs::lemmas::Grind::common_steps), unfolding(crate::specs::means::Number::number_kind))]
+#[tactic(auto, using(crate::proofs::lemmas::tokens::Numbers::number_lemmas, std::proofs::lemmas::Grind::common_steps), unfolding(crate::specs::model::Number::number_kind))]
 fn number_kind(first_digit: char, tail: &str) -> (LiteralKind, &str)
     ensures { (result.0, result.1.now) ≡ scanned (spec.number_kind first_digit) tail.now }
 {
@@ -139,7 +139,7 @@ fn is_no_fraction(c: char) -> bool
 /// Lexes the fraction of a float. Returns the kind of the float, and the text after it. `rest` is the text after
 /// its dot.
 #[inline(always)]
-#[tactic(auto, using(crate::proofs::lemmas::tokens::Numbers::number_lemmas, std::proofs::lemmas::Grind::common_steps), unfolding(crate::specs::means::Number::fraction))]
+#[tactic(auto, using(crate::proofs::lemmas::tokens::Numbers::number_lemmas, std::proofs::lemmas::Grind::common_steps), unfolding(crate::specs::model::Number::fraction))]
 fn fraction(base: Base, rest: &str) -> (LiteralKind, &str)
     ensures { (result.0, result.1.now) ≡ scanned (spec.fraction base) rest.now }
 {

@@ -1,9 +1,9 @@
 //! The most common tokens, found by their bytes alone: identifiers, white space, hashes and symbols.
 ghost use Rattle.std.specs.Prelude.{◌≡◌, IsUtf8, MatchOption};
 ghost use Rattle.rustc_lexer.specs.Classes.{Fits};
-ghost use Rattle.rustc_lexer.specs.means.Hash.{opens_guarded};
-ghost use Rattle.rustc_lexer.specs.means.Quick.{BeginsWithNoHash, IsFirstBy};
-ghost use Rattle.rustc_lexer.specs.means.Scan;
+ghost use Rattle.rustc_lexer.specs.model.Hash.{opens_guarded};
+ghost use Rattle.rustc_lexer.specs.model.Quick.{BeginsWithNoHash, IsFirstBy};
+ghost use Rattle.rustc_lexer.specs.model.Scan;
 
 use crate::kernels::{Continue, Space, ends_space, ends_word, run_end, short_run_end};
 use crate::lexemes::family::{Family, family_of_byte, symbol_kind};

@@ -1,8 +1,8 @@
 //! Text in quotes: strings and characters.
 ghost use Rattle.std.specs.Prelude.{◌≡◌, ◌+◌, ◌≤◌, ◌<◌, ◌^◌, ◌∷◌, true, false, length, MatchOption};
 ghost use Rattle.std.specs.Str.{chars};
-ghost use Rattle.rustc_lexer.specs.means.Quoted as spec;
-ghost use Rattle.rustc_lexer.specs.means.Scan.{past, scanned};
+ghost use Rattle.rustc_lexer.specs.model.Quoted as spec;
+ghost use Rattle.rustc_lexer.specs.model.Scan.{past, scanned};
 
 use crate::lexemes::body::BodyEnd;
 use crate::lexemes::literal::{eat_literal_suffix, literal};

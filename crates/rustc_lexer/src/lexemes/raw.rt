@@ -2,8 +2,8 @@
 ghost use Rattle.std.specs.Prelude.{◌≡◌, suc, ◌+◌, ◌<◌, ◌^◌, [], ◌∷◌, length, drop, MatchOption};
 ghost use Rattle.std.specs.Str.{byte, chars};
 ghost use Rattle.rustc_lexer.specs.declared.lexemes.raw.RawPrefix.{RawPrefix};
-ghost use Rattle.rustc_lexer.specs.means.Raw as spec;
-ghost use Rattle.rustc_lexer.specs.means.Scan.{past, run_len, scanned};
+ghost use Rattle.rustc_lexer.specs.model.Raw as spec;
+ghost use Rattle.rustc_lexer.specs.model.Scan.{past, run_len, scanned};
 
 use crate::lexemes::literal::eat_literal_suffix;
 use crate::scan::{eat_hashes, eat_until, split_first, strip};

@@ -1,9 +1,9 @@
 //! Tokens that begin with a letter: identifiers, and literals with a letter in front.
 ghost use Rattle.std.specs.Prelude.{◌≡◌, ◌+◌, ◌<◌, ◌^◌, length};
 ghost use Rattle.std.specs.Str.{chars};
-ghost use Rattle.rustc_lexer.specs.means.Lexeme as spec;
-ghost use Rattle.rustc_lexer.specs.means.Raw.{prefix_len};
-ghost use Rattle.rustc_lexer.specs.means.Scan.{next_is, scanned};
+ghost use Rattle.rustc_lexer.specs.model.Lexeme as spec;
+ghost use Rattle.rustc_lexer.specs.model.Raw.{prefix_len};
+ghost use Rattle.rustc_lexer.specs.model.Scan.{next_is, scanned};
 
 use crate::lexemes::ident::{eat_hash_ident, ident_or_unknown_prefix};
 use crate::lexemes::quoted::{QuotedPrefix, quoted_literal};

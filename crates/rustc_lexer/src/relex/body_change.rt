@@ -24,10 +24,10 @@ impl Head {
     /// If the head stays, the change is the edit itself. Otherwise it extends from the start of the body to the first
     /// position after the edit at which both bodies have started, so no token of the body is kept before it.
     pub fn change_to(self, now: Head, edit: Change) -> BodyChange
-        requires old_order { edit.start ≤ edit.old_stop }
-        requires new_order { edit.start ≤ edit.new_stop }
-        requires old_stop { edit.old_stop < 2 ^ 32 }
-        requires new_stop { edit.new_stop < 2 ^ 32 }
+        requires old_order { edit.start ≤ edit.old_end }
+        requires new_order { edit.start ≤ edit.new_end }
+        requires old_end { edit.old_end < 2 ^ 32 }
+        requires new_end { edit.new_end < 2 ^ 32 }
         requires from { self.body < 2 ^ 32 }
         requires to { now.body < 2 ^ 32 }
 

@@ -2,7 +2,7 @@
 ghost use Rattle.std.specs.Prelude.{◌≤◌, List};
 ghost use Rattle.std.specs.List.{All, Contains};
 ghost use Rattle.rustc_lexer.specs.{Token};
-ghost use Rattle.rustc_lexer.specs.means.Checkpoints.{AreBounds, IsMovable, IsReplaced};
+ghost use Rattle.rustc_lexer.specs.model.Checkpoints.{AreBounds, IsMovable, IsReplaced};
 ghost use Rattle.rustc_lexer.specs.Offsets.{IsBound};
 
 use crate::relex::front::{FIRST, TokenStart};

@@ -2,7 +2,7 @@
 //!
 //! Both functions halve what that may be: so they compare long slices, and in all no more bytes than a text has.
 ghost use Rattle.std.specs.Prelude.{◌-◌, ◌≤◌, ℕ, length, IsCharBoundary};
-ghost use Rattle.rustc_lexer.specs.means.Relexing.{IsSameBack, IsSameFront};
+ghost use Rattle.rustc_lexer.specs.model.Relexing.{IsSameBack, IsSameFront};
 
 /// Returns the length of the longest front that both texts have. It ends between characters.
 #[tactic(auto, using(crate::proofs::lemmas::edits::InCommon::front_lemmas, std::proofs::lemmas::Grind::common_steps))]

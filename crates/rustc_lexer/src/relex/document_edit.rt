@@ -1,6 +1,6 @@
 //! One edit of a document: its effect on the head, and the change of the body.
 ghost use Rattle.std.specs.Prelude.{◌≡◌, ◌+◌, ◌-◌, ◌^◌, ◌<◌, ◌≤◌, ◌↔◌, IsTrue, length};
-ghost use Rattle.rustc_lexer.specs.means.Document as means;
+ghost use Rattle.rustc_lexer.specs.model.Document as model;
 
 use crate::head::Head;
 use crate::relex::relexing::{Change, Relexed};
@@ -34,29 +34,29 @@ impl HeadEdit {
     /// Returns the change of the body. If the head stays, this is the edit itself. Otherwise the change extends from
     /// the start of the body to the first position after the edit at which both bodies have started.
     pub(crate) fn body_change(self, edit: Change) -> Change
-        requires old { edit.old_stop < 2 ^ 32 }
-        requires new { edit.new_stop < 2 ^ 32 }
+        requires old { edit.old_end < 2 ^ 32 }
+        requires new { edit.new_end < 2 ^ 32 }
         requires from { self.before.body < 2 ^ 32 }
         requires to { self.after.body < 2 ^ 32 }
         requires kept { IsTrue self.keeps → (self.before.body ≤ edit.start)
-            × (edit.start ≤ edit.old_stop) × (edit.start ≤ edit.new_stop) }
-        ensures { result ≡ means.body_change self.keeps self.before.body self.after.body edit }
+            × (edit.start ≤ edit.old_end) × (edit.start ≤ edit.new_end) }
+        ensures { result ≡ model.body_change self.keeps self.before.body self.after.body edit }
     {
         let (from, to) = (self.before.body, self.after.body);
         if self.keeps {
             return Change {
                 start: edit.start - from,
-                old_stop: edit.old_stop - from,
-                new_stop: edit.new_stop - from,
+                old_end: edit.old_end - from,
+                new_end: edit.new_end - from,
             };
         }
         let past = from
-            .saturating_sub(edit.old_stop)
-            .max(to.saturating_sub(edit.new_stop));
+            .saturating_sub(edit.old_end)
+            .max(to.saturating_sub(edit.new_end));
         Change {
             start: 0,
-            old_stop: edit.old_stop + past - from,
-            new_stop: edit.new_stop + past - to,
+            old_end: edit.old_end + past - from,
+            new_end: edit.new_end + past - to,
         }
     }
 
@@ -64,8 +64,8 @@ impl HeadEdit {
     pub(crate) fn document_counts(self, body: Relexed) -> Relexed
         requires front { body.kept_front < 2 ^ 33 }
         requires lexed { body.lexed < 2 ^ 33 }
-        ensures { result ≡ means.counted self.keeps (length (means.tokens_of_head self.before))
-            (length (means.tokens_of_head self.after)) body }
+        ensures { result ≡ model.counted self.keeps (length (model.tokens_of_head self.before))
+            (length (model.tokens_of_head self.after)) body }
     {
         if self.keeps {
             Relexed {

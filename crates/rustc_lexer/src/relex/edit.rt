@@ -8,10 +8,10 @@ ghost use Rattle.rustc_lexer.specs.Classes.{IsText};
 ghost use Rattle.rustc_lexer.specs.Tokens.{tokens_by};
 ghost use Rattle.rustc_lexer.specs.Edits.{IsEdit, IsInside, IsRelexed, apply, part_by};
 ghost use Rattle.rustc_lexer.specs.Relexing.{known};
-ghost use Rattle.rustc_lexer.specs.Relexing.{IsChange, MayGoOn};
-ghost use Rattle.rustc_lexer.specs.means.Checkpoints.{AreBounds, IsMovable, IsReplaced, end_of};
-ghost use Rattle.rustc_lexer.specs.means.Relexing.{IsLexed, ForEachOldText};
-ghost use Rattle.rustc_lexer.specs.means.Document as means;
+ghost use Rattle.rustc_lexer.specs.Relexing.{IsChange, CanContinue};
+ghost use Rattle.rustc_lexer.specs.model.Checkpoints.{AreBounds, IsMovable, IsReplaced, end_of};
+ghost use Rattle.rustc_lexer.specs.model.Relexing.{IsLexed, ForEachOldText};
+ghost use Rattle.rustc_lexer.specs.model.Document as model;
 
 use crate::entry::stepper::Stepper;
 use crate::relex::checkpoints::Checkpoints;
@@ -97,7 +97,7 @@ pub(crate) fn relex<S: Stepper>(
         r.tokens.items r.at)) }
     ensures bounds { IfOk result (λ r. ForEachOldText (S.grammar stepper.old).first edited.now near
         (λ before insert. AreBounds (tokens_by (S.grammar stepper.old).first edited.now.text.now) r.bounds)) }
-    ensures may_go_on { IfOk result (λ r. MayGoOn edited.now.text.now (length edited.now.old_tokens.now) r.at) }
+    ensures can_continue { IfOk result (λ r. CanContinue edited.now.text.now (length edited.now.old_tokens.now) r.at) }
 
     // How many steps were taken, also if it fails.
     ensures count { IfOk result
@@ -106,7 +106,7 @@ pub(crate) fn relex<S: Stepper>(
     ensures few { IfErr result (λ _. ForEachOldText (S.grammar stepper.old).first edited.now near
         (λ before insert. (r : Relexed)
         → IsRelexed (part_by (S.grammar stepper.old).first) before edited.now.change.start
-        edited.now.change.old_stop insert r
+        edited.now.change.old_end insert r
         → S.count stepper.new ≤ S.count stepper.old + r.lexed)) }
 {
     let mut tokens = Vec::new(alloc);
@@ -120,7 +120,7 @@ pub(crate) fn relex<S: Stepper>(
         kind: TokenKind::Eof,
         len: 0,
     }; BUFFER_LEN];
-    'left: while !at.is_over(edited.text) {
+    'left: while !at.is_done(edited.text) {
         let count = at.block(stepper, edited, &mut buffer);
         tokens.extend_from_slice(&buffer[..count])?;
         bounds.remember(end_of(at), edited.text.len());
@@ -173,12 +173,12 @@ impl Replacement {
         head: HeadEdit,
     ) -> Result<(), AllocError>
         requires order { self.at.front.index ≤ self.at.back.index }
-        requires inside { length (means.tokens_of_head head.before) + self.at.back.index
+        requires inside { length (model.tokens_of_head head.before) + self.at.back.index
             ≤ length tokens.old.items }
         ensures put { OnOk result
-            (let old = length (means.tokens_of_head head.before) in
+            (let old = length (model.tokens_of_head head.before) in
             tokens.new.items
-            ≡ (if head.keeps then take old tokens.old.items else means.tokens_of_head head.after)
+            ≡ (if head.keeps then take old tokens.old.items else model.tokens_of_head head.after)
             ++ (take self.at.front.index (drop old tokens.old.items)
             ++ (self.tokens.items ++ drop self.at.back.index (drop old tokens.old.items)))) }
         ensures same { OnErr result (tokens.new.items ≡ tokens.old.items) }

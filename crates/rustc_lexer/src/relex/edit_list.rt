@@ -33,12 +33,12 @@ pub enum EditStop {
 /// ```ignore
 /// let mut held = LexedText::new(alloc, "ab cd")?;
 /// let edits = [Edit { start: 0, stop: 2, insert: "x" }, Edit { start: 9, stop: 9, insert: "" }];
-/// let stopped = held.edit_each(&edits).unwrap_err();
+/// let stopped = held.edit_sequence(&edits).unwrap_err();
 /// assert_eq!(stopped.stop, EditStop::Range { at: 1 });
 /// assert_eq!(stopped.relexed.kept_back, 2);
 /// ```
 #[derive(Clone, Copy, Debug, PartialEq, Eq)]
-pub struct Stopped {
+pub struct EditSequenceError {
     /// Which edit was refused, and why.
     pub stop: EditStop,
 
@@ -60,7 +60,7 @@ impl fmt::Display for EditStop {
 
 impl Error for EditStop {}
 
-impl fmt::Display for Stopped {
+impl fmt::Display for EditSequenceError {
     ghost output = { λ stopped. Some (stop_text stopped.stop) };
 
     fn fmt<W: fmt::Write>(&self, f: &mut fmt::Formatter<W>) -> fmt::Result {
@@ -68,4 +68,4 @@ impl fmt::Display for Stopped {
     }
 }
 
-impl Error for Stopped {}
+impl Error for EditSequenceError {}

@@ -9,7 +9,7 @@ ghost use Rattle.rustc_lexer.specs.{Token};
 ghost use Rattle.rustc_lexer.specs.Offsets.{ArePlaced, ContainsByte, IsBound};
 ghost use Rattle.rustc_lexer.specs.Locality.{has_two};
 ghost use Rattle.rustc_lexer.specs.Tokens.{bound};
-ghost use Rattle.rustc_lexer.specs.means.Relexing.{IsFollowed, IsFront, IsLast, HasLengths, kept_front};
+ghost use Rattle.rustc_lexer.specs.model.Relexing.{IsFollowed, IsFront, IsLast, HasLengths, kept_front};
 
 use crate::token::Token;
 
@@ -204,12 +204,12 @@ pub(crate) struct Meeting {
     pub met: bool,
 }
 
-/// The effect of an edit on the text: the edit ends at `past` in the new text and at `old_stop` in the old one, and
+/// The effect of an edit on the text: the edit ends at `past` in the new text and at `old_end` in the old one, and
 /// the new text ends at `end`.
 #[derive(Clone, Copy)]
 pub(crate) struct Damage {
     pub past: usize,
-    pub old_stop: usize,
+    pub old_end: usize,
     pub end: usize,
 }
 
@@ -224,7 +224,7 @@ pub(crate) fn follow<T: Measured>(
 ) -> Meeting
     requires number { from.index ≤ length tokens.now }
     requires small { from.offset < 2 ^ 63 }
-    requires offset_fits { offset + damage.old_stop < 2 ^ 34 }
+    requires offset_fits { offset + damage.old_end < 2 ^ 34 }
 
     // It is not before `from`, and is among the old tokens.
     ensures number { result.at.index ≤ length tokens.now }
@@ -238,9 +238,9 @@ pub(crate) fn follow<T: Measured>(
     // After it, how far exactly they are followed, and whether they are met there.
     ensures followed { (ts : List Token) → HasLengths ts (map T.bytes tokens.now) → IsBound ts from
         → ((k : ℕ) → k < from.index
-        → bound ts k + damage.past < max damage.past offset + damage.old_stop)
-        → (offset ≡ damage.end → IsLast ts (offset - damage.past + damage.old_stop))
-        → IsFollowed ts damage.old_stop damage.past offset result.at result.met }
+        → bound ts k + damage.past < max damage.past offset + damage.old_end)
+        → (offset ≡ damage.end → IsLast ts (offset - damage.past + damage.old_end))
+        → IsFollowed ts damage.old_end damage.past offset result.at result.met }
 {
     if offset < damage.past {
         return Meeting {
@@ -248,7 +248,7 @@ pub(crate) fn follow<T: Measured>(
             met: false,
         };
     }
-    let target = offset - damage.past + damage.old_stop;
+    let target = offset - damage.past + damage.old_end;
     if offset == damage.end {
         return Meeting {
             at: TokenStart {

@@ -8,7 +8,7 @@ ghost use Rattle.rustc_lexer.specs.Joined.{AreWellFormed, AreInseparable, IsJoin
 ghost use Rattle.rustc_lexer.specs.LanguageText.{part};
 ghost use Rattle.rustc_lexer.specs.Locality.{has_two};
 ghost use Rattle.rustc_lexer.specs.{Token};
-ghost use Rattle.rustc_lexer.specs.means.Joined.{IsSure};
+ghost use Rattle.rustc_lexer.specs.model.Joined.{IsSure};
 
 use crate::edition::{Edition, token_in};
 use crate::relex::front::{stand_before, two_stand};
@@ -24,7 +24,7 @@ const SHORT: usize = 10;
 /// Returns whether the texts before and after `at` may touch: whether the tokens of the text are those of its part before
 /// `at`, and then those of its part after it. It reads tokens only until the first one that differs.
 #[tactic(auto, using(crate::proofs::lemmas::joined::Separators::white_space_separates, crate::proofs::lemmas::joined::Sure::tail_decides, std::proofs::lemmas::Grind::common_steps))]
-pub fn is_seam(text: &str, at: usize, edition: Edition) -> bool
+pub fn is_token_boundary(text: &str, at: usize, edition: Edition) -> bool
     requires fits { Fits text.now }
     requires boundary { IsCharBoundary text.now at }
     ensures touch { IsTrue result ↔ MayTouch edition (take at text.now) (drop at text.now) }
@@ -84,7 +84,7 @@ impl Model for JoinedText {
     ghost use Rattle.rustc_lexer.specs.Answers.{first_in};
     ghost use Rattle.rustc_lexer.specs.Classes.{IsText};
     ghost use Rattle.rustc_lexer.specs.Joined.{Joined};
-    ghost use Rattle.rustc_lexer.specs.means.Joined.{IsSure};
+    ghost use Rattle.rustc_lexer.specs.model.Joined.{IsSure};
 
     ghost Value = { Joined };
 
@@ -276,7 +276,7 @@ fn keeps_separator(text: &str, at: usize, len: usize, edition: Edition) -> bool
     if len == 0 {
         return true;
     }
-    is_seam(&text[at..], len, edition)
+    is_token_boundary(&text[at..], len, edition)
 }
 
 /// Returns whether the `len` bytes from `at` on keep the texts before and after them apart.
@@ -298,7 +298,7 @@ fn is_prefix_stable(text: &str, sure: usize, at: usize, edition: Edition) -> boo
     requires sure { IsSure (first_in edition) (take at text.now) sure }
     ensures { IsTrue result ↔ MayTouch edition (take at text.now) (drop at text.now) }
 {
-    is_seam(&text[sure..], at - sure, edition)
+    is_token_boundary(&text[sure..], at - sure, edition)
 }
 
 /// Returns a boundary that is sure in a joined text: the end of the text before the piece, if two characters follow it,

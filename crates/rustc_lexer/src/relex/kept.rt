@@ -3,10 +3,10 @@ ghost use Rattle.std.specs.Prelude.{◌≡◌, ◌+◌, ◌++◌, IfOk, List, dr
 ghost use Rattle.std.specs.Str.{IsCharBoundary};
 ghost use Rattle.std.specs.String.{string_bytes};
 ghost use Rattle.rustc_lexer.specs.Classes.{Fits};
-ghost use Rattle.rustc_lexer.specs.means.Document as means;
+ghost use Rattle.rustc_lexer.specs.model.Document as model;
 ghost use Rattle.rustc_lexer.specs.Tokens.{tokens_by};
-ghost use Rattle.rustc_lexer.specs.Kept.{HasStepCount, IsEdited, layout_in};
-ghost use Rattle.rustc_lexer.specs.means.Checkpoints.{AreBounds};
+ghost use Rattle.rustc_lexer.specs.LexedText.{HasStepCount, IsEdited, layout_in};
+ghost use Rattle.rustc_lexer.specs.model.Checkpoints.{AreBounds};
 
 use crate::entry::stepper::Stepper;
 use crate::head::{Extent, Head};
@@ -40,22 +40,22 @@ pub(crate) fn renew<S: Stepper, E: Extent>(
     edit: Change,
 ) -> Result<Relexed, AllocError>
     requires fits { Fits (string_bytes kept.old.text) }
-    requires put { (before insert : List ℕ) × means.IsPut (layout_in E.whole) (S.grammar kept.old.stepper).first
+    requires put { (before insert : List ℕ) × model.IsPut (layout_in E.whole) (S.grammar kept.old.stepper).first
         before insert edit (string_bytes kept.old.text)
         kept.old.tokens.items kept.old.head kept.old.checkpoints }
     ensures text { kept.new.text ≡ kept.old.text }
     ensures renewed { (before insert : List ℕ)
-        → means.IsPut (layout_in E.whole) (S.grammar kept.old.stepper).first
+        → model.IsPut (layout_in E.whole) (S.grammar kept.old.stepper).first
         before insert edit (string_bytes kept.old.text)
         kept.old.tokens.items kept.old.head kept.old.checkpoints
-        → let left = means.text_left result (string_bytes kept.new.text) before in
-        means.AreKeptOf (layout_in E.whole) (S.grammar kept.new.stepper).first left
+        → let left = model.text_left result (string_bytes kept.new.text) before in
+        model.AreKeptOf (layout_in E.whole) (S.grammar kept.new.stepper).first left
         kept.new.tokens.items kept.new.head kept.new.checkpoints
         × IsEdited (layout_in E.whole (S.grammar kept.old.stepper).first)
         (record { text = before; tokens = kept.old.tokens.items; stepper = kept.old.stepper })
-        edit.start edit.old_stop insert result
+        edit.start edit.old_end insert result
         (record { text = left; tokens = kept.new.tokens.items; stepper = kept.new.stepper })
-        × HasStepCount (layout_in E.whole (S.grammar kept.old.stepper).first) before edit.start edit.old_stop
+        × HasStepCount (layout_in E.whole (S.grammar kept.old.stepper).first) before edit.start edit.old_end
         insert result (S.count kept.old.stepper) (S.count kept.new.stepper) }
     ensures grammar { S.grammar kept.new.stepper ≡ S.grammar kept.old.stepper }
 {
@@ -88,12 +88,12 @@ pub(crate) fn lex_body<S: Stepper>(
     requires fits { Fits text.now }
     requires body { IsCharBoundary text.now head.body }
     ensures tokens { IfOk result
-        (λ r. r.0.items ≡ means.tokens_of_head head
+        (λ r. r.0.items ≡ model.tokens_of_head head
         ++ tokens_by (S.grammar stepper.old).first (drop head.body text.now)) }
     ensures checkpoints { IfOk result
-        (λ r. AreBounds (drop (length (means.tokens_of_head head)) r.0.items) r.1) }
+        (λ r. AreBounds (drop (length (model.tokens_of_head head)) r.0.items) r.1) }
     ensures count { IfOk result
-        (λ r. S.count stepper.new + length (means.tokens_of_head head)
+        (λ r. S.count stepper.new + length (model.tokens_of_head head)
         ≡ S.count stepper.old + length r.0.items) }
     ensures grammar { S.grammar stepper.new ≡ S.grammar stepper.old }
 {

@@ -2,7 +2,7 @@
 ghost use Rattle.std.specs.Prelude.{◌≡◌, ◌+◌, ◌^◌, ◌<◌, ◌++◌, IfOk, OnOk, length};
 ghost use Rattle.rustc_lexer.specs.Classes.{Fits};
 ghost use Rattle.rustc_lexer.specs.Tokens.{tokens_by};
-ghost use Rattle.rustc_lexer.specs.means.Checkpoints.{AreBounds};
+ghost use Rattle.rustc_lexer.specs.model.Checkpoints.{AreBounds};
 
 use crate::entry::stepper::Stepper;
 use crate::relex::checkpoints::Checkpoints;

@@ -3,11 +3,11 @@ ghost use Rattle.std.specs.Prelude.{◌≡◌, ◌+◌, ◌↔◌, IfOk, IsTrue,
 ghost use Rattle.std.specs.String.{string_bytes};
 ghost use Rattle.rustc_lexer.specs.Classes.{Fits, IsText};
 ghost use Rattle.rustc_lexer.specs.Edits.{IsEdit};
-ghost use Rattle.rustc_lexer.specs.Kept.{HasStepCount, IsEdited, layout_in};
+ghost use Rattle.rustc_lexer.specs.LexedText.{HasStepCount, IsEdited, layout_in};
 ghost use Rattle.rustc_lexer.specs.Partition.{tokens_in};
 
 use crate::entry::stepper::Stepper;
-use crate::head::{Extent, Part, Whole};
+use crate::head::{Document, Extent, Fragment};
 use crate::relex::edit::{accepts, put_in_place};
 use crate::relex::kept::{Kept, lex_body, renew};
 use crate::relex::relexing::{Change, Relexed};
@@ -33,7 +33,7 @@ pub struct Lexed<S: Stepper, E: Extent> {
 }
 
 /// A part of a document that is kept with its tokens. It has no frontmatter.
-pub type LexedText<S> = Lexed<S, Part>;
+pub type LexedText<S> = Lexed<S, Fragment>;
 
 /// A whole document that is kept with its tokens while it is edited: shebang line, frontmatter and all.
 ///
@@ -49,12 +49,12 @@ pub type LexedText<S> = Lexed<S, Part>;
 ///     assert_eq!((counts.kept_front, counts.lexed, counts.kept_back), (3, 1, 0));
 /// }
 /// ```
-pub type LexedDocument<S> = Lexed<S, Whole>;
+pub type LexedDocument<S> = Lexed<S, Document>;
 
 impl<S: Stepper, E: Extent> Model for Lexed<S, E> {
     ghost use Rattle.std.specs.String.{string_bytes};
-    ghost use Rattle.rustc_lexer.specs.Kept.{Held, layout_in};
-    ghost use Rattle.rustc_lexer.specs.means.Document.{AreKeptOf};
+    ghost use Rattle.rustc_lexer.specs.LexedText.{Held, layout_in};
+    ghost use Rattle.rustc_lexer.specs.model.Document.{AreKeptOf};
 
     ghost Value = { Held S };
 
@@ -225,13 +225,13 @@ impl<S: Stepper, E: Extent> Lexed<S, E> {
         put_in_place(&mut self.kept.text, start, stop, insert);
         let edit = Change {
             start,
-            old_stop: stop,
-            new_stop: start + insert.len(),
+            old_end: stop,
+            new_end: start + insert.len(),
         };
         match renew(&mut self.kept, edit) {
             Ok(counts) => Ok(counts),
             Err(refused) => {
-                put_in_place(&mut self.kept.text, start, edit.new_stop, removed.as_str());
+                put_in_place(&mut self.kept.text, start, edit.new_end, removed.as_str());
                 Err(refused)
             }
         }

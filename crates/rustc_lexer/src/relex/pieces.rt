@@ -2,7 +2,7 @@
 ghost use Rattle.std.specs.Prelude.{◌≡◌, IfSome, Some, length};
 ghost use Rattle.std.specs.Iterator.{UpTo, at_most};
 ghost use Rattle.std.specs.Iterator.SizeHint.{IsWithinCount};
-ghost use Rattle.rustc_lexer.specs.Kept.{YieldsPiece, YieldsPieceBack};
+ghost use Rattle.rustc_lexer.specs.LexedText.{YieldsPiece, YieldsPieceBack};
 
 use crate::token::Token;
 use std::iter::{DoubleEndedIterator, ExactSizeIterator, Iterator};
@@ -21,7 +21,7 @@ pub struct Piece<'a> {
 
 /// An iterator over the pieces of a text.
 ///
-/// `pieces`, `pieces_of_tokens` and `pieces_in_bytes` of a [`LexedText`](crate::LexedText) and of a document return it.
+/// `pieces`, `pieces_by_index` and `pieces_in_bytes` of a [`LexedText`](crate::LexedText) and of a document return it.
 /// Each piece begins where the one before it ends, and its text is the part of the text that its token takes.
 /// Pieces can be taken from either end.
 #[derive(Drop)]
@@ -34,8 +34,8 @@ pub struct Pieces<'a> {
 
 impl<'a> Model for Pieces<'a> {
     ghost use Rattle.std.specs.Prelude.{List};
-    ghost use Rattle.rustc_lexer.specs.Kept.{Placed, pieces_from};
-    ghost use Rattle.rustc_lexer.specs.means.Pieces.{AreCut};
+    ghost use Rattle.rustc_lexer.specs.LexedText.{Placed, pieces_from};
+    ghost use Rattle.rustc_lexer.specs.model.Pieces.{AreCut};
 
     ghost Value = { List Placed };
 

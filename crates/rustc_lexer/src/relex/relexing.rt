@@ -4,12 +4,12 @@ ghost use Rattle.rustc_lexer.specs.declared.relex.relexing.Change.{Change};
 ghost use Rattle.rustc_lexer.specs.{Token};
 ghost use Rattle.rustc_lexer.specs.Offsets.{IsBound};
 ghost use Rattle.rustc_lexer.specs.Edits.{IsRelexed, all_stay, count_after, none_stays, part_by};
-ghost use Rattle.rustc_lexer.specs.Kept.{AreKept};
+ghost use Rattle.rustc_lexer.specs.LexedText.{AreKept};
 ghost use Rattle.rustc_lexer.specs.Relexing.{known};
 ghost use Rattle.rustc_lexer.specs.Classes.{Fits, IsText};
 ghost use Rattle.rustc_lexer.specs.Tokens.{tokens_by};
-ghost use Rattle.rustc_lexer.specs.Relexing.{GoesOn, IsChange, IsMadeOf, IsUnderWay, IsWhole, MayGoOn, TakesSteps, is_over};
-ghost use Rattle.rustc_lexer.specs.means.Relexing.{damage_of};
+ghost use Rattle.rustc_lexer.specs.Relexing.{GoesOn, IsChange, IsMadeOf, IsUnderWay, IsWhole, CanContinue, TakesSteps, is_done};
+ghost use Rattle.rustc_lexer.specs.model.Relexing.{damage_of};
 ghost use Rattle.rustc_lexer.specs.Locality.{IsGrammar};
 
 use crate::entry::fill::FromToken;
@@ -21,30 +21,30 @@ use std::marker::Model;
 /// The maximum offset of a token boundary. No text is longer, even if a `usize` has 32 bits.
 const MOST: usize = usize::MAX / 2;
 
-/// An applied edit, by its offsets in bytes. It replaced `start..old_stop` of the old text with `start..new_stop` of
+/// An applied edit, by its offsets in bytes. It replaced `start..old_end` of the old text with `start..new_end` of
 /// the current text.
 #[derive(Clone, Copy, Debug, PartialEq, Eq)]
 pub struct Change {
     /// Where the change starts, in both texts.
     pub start: usize,
     /// Where the removed bytes ended, in the old text.
-    pub old_stop: usize,
+    pub old_end: usize,
     /// Where the inserted bytes end, in the current text.
-    pub new_stop: usize,
+    pub new_end: usize,
 }
 
 impl Change {
     /// Returns whether the change can have resulted in this text: the inserted range is inside the text and on
-    /// character boundaries, the old offsets are in order, and `old_stop` is below 2^32. The old text itself is not
+    /// character boundaries, the old offsets are in order, and `old_end` is below 2^32. The old text itself is not
     /// checked.
-    pub fn may_make(&self, text: &str) -> bool
+    pub fn is_valid_for(&self, text: &str) -> bool
         ensures { IsTrue result ↔ IsChange text.now self.now }
     {
-        self.start <= self.old_stop
-            && self.old_stop <= u32::MAX as usize
-            && self.start <= self.new_stop
+        self.start <= self.old_end
+            && self.old_end <= u32::MAX as usize
+            && self.start <= self.new_end
             && text.is_char_boundary(self.start)
-            && text.is_char_boundary(self.new_stop)
+            && text.is_char_boundary(self.new_end)
     }
 }
 
@@ -62,8 +62,8 @@ impl<'a, T> EditedText<'a, T> {
         ensures { result ≡ damage_of self.now.text.now self.now.change }
     {
         Damage {
-            past: self.change.new_stop,
-            old_stop: self.change.old_stop,
+            past: self.change.new_end,
+            old_end: self.change.old_end,
             end: self.text.len(),
         }
     }
@@ -185,7 +185,7 @@ impl Relexing {
     pub(crate) fn begin<T: Measured>(edited: &EditedText<'_, T>, near: TokenStart) -> Relexing
         requires fits { Fits edited.now.text.now }
         requires change { IsChange edited.now.text.now edited.now.change }
-        ensures may_go_on { MayGoOn edited.now.text.now (length edited.now.old_tokens.now) result }
+        ensures can_continue { CanContinue edited.now.text.now (length edited.now.old_tokens.now) result }
         ensures none { result.lexed ≡ 0 }
         ensures under_way { (first : List ℕ → Token) (before insert : List ℕ) → IsGrammar first
             → IsMadeOf first before (map T.bytes edited.now.old_tokens.now) edited.now.change insert edited.now.text.now
@@ -205,8 +205,8 @@ impl Relexing {
 
     /// Returns whether relexing this text with this many old tokens can continue from this state. It can from each
     /// state that `begin` and `next` leave.
-    fn may_go_on(&self, text: &str, old_count: usize) -> bool
-        ensures { IsTrue result ↔ MayGoOn text.now old_count self.now }
+    fn can_continue(&self, text: &str, old_count: usize) -> bool
+        ensures { IsTrue result ↔ CanContinue text.now old_count self.now }
     {
         text.is_char_boundary(self.at)
             && self.back.index <= old_count
@@ -217,8 +217,8 @@ impl Relexing {
 
     /// Returns whether lexing has met the old tokens, or no text is left. With the old tokens of the old text, lexing
     /// meets them at the end of the text at the latest.
-    pub(crate) fn is_over(&self, text: &str) -> bool
-        ensures over { result ≡ is_over text.now self.now }
+    pub(crate) fn is_done(&self, text: &str) -> bool
+        ensures over { result ≡ is_done text.now self.now }
         ensures met { (first : List ℕ → Token) (before lengths insert : List ℕ) (change : Change)
             → IsGrammar first → IsMadeOf first before lengths change insert text.now
             → IsUnderWay first before change text.now self.now
@@ -235,21 +235,21 @@ impl Relexing {
     ) -> Option<Token>
         requires is_text { IsText edited.now.text.now }
         requires change { IsChange edited.now.text.now edited.now.change }
-        requires may_go_on { MayGoOn edited.now.text.now (length edited.now.old_tokens.now) self.old }
+        requires can_continue { CanContinue edited.now.text.now (length edited.now.old_tokens.now) self.old }
 
         // It may go on, by the same grammar.
-        ensures may_go_on { MayGoOn edited.now.text.now (length edited.now.old_tokens.now) self.new }
+        ensures can_continue { CanContinue edited.now.text.now (length edited.now.old_tokens.now) self.new }
         ensures grammar { S.grammar stepper.new ≡ S.grammar stepper.old }
 
         // Which token was lexed; none only if lexing is over.
         ensures step { MatchOption result
             ((self.new ≡ self.old) × (S.count stepper.new ≡ S.count stepper.old)
-            × (is_over edited.now.text.now self.old ≡ true))
+            × (is_done edited.now.text.now self.old ≡ true))
             (λ token. (token ≡ (S.grammar stepper.old).first (drop self.old.at edited.now.text.now))
-            × TakesSteps (S.grammar stepper.old).first edited.now.text.now edited.now.change.new_stop
+            × TakesSteps (S.grammar stepper.old).first edited.now.text.now edited.now.change.new_end
             self.old 1 self.new
             × (S.count stepper.new ≡ S.count stepper.old + 1)
-            × (is_over edited.now.text.now self.old ≡ false)) }
+            × (is_done edited.now.text.now self.old ≡ false)) }
 
         // If the old tokens are those of an old text, it is the next token of the present one.
         ensures under_way { (before insert : List ℕ)
@@ -261,7 +261,7 @@ impl Relexing {
             drop (known self.old) (tokens_by (S.grammar stepper.old).first edited.now.text.now)
             ≡ token ∷ drop (known self.new) (tokens_by (S.grammar stepper.old).first edited.now.text.now)) }
     {
-        if self.is_over(edited.text) {
+        if self.is_done(edited.text) {
             return None;
         }
         let token = stepper.step(&edited.text[self.at..]);
@@ -286,15 +286,15 @@ impl Relexing {
     ) -> usize
         requires is_text { IsText edited.now.text.now }
         requires change { IsChange edited.now.text.now edited.now.change }
-        requires may_go_on { MayGoOn edited.now.text.now (length edited.now.old_tokens.now) self.old }
+        requires can_continue { CanContinue edited.now.text.now (length edited.now.old_tokens.now) self.old }
 
         // It may go on, by the same grammar.
-        ensures may_go_on { MayGoOn edited.now.text.now (length edited.now.old_tokens.now) self.new }
+        ensures can_continue { CanContinue edited.now.text.now (length edited.now.old_tokens.now) self.new }
         ensures grammar { S.grammar stepper.new ≡ S.grammar stepper.old }
 
         // How many tokens were lexed, and which ones the buffer has.
         ensures count { S.count stepper.new ≡ S.count stepper.old + result }
-        ensures steps { TakesSteps (S.grammar stepper.old).first edited.now.text.now edited.now.change.new_stop
+        ensures steps { TakesSteps (S.grammar stepper.old).first edited.now.text.now edited.now.change.new_end
             self.old result self.new }
         ensures tokens { buffer.new
             ≡ map R.written (take result
@@ -303,8 +303,8 @@ impl Relexing {
         ensures buffer { result ≤ length buffer.old }
 
         // It stops before the buffer is full only if lexing is over.
-        ensures begins { 0 < result → is_over edited.now.text.now self.old ≡ false }
-        ensures over { result < length buffer.old → is_over edited.now.text.now self.new ≡ true }
+        ensures begins { 0 < result → is_done edited.now.text.now self.old ≡ false }
+        ensures over { result < length buffer.old → is_done edited.now.text.now self.new ≡ true }
 
         // If the old tokens are those of an old text, these are the next tokens of the present one.
         ensures under_way { GoesOn (S.grammar stepper.old).first
@@ -331,13 +331,13 @@ impl Relexing {
     ) -> usize
         requires is_text { IsText edited.now.text.now }
         requires change { IsChange edited.now.text.now edited.now.change }
-        requires may_go_on { MayGoOn edited.now.text.now (length edited.now.old_tokens.now) self.old }
-        requires going { is_over edited.now.text.now self.old ≡ false }
+        requires can_continue { CanContinue edited.now.text.now (length edited.now.old_tokens.now) self.old }
+        requires going { is_done edited.now.text.now self.old ≡ false }
         requires room { 0 < length buffer.old }
-        ensures may_go_on { MayGoOn edited.now.text.now (length edited.now.old_tokens.now) self.new }
+        ensures can_continue { CanContinue edited.now.text.now (length edited.now.old_tokens.now) self.new }
         ensures grammar { S.grammar stepper.new ≡ S.grammar stepper.old }
         ensures count { S.count stepper.new ≡ S.count stepper.old + result }
-        ensures steps { TakesSteps (S.grammar stepper.old).first edited.now.text.now edited.now.change.new_stop
+        ensures steps { TakesSteps (S.grammar stepper.old).first edited.now.text.now edited.now.change.new_end
             self.old result self.new }
         ensures tokens { buffer.new
             ≡ map R.written (take result
@@ -372,18 +372,18 @@ impl Relexing {
         ensures past { self.now.at < result }
         ensures inside { result ≤ length edited.now.text.now }
         ensures none { (offset : ℕ) → self.now.at < offset → offset < result
-            → edited.now.change.new_stop ≤ offset
-            → (edited.now.change.new_stop ≤ self.now.at)
-            × (offset + edited.now.change.old_stop < self.now.back.offset + edited.now.change.new_stop) }
+            → edited.now.change.new_end ≤ offset
+            → (edited.now.change.new_end ≤ self.now.at)
+            × (offset + edited.now.change.old_end < self.now.back.offset + edited.now.change.new_end) }
     {
-        if self.at < edited.change.new_stop {
-            return edited.change.new_stop;
+        if self.at < edited.change.new_end {
+            return edited.change.new_end;
         }
-        let back = self.back.offset + edited.change.new_stop;
-        if back <= self.at + edited.change.old_stop {
+        let back = self.back.offset + edited.change.new_end;
+        if back <= self.at + edited.change.old_end {
             return self.at + 1;
         }
-        let least = back - edited.change.old_stop;
+        let least = back - edited.change.old_end;
         if least < edited.text.len() {
             least
         } else {
@@ -405,7 +405,7 @@ impl Relexing {
             → IsGrammar first → IsMadeOf first before lengths change insert text
             → length lengths ≡ old_count → IsUnderWay first before change text self.now
             → self.now.met ≡ true
-            → IsRelexed (part_by first) before change.start change.old_stop insert result
+            → IsRelexed (part_by first) before change.start change.old_end insert result
             × IsWhole (tokens_by first before) (tokens_by first text) self.now }
     {
         Relexed {
@@ -431,7 +431,7 @@ impl Relexing {
 /// let (old, new) = ("let ab = cd;", "let abc = cd;");
 /// let mut tokens: Vec<Token> = tokenize(old, FrontmatterAllowed::No).collect();
 /// // A `c` was inserted at 6.
-/// let change = Change { start: 6, old_stop: 6, new_stop: 7 };
+/// let change = Change { start: 6, old_end: 6, new_end: 7 };
 ///
 /// let mut steps = Steps::new();
 /// let mut relex = Relex::begin(new, &tokens, change, TokenStart::default()).unwrap();
@@ -454,7 +454,7 @@ pub struct Relex<'a, T: Measured> {
 impl<'a, T: Measured> Model for Relex<'a, T> {
     ghost use Rattle.std.specs.Prelude.{length, map};
     ghost use Rattle.rustc_lexer.specs.Classes.{IsText};
-    ghost use Rattle.rustc_lexer.specs.Relexing.{IsChange, MayGoOn, RelexModel};
+    ghost use Rattle.rustc_lexer.specs.Relexing.{IsChange, CanContinue, RelexModel};
 
     ghost Value = { RelexModel };
 
@@ -466,12 +466,12 @@ impl<'a, T: Measured> Model for Relex<'a, T> {
     } };
 
     ghost invariant = { λ r. IsText r.edited.text.now × IsChange r.edited.text.now r.edited.change
-        × MayGoOn r.edited.text.now (length r.edited.old_tokens.now) r.at };
+        × CanContinue r.edited.text.now (length r.edited.old_tokens.now) r.at };
 }
 
 impl<'a, T: Measured> Relex<'a, T> {
     /// Finds the tokens that stay at the front. Returns `None` if the text has more than `u32::MAX` bytes or
-    /// [`Change::may_make`] is false.
+    /// [`Change::is_valid_for`] is false.
     ///
     /// The search starts at `near`, which can be any boundary of the old tokens.
     pub fn begin(
@@ -489,7 +489,7 @@ impl<'a, T: Measured> Relex<'a, T> {
             → IsBound (tokens_by first before) near
             → IsUnderWay first before change text.now r.at) }
     {
-        if text.len() > u32::MAX as usize || !change.may_make(text) {
+        if text.len() > u32::MAX as usize || !change.is_valid_for(text) {
             return None;
         }
         let edited = EditedText {
@@ -510,7 +510,7 @@ impl<'a, T: Measured> Relex<'a, T> {
         state: Relexing,
     ) -> Option<Relex<'a, T>>
         ensures none { result ≡ None ↔ ¬ (Fits text.now × IsChange text.now change
-            × MayGoOn text.now (length old_tokens.now) state) }
+            × CanContinue text.now (length old_tokens.now) state) }
         ensures some { IfSome result (λ r. r ≡ record {
           text = text.now;
           lengths = map T.bytes old_tokens.now;
@@ -519,8 +519,8 @@ impl<'a, T: Measured> Relex<'a, T> {
         }) }
     {
         if text.len() > u32::MAX as usize
-            || !change.may_make(text)
-            || !state.may_go_on(text, old_tokens.len())
+            || !change.is_valid_for(text)
+            || !state.can_continue(text, old_tokens.len())
         {
             return None;
         }
@@ -535,21 +535,21 @@ impl<'a, T: Measured> Relex<'a, T> {
     /// Returns how far the text is lexed.
     pub fn state(&self) -> Relexing
         ensures state { result ≡ self.now.at }
-        ensures may_go_on { MayGoOn self.now.text (length self.now.lengths) self.now.at }
+        ensures can_continue { CanContinue self.now.text (length self.now.lengths) self.now.at }
     {
         self.at
     }
 
     /// Returns whether lexing has met the old tokens, or no text is left. With the old tokens of the old text, lexing
     /// meets them at the end of the text at the latest.
-    pub fn is_over(&self) -> bool
-        ensures over { result ≡ is_over self.now.text self.now.at }
+    pub fn is_done(&self) -> bool
+        ensures over { result ≡ is_done self.now.text self.now.at }
         ensures met { (first : List ℕ → Token) (before insert : List ℕ) → IsGrammar first
             → IsMadeOf first before self.now.lengths self.now.change insert self.now.text
             → IsUnderWay first before self.now.change self.now.text self.now.at
             → result ≡ self.now.at.met }
     {
-        self.at.is_over(self.edited.text)
+        self.at.is_done(self.edited.text)
     }
 
     /// Lexes and returns the next token, or returns `None` if lexing is over.
@@ -562,12 +562,12 @@ impl<'a, T: Measured> Relex<'a, T> {
         // Which token was lexed; none only if lexing is over.
         ensures step { MatchOption result
             ((self.new ≡ self.old) × (S.count stepper.new ≡ S.count stepper.old)
-            × (is_over self.old.text self.old.at ≡ true))
+            × (is_done self.old.text self.old.at ≡ true))
             (λ token. (token ≡ (S.grammar stepper.old).first (drop self.old.at.at self.old.text))
-            × TakesSteps (S.grammar stepper.old).first self.old.text self.old.change.new_stop
+            × TakesSteps (S.grammar stepper.old).first self.old.text self.old.change.new_end
             self.old.at 1 self.new.at
             × (S.count stepper.new ≡ S.count stepper.old + 1)
-            × (is_over self.old.text self.old.at ≡ false)) }
+            × (is_done self.old.text self.old.at ≡ false)) }
 
         // If the old tokens are those of an old text, it is the next token of the current one.
         ensures under_way { (before insert : List ℕ)
@@ -593,7 +593,7 @@ impl<'a, T: Measured> Relex<'a, T> {
 
         // How many tokens were lexed, and which ones the buffer has.
         ensures count { S.count stepper.new ≡ S.count stepper.old + result }
-        ensures steps { TakesSteps (S.grammar stepper.old).first self.old.text self.old.change.new_stop
+        ensures steps { TakesSteps (S.grammar stepper.old).first self.old.text self.old.change.new_end
             self.old.at result self.new.at }
         ensures tokens { buffer.new
             ≡ map R.written (take result
@@ -602,8 +602,8 @@ impl<'a, T: Measured> Relex<'a, T> {
         ensures buffer { result ≤ length buffer.old }
 
         // It stops before the buffer is full only if lexing is over.
-        ensures begins { 0 < result → is_over self.old.text self.old.at ≡ false }
-        ensures over { result < length buffer.old → is_over self.old.text self.new.at ≡ true }
+        ensures begins { 0 < result → is_done self.old.text self.old.at ≡ false }
+        ensures over { result < length buffer.old → is_done self.old.text self.new.at ≡ true }
 
         // If the old tokens are those of an old text, these are the next tokens of the current one.
         ensures under_way { GoesOn (S.grammar stepper.old).first self.old.lengths self.old.text
@@ -623,7 +623,7 @@ impl<'a, T: Measured> Relex<'a, T> {
             → IsMadeOf first before self.now.lengths self.now.change insert self.now.text
             → IsUnderWay first before self.now.change self.now.text self.now.at
             → self.now.at.met ≡ true
-            → IsRelexed (part_by first) before self.now.change.start self.now.change.old_stop insert
+            → IsRelexed (part_by first) before self.now.change.start self.now.change.old_end insert
             result × IsWhole (tokens_by first before) (tokens_by first self.now.text) self.now.at }
     {
         self.at.counts(self.edited.old_tokens.len())

@@ -5,7 +5,7 @@ use Rattle.std.specs.{List.{list_all}, Str.{encode_utf8_all}}
 use Rattle.std.proofs.lemmas.{Bool.{cond_both, eqb-true, or_parts}, List.{append_cancel_right, map-append}}
 use Rattle.std.proofs.lemmas.{Str.{encodes-append}, Bool.Decides.{nat_tests}, Grind.{common_steps}}
 use Rattle.rustc_literal_escaper.specs.declared.element.Element.{Element}
-use Rattle.rustc_literal_escaper.specs.declared.element.Element.TheVariants.{Fault, Plain}
+use Rattle.rustc_literal_escaper.specs.declared.element.Element.TheVariants.{Diagnostic, Plain}
 use Rattle.rustc_literal_escaper.specs.declared.error.EscapeError.TheVariants.{BareCarriageReturn}
 use Rattle.rustc_literal_escaper.specs.declared.error.EscapeError.TheVariants.{BareCarriageReturnInRawString}
 use Rattle.rustc_literal_escaper.specs.declared.error.EscapeError.TheVariants.{EscapeOnlyChar}
@@ -16,10 +16,10 @@ use Rattle.rustc_literal_escaper.specs.Grammar.{AreItems, IsElementBefore, IsRaw
 use Rattle.rustc_literal_escaper.specs.Grammar.{is_newline, is_passed_over, item, lines_warning, next_is, space_warning}
 use Rattle.rustc_literal_escaper.specs.laws.Escape.{Reads, at-char, by_either, element-is, element-reads, escape-is}
 use Rattle.rustc_literal_escaper.specs.laws.Escape.{run-all, run-cut, run-is, run-stops}
-use Rattle.rustc_literal_escaper.specs.means.Elements.{Front, front, front_by, raw_element, raw_front, item_at, item_by}
-use Rattle.rustc_literal_escaper.specs.means.Elements.{items_by, items_from, items_in, line_end, more_lines, more_space}
-use Rattle.rustc_literal_escaper.specs.means.Elements.{one, past_backslash, place, unescaped}
-use Rattle.rustc_literal_escaper.specs.means.Escape.{escape, front_run, past_run}
+use Rattle.rustc_literal_escaper.specs.model.Elements.{Front, front, front_by, raw_element, raw_front, item_at, item_by}
+use Rattle.rustc_literal_escaper.specs.model.Elements.{items_by, items_from, items_in, line_end, more_lines, more_space}
+use Rattle.rustc_literal_escaper.specs.model.Elements.{one, past_backslash, place, unescaped}
+use Rattle.rustc_literal_escaper.specs.model.Escape.{escape, front_run, past_run}
 
 pub either : {A : Type 0} (P : A → Type 0) (b : Bool) (x y : A) → P x → P y → P (if b then x else y)
 either P b x y p q = grind (arith, common_steps)
@@ -88,16 +88,16 @@ item-at total from w next e ends = let sizes = bytes-append w next in grind (ari
 -- elements between double quotes
 unescaped-is : (c : ℕ) (s : List ℕ) → (c == 92) ≡ false → IsElementBefore (34 ∷ []) s (unescaped c) (c ∷ [])
 unescaped-is c s slash =
-    cond_both (c == 34) (Fault EscapeOnlyChar) _ (λ (e : Element). IsElementBefore (34 ∷ []) s e (c ∷ []))
+    cond_both (c == 34) (Diagnostic EscapeOnlyChar) _ (λ (e : Element). IsElementBefore (34 ∷ []) s e (c ∷ []))
     (λ a. g.unescaped (rw a refl)) (λ a.
-    cond_both (c == 13) (Fault BareCarriageReturn) (Plain c) (λ (e : Element). IsElementBefore (34 ∷ []) s e (c ∷ []))
-    (at-char (λ x. IsElementBefore (34 ∷ []) s (Fault BareCarriageReturn) (x ∷ [])) c 13 g.bare)
+    cond_both (c == 13) (Diagnostic BareCarriageReturn) (Plain c) (λ (e : Element). IsElementBefore (34 ∷ []) s e (c ∷ []))
+    (at-char (λ x. IsElementBefore (34 ∷ []) s (Diagnostic BareCarriageReturn) (x ∷ [])) c 13 g.bare)
     (λ b. g.plain (rw (slash, b, a) refl)))
 
 unescaped-plain : (c : ℕ) → is_among (92 ∷ 13 ∷ 34 ∷ []) c ≡ false → unescaped c ≡ Plain c
 unescaped-plain c out = grind (arith, common_steps, or_parts)
 
-unescaped-special : (c : ℕ) → is_among (34 ∷ []) c ≡ true → ((c == 92) ≡ false) × (unescaped c ≡ Fault EscapeOnlyChar)
+unescaped-special : (c : ℕ) → is_among (34 ∷ []) c ≡ true → ((c == 92) ≡ false) × (unescaped c ≡ Diagnostic EscapeOnlyChar)
 unescaped-special c among = grind (arith, common_steps, nat_tests)
 
 abbrev ReadsDouble : List ℕ → Element → List ℕ → Type 0
@@ -143,7 +143,7 @@ raw-reads is next = grind (arith, common_steps, nat_tests)
 lines-found : (total from : ℕ) (space next : List ℕ) → from + bytes (92 ∷ 10 ∷ space ++ next) ≡ total
     → map (item_at total (place total (92 ∷ 10 ∷ space ++ next))) (more_lines space next) ≡ lines_warning from space
 lines-found total from space next ends =
-    grind (arith, common_steps, item-at total from (92 ∷ 10 ∷ space) next (Fault MultipleSkippedLinesWarning) ends)
+    grind (arith, common_steps, item-at total from (92 ∷ 10 ∷ space) next (Diagnostic MultipleSkippedLinesWarning) ends)
 
 space-found : (total from : ℕ) (space next : List ℕ) → from + bytes (92 ∷ 10 ∷ space ++ next) ≡ total
     → map (item_at total (place total (92 ∷ 10 ∷ space ++ next))) (more_space next) ≡ space_warning from space next
@@ -154,7 +154,7 @@ space-found total from space (c ∷ next) ends =
       common_steps,
       append_assoc space (c ∷ []) next,
       item-at total from (92 ∷ 10 ∷ (space ++ c ∷ [])) next
-          (Fault UnskippedWhitespaceWarning) (rw (append_assoc space (c ∷ []) next) ends),
+          (Diagnostic UnskippedWhitespaceWarning) (rw (append_assoc space (c ∷ []) next) ends),
     )
 
 line-read : (space next : List ℕ) → list_all is_passed_over space ≡ true → next_is is_passed_over next ≡ false
@@ -206,8 +206,8 @@ abbrev HasItems : Bool → ℕ → List ℕ → Type 0
 HasItems raw from s = (items : List Item) × AreItems raw from s items
 
 raw-has : (c : ℕ) → IsRawElement (raw_element c) c
-raw-has c = cond_both (c == 13) (Fault BareCarriageReturnInRawString) (Plain c) (λ (e : Element). IsRawElement e c)
-    (at-char (λ x. IsRawElement (Fault BareCarriageReturnInRawString) x) c 13 g.bare) (λ e. g.plain e)
+raw-has c = cond_both (c == 13) (Diagnostic BareCarriageReturnInRawString) (Plain c) (λ (e : Element). IsRawElement e c)
+    (at-char (λ x. IsRawElement (Diagnostic BareCarriageReturnInRawString) x) c 13 g.bare) (λ e. g.plain e)
 
 line-has : (from : ℕ) (t : List ℕ) → ((at : ℕ) → HasItems false at (past_run is_passed_over t))
     → HasItems false from (92 ∷ 10 ∷ t)

@@ -6,7 +6,7 @@ use Rattle.std.proofs.lemmas.Bool.{and_parts, cond-false, cond-true, cond_both, 
 use Rattle.std.proofs.lemmas.Bool.{lt-leb, or_parts}
 use Rattle.std.proofs.{Math.Bool.{or-true}, lemmas.{Bool.Decides.{nat_tests}, Grind.{common_steps}}}
 use Rattle.rustc_literal_escaper.specs.declared.element.Element.{Element}
-use Rattle.rustc_literal_escaper.specs.declared.element.Element.TheVariants.{Plain, Unicode, Fault}
+use Rattle.rustc_literal_escaper.specs.declared.element.Element.TheVariants.{Plain, Unicode, Diagnostic}
 use Rattle.rustc_literal_escaper.specs.declared.error.EscapeError.TheVariants.{LoneSlash, TooShortHexEscape}
 use Rattle.rustc_literal_escaper.specs.declared.error.EscapeError.TheVariants.{InvalidCharInHexEscape}
 use Rattle.rustc_literal_escaper.specs.declared.error.EscapeError.TheVariants.{NoBraceInUnicodeEscape}
@@ -19,8 +19,8 @@ use Rattle.rustc_literal_escaper.specs.declared.error.EscapeError.TheVariants.{B
 use Rattle.rustc_literal_escaper.specs.Grammar as g
 use Rattle.rustc_literal_escaper.specs.Grammar.{AreDigits, IsElementBefore, IsEscapeBefore, hex_value, is_among}
 use Rattle.rustc_literal_escaper.specs.Grammar.{is_digit_or_underscore, is_hex, next_is}
-use Rattle.rustc_literal_escaper.specs.means.Escape.{braced, closed, closed_at_run, escape, front_run, hex, number}
-use Rattle.rustc_literal_escaper.specs.means.Escape.{past_run, short, unicode}
+use Rattle.rustc_literal_escaper.specs.model.Escape.{braced, closed, closed_at_run, escape, front_run, hex, number}
+use Rattle.rustc_literal_escaper.specs.model.Escape.{past_run, short, unicode}
 
 -- ---- runs of characters
 
@@ -71,28 +71,28 @@ closed-read : (d x : ℕ) (w next : List ℕ) (r : Element × List ℕ) → is_h
 closed-read d x w next r digit all stops e = ap (λ (v : List ℕ). braced (d ∷ v)) (append_assoc w (x ∷ []) next)
     ∙ (digits-read d w (x ∷ next) digit all stops ∙ e)
 
-bad_first-read : (h : ℕ) (next : List ℕ) → is_hex h ≡ false → hex (h ∷ next) ≡ (Fault InvalidCharInHexEscape, next)
+bad_first-read : (h : ℕ) (next : List ℕ) → is_hex h ≡ false → hex (h ∷ next) ≡ (Diagnostic InvalidCharInHexEscape, next)
 bad_first-read h next bad = grind (arith, common_steps)
 
 pub escape-reads : {next : List ℕ} {e : Element} {w : List ℕ} → IsEscapeBefore next e w → escape (w ++ next) ≡ (e, next)
 escape-reads (g.of_byte a b) = rw a (rw b refl)
 escape-reads {next} (g.of_number {d} {w} (g.some digit all) few) =
     closed-read d 125 w next _ digit all refl (rw (le-leb _ 6 few) refl)
-escape-reads (g.lone none) = subst (λ (n : List ℕ). escape n ≡ (Fault LoneSlash, n)) (sym none) refl
+escape-reads (g.lone none) = subst (λ (n : List ℕ). escape n ≡ (Diagnostic LoneSlash, n)) (sym none) refl
 escape-reads (g.invalid {c} other) = grind (arith, common_steps, or_parts)
 escape-reads (g.no_digits none) =
-    subst (λ (n : List ℕ). escape (120 ∷ n) ≡ (Fault TooShortHexEscape, n)) (sym none) refl
-escape-reads (g.one_digit {h} none a) = subst (λ (n : List ℕ). escape (120 ∷ h ∷ n) ≡ (Fault TooShortHexEscape, n))
+    subst (λ (n : List ℕ). escape (120 ∷ n) ≡ (Diagnostic TooShortHexEscape, n)) (sym none) refl
+escape-reads (g.one_digit {h} none a) = subst (λ (n : List ℕ). escape (120 ∷ h ∷ n) ≡ (Diagnostic TooShortHexEscape, n))
     (sym none) (rw a refl)
 escape-reads {next} (g.bad_first {h} a) = bad_first-read h next a
 escape-reads (g.bad_second a b) = rw a (rw b refl)
-escape-reads (g.no_more none) = subst (λ (n : List ℕ). escape (117 ∷ n) ≡ (Fault NoBraceInUnicodeEscape, n))
+escape-reads (g.no_more none) = subst (λ (n : List ℕ). escape (117 ∷ n) ≡ (Diagnostic NoBraceInUnicodeEscape, n))
     (sym none) refl
 escape-reads (g.no_brace a) = rw a refl
 escape-reads (g.unclosed none g.none) =
-    subst (λ (n : List ℕ). escape (117 ∷ 123 ∷ n) ≡ (Fault UnclosedUnicodeEscape, n)) (sym none) refl
+    subst (λ (n : List ℕ). escape (117 ∷ 123 ∷ n) ≡ (Diagnostic UnclosedUnicodeEscape, n)) (sym none) refl
 escape-reads (g.unclosed none (g.some {d} {w} digit all)) =
-    subst (λ (n : List ℕ). braced (d ∷ w ++ n) ≡ (Fault UnclosedUnicodeEscape, n)) (sym none)
+    subst (λ (n : List ℕ). braced (d ∷ w ++ n) ≡ (Diagnostic UnclosedUnicodeEscape, n)) (sym none)
     (digits-read d w [] digit all refl)
 escape-reads (g.bad_digit c g.none other inner) = let parts = or_parts (c == 95) (is_hex c) other in
     rw (parts.0) (rw inner (rw (parts.1) refl))
@@ -132,10 +132,10 @@ short-is c s x u =
 
 hex-is : (s : List ℕ) → IsFront (120 ∷ s) (hex s)
 hex-is [] = (120 ∷ [], refl, g.no_digits refl)
-hex-is (h ∷ []) = cond_both (is_hex h) (Fault TooShortHexEscape) _ (λ (e : Element). IsFront (120 ∷ h ∷ []) (e, []))
+hex-is (h ∷ []) = cond_both (is_hex h) (Diagnostic TooShortHexEscape) _ (λ (e : Element). IsFront (120 ∷ h ∷ []) (e, []))
     (λ a. (120 ∷ h ∷ [], refl, g.one_digit refl a)) (λ a. (120 ∷ h ∷ [], refl, g.bad_first a))
-hex-is (h ∷ l ∷ s) = cond_both (is_hex h) _ (Fault InvalidCharInHexEscape, l ∷ s) (IsFront (120 ∷ h ∷ l ∷ s))
-    (λ a. cond_both (is_hex l) _ (Fault InvalidCharInHexEscape) (λ (e : Element). IsFront (120 ∷ h ∷ l ∷ s) (e, s))
+hex-is (h ∷ l ∷ s) = cond_both (is_hex h) _ (Diagnostic InvalidCharInHexEscape, l ∷ s) (IsFront (120 ∷ h ∷ l ∷ s))
+    (λ a. cond_both (is_hex l) _ (Diagnostic InvalidCharInHexEscape) (λ (e : Element). IsFront (120 ∷ h ∷ l ∷ s) (e, s))
     (λ b. (120 ∷ h ∷ l ∷ [], refl, g.of_byte a b)) (λ b. (120 ∷ h ∷ l ∷ [], refl, g.bad_second a b)))
     (λ a. (120 ∷ h ∷ [], refl, g.bad_first a))
 
@@ -158,12 +158,12 @@ digits-are c s digit =
         → IsFront (117 ∷ 123 ∷ c ∷ s) (closed (c ∷ ds) left)
     by_left [] text stops = (117 ∷ 123 ∷ c ∷ ds, ap (λ xs. 117 ∷ 123 ∷ c ∷ xs) text, g.unclosed refl are)
     by_left (x ∷ left) text stops =
-        cond_both (x == 125) (number (filter is_hex (c ∷ ds))) (Fault InvalidCharInUnicodeEscape)
+        cond_both (x == 125) (number (filter is_hex (c ∷ ds))) (Diagnostic InvalidCharInUnicodeEscape)
         (λ (r : Element). IsFront (117 ∷ 123 ∷ c ∷ s) (r, left))
         (λ close.
         let whole = past-one 125 left (text ∙ ap (λ y. ds ++ y ∷ left) (eqb-true x 125 close)) in
         cond_both (nat_le (length (filter is_hex (c ∷ ds))) 6) (Unicode (hex_value (filter is_hex (c ∷ ds))))
-        (Fault OverlongUnicodeEscape) (λ (r : Element). IsFront (117 ∷ 123 ∷ c ∷ s) (r, left))
+        (Diagnostic OverlongUnicodeEscape) (λ (r : Element). IsFront (117 ∷ 123 ∷ c ∷ s) (r, left))
         (λ few. (117 ∷ 123 ∷ c ∷ (ds ++ 125 ∷ []), whole, g.of_number are (leb-true _ 6 few)))
         (λ many. (117 ∷ 123 ∷ c ∷ (ds ++ 125 ∷ []), whole, g.too_many are (leb-false _ 6 many))))
         (λ inner. (117 ∷ 123 ∷ c ∷ (ds ++ x ∷ []), past-one x left text, g.bad_digit x are stops inner))
@@ -171,19 +171,19 @@ digits-are c s digit =
 braced-is : (s : List ℕ) → IsFront (117 ∷ 123 ∷ s) (braced s)
 braced-is [] = (117 ∷ 123 ∷ [], refl, g.unclosed refl g.none)
 braced-is (c ∷ s) =
-    cond_both (c == 95) (Fault LeadingUnderscoreUnicodeEscape, s) _ (IsFront (117 ∷ 123 ∷ c ∷ s))
-    (at-char (λ x. IsFront (117 ∷ 123 ∷ x ∷ s) (Fault LeadingUnderscoreUnicodeEscape, s)) c 95
+    cond_both (c == 95) (Diagnostic LeadingUnderscoreUnicodeEscape, s) _ (IsFront (117 ∷ 123 ∷ c ∷ s))
+    (at-char (λ x. IsFront (117 ∷ 123 ∷ x ∷ s) (Diagnostic LeadingUnderscoreUnicodeEscape, s)) c 95
     (117 ∷ 123 ∷ 95 ∷ [], refl, g.underscore)) (λ a.
-    cond_both (c == 125) (Fault EmptyUnicodeEscape, s) _ (IsFront (117 ∷ 123 ∷ c ∷ s))
-    (at-char (λ x. IsFront (117 ∷ 123 ∷ x ∷ s) (Fault EmptyUnicodeEscape, s)) c 125
+    cond_both (c == 125) (Diagnostic EmptyUnicodeEscape, s) _ (IsFront (117 ∷ 123 ∷ c ∷ s))
+    (at-char (λ x. IsFront (117 ∷ 123 ∷ x ∷ s) (Diagnostic EmptyUnicodeEscape, s)) c 125
     (117 ∷ 123 ∷ 125 ∷ [], refl, g.empty)) (λ b.
-    cond_both (is_hex c) (closed_at_run (c ∷ s)) (Fault InvalidCharInUnicodeEscape, s) (IsFront (117 ∷ 123 ∷ c ∷ s))
+    cond_both (is_hex c) (closed_at_run (c ∷ s)) (Diagnostic InvalidCharInUnicodeEscape, s) (IsFront (117 ∷ 123 ∷ c ∷ s))
     (digits-are c s) (λ d.
     (117 ∷ 123 ∷ c ∷ [], refl, g.bad_digit c g.none (ap (λ x. x || is_hex c) a ∙ d) b))))
 
 unicode-is : (s : List ℕ) → IsFront (117 ∷ s) (unicode s)
 unicode-is [] = (117 ∷ [], refl, g.no_more refl)
-unicode-is (c ∷ s) = cond_both (c == 123) (braced s) (Fault NoBraceInUnicodeEscape, s) (IsFront (117 ∷ c ∷ s))
+unicode-is (c ∷ s) = cond_both (c == 123) (braced s) (Diagnostic NoBraceInUnicodeEscape, s) (IsFront (117 ∷ c ∷ s))
     (at-char (λ x. IsFront (117 ∷ x ∷ s) (braced s)) c 123 (braced-is s)) (λ e. (117 ∷ c ∷ [], refl, g.no_brace e))
 
 pub escape-is : (s : List ℕ) → IsFront s (escape s)
@@ -198,8 +198,8 @@ escape-is (c ∷ s) =
 
 module _ (special : List ℕ) (unescaped : ℕ → Element)
     (plain : (c : ℕ) → is_among (92 ∷ 13 ∷ special) c ≡ false → unescaped c ≡ Plain c)
-    (of_special : (c : ℕ) → is_among special c ≡ true → ((c == 92) ≡ false) × (unescaped c ≡ Fault EscapeOnlyChar))
-    (bare : unescaped 13 ≡ Fault BareCarriageReturn)
+    (of_special : (c : ℕ) → is_among special c ≡ true → ((c == 92) ≡ false) × (unescaped c ≡ Diagnostic EscapeOnlyChar))
+    (bare : unescaped 13 ≡ Diagnostic BareCarriageReturn)
     (sound : (c : ℕ) (s : List ℕ) → (c == 92) ≡ false → IsElementBefore special s (unescaped c) (c ∷ [])) where
   abbrev pub read_element : ℕ → List ℕ → Element × List ℕ
   read_element c s = if c == 92 then escape s else (unescaped c, s)

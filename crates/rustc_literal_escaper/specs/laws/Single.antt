@@ -4,7 +4,7 @@ use Rattle.std.proofs.Common.{◌∙◌, arith, append_assoc}
 use Rattle.std.proofs.lemmas.{Bool.{cond_both, or_parts}, List.{append-nil}, Bool.Decides.{nat_tests}}
 use Rattle.std.proofs.lemmas.Grind.{common_steps}
 use Rattle.rustc_literal_escaper.specs.declared.element.Element.{Element}
-use Rattle.rustc_literal_escaper.specs.declared.element.Element.TheVariants.{Plain, Fault}
+use Rattle.rustc_literal_escaper.specs.declared.element.Element.TheVariants.{Plain, Diagnostic}
 use Rattle.rustc_literal_escaper.specs.declared.error.EscapeError.{EscapeError}
 use Rattle.rustc_literal_escaper.specs.declared.error.EscapeError.TheVariants.{BareCarriageReturn, EscapeOnlyChar}
 use Rattle.rustc_literal_escaper.specs.declared.error.EscapeError.TheVariants.{MoreThanOneChar}
@@ -12,28 +12,28 @@ use Rattle.rustc_literal_escaper.specs.Grammar as g
 use Rattle.rustc_literal_escaper.specs.Grammar.{Error, IsElementBefore, IsSingle, bytes, is_among}
 use Rattle.rustc_literal_escaper.specs.laws.Elements.{bytes-append}
 use Rattle.rustc_literal_escaper.specs.laws.Escape.{Reads, at-char, element-is, element-reads}
-use Rattle.rustc_literal_escaper.specs.means.Elements.{place}
-use Rattle.rustc_literal_escaper.specs.means.Single.{only, read_single, single, unescaped}
+use Rattle.rustc_literal_escaper.specs.model.Elements.{place}
+use Rattle.rustc_literal_escaper.specs.model.Single.{only, read_single, single, unescaped}
 
 abbrev special : List ℕ
 special = 39 ∷ 10 ∷ 9 ∷ []
 
 unescaped-is : (c : ℕ) (s : List ℕ) → (c == 92) ≡ false → IsElementBefore special s (unescaped c) (c ∷ [])
 unescaped-is c s slash =
-    cond_both (c == 10) (Fault EscapeOnlyChar) _ (λ (e : Element). IsElementBefore special s e (c ∷ []))
-    (at-char (λ x. IsElementBefore special s (Fault EscapeOnlyChar) (x ∷ [])) c 10 (g.unescaped refl)) (λ a.
-    cond_both (c == 9) (Fault EscapeOnlyChar) _ (λ (e : Element). IsElementBefore special s e (c ∷ []))
-    (at-char (λ x. IsElementBefore special s (Fault EscapeOnlyChar) (x ∷ [])) c 9 (g.unescaped refl)) (λ b.
-    cond_both (c == 39) (Fault EscapeOnlyChar) _ (λ (e : Element). IsElementBefore special s e (c ∷ []))
-    (at-char (λ x. IsElementBefore special s (Fault EscapeOnlyChar) (x ∷ [])) c 39 (g.unescaped refl)) (λ d.
-    cond_both (c == 13) (Fault BareCarriageReturn) (Plain c) (λ (e : Element). IsElementBefore special s e (c ∷ []))
-    (at-char (λ x. IsElementBefore special s (Fault BareCarriageReturn) (x ∷ [])) c 13 g.bare) (λ e.
+    cond_both (c == 10) (Diagnostic EscapeOnlyChar) _ (λ (e : Element). IsElementBefore special s e (c ∷ []))
+    (at-char (λ x. IsElementBefore special s (Diagnostic EscapeOnlyChar) (x ∷ [])) c 10 (g.unescaped refl)) (λ a.
+    cond_both (c == 9) (Diagnostic EscapeOnlyChar) _ (λ (e : Element). IsElementBefore special s e (c ∷ []))
+    (at-char (λ x. IsElementBefore special s (Diagnostic EscapeOnlyChar) (x ∷ [])) c 9 (g.unescaped refl)) (λ b.
+    cond_both (c == 39) (Diagnostic EscapeOnlyChar) _ (λ (e : Element). IsElementBefore special s e (c ∷ []))
+    (at-char (λ x. IsElementBefore special s (Diagnostic EscapeOnlyChar) (x ∷ [])) c 39 (g.unescaped refl)) (λ d.
+    cond_both (c == 13) (Diagnostic BareCarriageReturn) (Plain c) (λ (e : Element). IsElementBefore special s e (c ∷ []))
+    (at-char (λ x. IsElementBefore special s (Diagnostic BareCarriageReturn) (x ∷ [])) c 13 g.bare) (λ e.
     g.plain (rw (slash, e, d, a, b) refl)))))
 
 unescaped-plain : (c : ℕ) → is_among (92 ∷ 13 ∷ special) c ≡ false → unescaped c ≡ Plain c
 unescaped-plain c out = grind (arith, common_steps, or_parts)
 
-unescaped-special : (c : ℕ) → is_among special c ≡ true → ((c == 92) ≡ false) × (unescaped c ≡ Fault EscapeOnlyChar)
+unescaped-special : (c : ℕ) → is_among special c ≡ true → ((c == 92) ≡ false) × (unescaped c ≡ Diagnostic EscapeOnlyChar)
 unescaped-special c among = grind (arith, common_steps, nat_tests)
 
 abbrev ReadsSingle : List ℕ → Element → List ℕ → Type 0

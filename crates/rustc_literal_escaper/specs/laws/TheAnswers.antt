@@ -7,8 +7,8 @@ use Rattle.rustc_literal_escaper.specs.declared.error.EscapeError.{EscapeError}
 use Rattle.rustc_literal_escaper.specs.Grammar.{AreItems, IsSingle, TheOnly, bytes}
 use Rattle.rustc_literal_escaper.specs.laws.Elements.{items-read, items-some}
 use Rattle.rustc_literal_escaper.specs.laws.Single.{single-read, single-some}
-use Rattle.rustc_literal_escaper.specs.means.Elements.{front_by, items_from}
-use Rattle.rustc_literal_escaper.specs.means.Single.{read_single}
+use Rattle.rustc_literal_escaper.specs.model.Elements.{front_by, items_from}
+use Rattle.rustc_literal_escaper.specs.model.Single.{read_single}
 
 -- what is read of whatever the grammar allows, where it allows something, is the only one
 pub only-read : {A : Type 0} (Allows : A → Type 0) (answer : A) → ((other : A) → Allows other → answer ≡ other)

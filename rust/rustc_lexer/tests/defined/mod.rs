@@ -3,8 +3,8 @@
 
 use crate::made::{counts, edit, token};
 use rustc_lexer::{
-    Checked, Edit, EditError, EditStop, Edition, LexedDocument, LexedText, Relexed, Stepper, Steps,
-    Stopped, Token, TokenKind, strip_shebang, tokenize_document, tokenize_in,
+    Checked, Edit, EditError, EditSequenceError, EditStop, Edition, LexedDocument, LexedText,
+    Relexed, Stepper, Steps, Token, TokenKind, strip_shebang, tokenize_document, tokenize_in,
 };
 
 /// The grammar of an edition, or of `looking`.
@@ -128,11 +128,11 @@ fn of_edit(text: &str, old: &Layout, new: &Layout, edit: &Edit<'_>) -> (Relexed,
         true => old.head + before[old.head + 1..].iter().filter(is_kept).count(),
         false => 0,
     };
-    let (new_stop, first) = (edit.start + edit.insert.len(), front.max(new.head));
-    let meeting = (first..after.len()).filter(|&number| after[number] >= new_stop);
+    let (new_end, first) = (edit.start + edit.insert.len(), front.max(new.head));
+    let meeting = (first..after.len()).filter(|&number| after[number] >= new_end);
     let met = meeting.into_iter().find_map(|number| {
         let old_number = before
-            .binary_search(&(after[number] - new_stop + edit.stop))
+            .binary_search(&(after[number] - new_end + edit.stop))
             .ok()?;
         (old_number >= old.head).then_some((number, old_number))
     });
@@ -147,7 +147,7 @@ pub struct Made {
     pub text: String,
     pub layout: Layout,
     pub steps: usize,
-    pub answer: Result<Relexed, Stopped>,
+    pub answer: Result<Relexed, EditSequenceError>,
 }
 
 pub fn is_inside(text: &str, edit: &Edit<'_>) -> bool {
@@ -176,7 +176,7 @@ pub fn of_list<K: Kept>(text: &str, language: Language, edits: &[Edit<'_>]) -> M
     let new = layout.tokens.len();
     back = back.min(old.min(new) - front);
     let relexed = counts(front, new - front - back, back);
-    let answer = stop.map_or(Ok(relexed), |stop| Err(Stopped { stop, relexed }));
+    let answer = stop.map_or(Ok(relexed), |stop| Err(EditSequenceError { stop, relexed }));
     Made {
         text,
         layout,
@@ -226,17 +226,17 @@ pub fn of_other<K: Kept>(text: &str, language: Language, other: &str) -> Made {
     of_list::<K>(text, language, &[edit(start, text.len() - back, insert)])
 }
 
-pub type Part = LexedText<Checked<Counting>>;
-pub type Whole = LexedDocument<Checked<Counting>>;
+pub type Fragment = LexedText<Checked<Counting>>;
+pub type Document = LexedDocument<Checked<Counting>>;
 
 /// A `LexedText` or `LexedDocument` with a stepper that counts.
 pub trait Kept: Clone {
     fn held(text: &str, language: Language) -> Self;
     fn layout(text: &str, language: Language) -> Layout;
     fn steps(&self) -> usize;
-    fn edit_each(&mut self, edits: &[Edit<'_>]) -> Result<Relexed, Stopped>;
+    fn edit_sequence(&mut self, edits: &[Edit<'_>]) -> Result<Relexed, EditSequenceError>;
     fn edit_all(&mut self, edits: &[Edit<'_>]) -> Result<(), EditStop>;
-    fn edit_at_once(&mut self, edits: &[Edit<'_>]) -> Result<Relexed, EditStop>;
+    fn edit_batch(&mut self, edits: &[Edit<'_>]) -> Result<Relexed, EditStop>;
     fn try_edit(&mut self, edit: &Edit<'_>) -> Result<Relexed, EditError>;
     fn try_set_text(&mut self, text: &str) -> Result<Relexed, EditError>;
     /// Asserts that text, tokens and look-ups are those of the text.
@@ -258,14 +258,14 @@ macro_rules! kept {
             fn steps(&self) -> usize {
                 self.stepper().1
             }
-            fn edit_each(&mut self, edits: &[Edit<'_>]) -> Result<Relexed, Stopped> {
-                self.edit_each(edits)
+            fn edit_sequence(&mut self, edits: &[Edit<'_>]) -> Result<Relexed, EditSequenceError> {
+                self.edit_sequence(edits)
             }
             fn edit_all(&mut self, edits: &[Edit<'_>]) -> Result<(), EditStop> {
                 self.edit_all(edits)
             }
-            fn edit_at_once(&mut self, edits: &[Edit<'_>]) -> Result<Relexed, EditStop> {
-                self.edit_at_once(edits)
+            fn edit_batch(&mut self, edits: &[Edit<'_>]) -> Result<Relexed, EditStop> {
+                self.edit_batch(edits)
             }
             fn try_edit(&mut self, edit: &Edit<'_>) -> Result<Relexed, EditError> {
                 self.try_edit(edit.start..edit.stop, edit.insert)

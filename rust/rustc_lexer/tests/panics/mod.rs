@@ -1,4 +1,4 @@
-//! Where a call panics, and its message. Also for the package `marks`.
+//! Where a call panics, and its message. Also for the package `rustc_lexer_highlight`.
 #![allow(dead_code, unused_macros)] // not each test uses all of it
 
 use std::cell::Cell;

@@ -40,7 +40,7 @@ fn texts<M: Copy>(entries: &[Entry<M>]) -> Vec<Text<M>> {
         (Vec::new(), String::new(), Vec::new(), Vec::new());
     for entry in entries {
         match *entry {
-            Entry::Part(part, times) => {
+            Entry::Fragment(part, times) => {
                 text += &part.repeat(times as usize);
                 tokens.extend(each.repeat(times as usize));
                 each.clear();
@@ -79,7 +79,7 @@ fn tokens() {
     for case in cases {
         let mut left = match case.way {
             Way::Newest(allowed) => tokenize(&case.text, allowed),
-            Way::Part(edition) => tokenize_in(&case.text, edition),
+            Way::Fragment(edition) => tokenize_in(&case.text, edition),
             Way::Document(edition) => tokenize_as(&case.text, FrontmatterAllowed::Yes, edition),
         };
         let shown: String = case.text.chars().take(40).collect();

@@ -1,6 +1,6 @@
 use Rattle.std.proofs.Common.{length}
 use Rattle.std.specs.Fmt.{WritesInCalls}
-use Rattle.rustc_lexer.specs.Kept.{pieces_from}
+use Rattle.rustc_lexer.specs.LexedText.{pieces_from}
 use Rattle.examples.specs.Repaint.{changed, styled}
 use Rattle.examples.proofs.repaint.repaint.Given as goal
 

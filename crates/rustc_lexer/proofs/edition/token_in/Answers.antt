@@ -1,5 +1,5 @@
 use Rattle.std.proofs.Common.{sym, ap, ◌∙◌, subst}
-use Rattle.rustc_lexer.specs.means.{Edition.{first_token_in}, Quick.{BeginsWithNoHash}}
+use Rattle.rustc_lexer.specs.model.{Edition.{first_token_in}, Quick.{BeginsWithNoHash}}
 use Rattle.rustc_lexer.proofs.edition.token_in.Goals as goal
 
 pub returns-in-Some-clause-token : goal.returns-in-Some-clause-token

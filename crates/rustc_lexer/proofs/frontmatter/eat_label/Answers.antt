@@ -1,5 +1,5 @@
 use Rattle.rustc_lexer.specs.Classes.{is_horizontal_whitespace}
-use Rattle.rustc_lexer.specs.{means.Frontmatter.{blanks_len, infostring_len, then_len}, laws.Frontmatter.{past-then}}
+use Rattle.rustc_lexer.specs.{model.Frontmatter.{blanks_len, infostring_len, then_len}, laws.Frontmatter.{past-then}}
 use Rattle.rustc_lexer.proofs.frontmatter.eat_label.Goals as goal
 
 pub returns-clause-past : goal.returns-clause-past

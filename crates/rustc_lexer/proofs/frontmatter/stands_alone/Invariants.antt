@@ -1,5 +1,5 @@
 use Rattle.std.proofs.Common.{◌≡◌, ◌≤◌, ◌-◌, true, drop, take}
-use Rattle.rustc_lexer.specs.means.Frontmatter.{blank_over}
+use Rattle.rustc_lexer.specs.model.Frontmatter.{blank_over}
 use Rattle.rustc_lexer.proofs.frontmatter.stands_alone.Given as goal
 
 abbrev pub invariant-blanks : goal.invariant-blanks

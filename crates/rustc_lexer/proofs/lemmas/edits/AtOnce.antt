@@ -11,7 +11,7 @@ use Rattle.rustc_lexer.specs.Edits.{AreAtOnce, AreInOrder, IsInside, apply, appl
 use Rattle.rustc_lexer.specs.Edits.{with_all}
 use Rattle.rustc_lexer.specs.declared.{relex.checkpoints.Checkpoints.{Checkpoints}, head.Head.{Head}}
 use Rattle.rustc_lexer.specs.{declared.relex.relexing.Change.{Change}, Token, Classes.{IsText}, Partition.{Layout}}
-use Rattle.rustc_lexer.specs.means.Document.{AreKeptOf, IsPut, edit_change}
+use Rattle.rustc_lexer.specs.model.Document.{AreKeptOf, IsPut, edit_change}
 use Rattle.rustc_lexer.proofs.lemmas.edits.{Lists.{apply-last, none}, DocumentEdits.{put_by}}
 
 pub order-last : (text : List ℕ) (from : ℕ) (es : List Edit) (e : Edit)

@@ -8,7 +8,7 @@ use Rattle.std.proofs.lemmas.Grind.{common_steps}
 use Rattle.rustc_lexer.specs.declared.relex.{front.{Damage.Damage, TokenStart.TokenStart}, relexing.Change.{Change}}
 use Rattle.rustc_lexer.specs.{Token, Eof, Tokens.{bound, tokens_by}, Edits.{apply}, Offsets.{IsBound}}
 use Rattle.rustc_lexer.specs.Relexing.{IsChange, IsEditOf, IsMadeOf}
-use Rattle.rustc_lexer.specs.means.Relexing.{IsFollowed, IsFront, IsLast, damage_of, HasLengths}
+use Rattle.rustc_lexer.specs.model.Relexing.{IsFollowed, IsFront, IsLast, damage_of, HasLengths}
 use Rattle.rustc_lexer.specs.{Locality.{IsGrammar, has_two}, Classes.{IsText}}
 use Rattle.rustc_lexer.proofs.lemmas.edits.Bounds.{bound-last, bound_mono, cuts, rises}
 use Rattle.rustc_lexer.proofs.lemmas.edits.FrontAndBack.{edited, has_two-late, has_two-same}
@@ -70,24 +70,24 @@ module _ {first : List ℕ → Token} (law : IsGrammar first) {before lengths in
   made_front = grind (arith, common_steps, cuts, edited is.edit_of)
 
   -- the end of the text, moved back, is the end of the old tokens
-  end_last : (offset : ℕ) → offset ≡ length text → IsLast old (offset - change.new_stop + change.old_stop)
+  end_last : (offset : ℕ) → offset ≡ length text → IsLast old (offset - change.new_end + change.old_end)
   end_last offset at =
       grind (arith, (edited is.edit_of).len, bound-last law before is.edit_of.is_text, rises, bound_mono)
 
   -- how far the old tokens are followed for an offset, from a bound before that
   pub follows : {damage : Damage} {from back : TokenStart} {met : Bool} (offset : ℕ) → damage ≡ damage_of text change
       → IsBound old from
-      → ((k : ℕ) → k < from.index → bound old k + change.new_stop < max change.new_stop offset + change.old_stop)
+      → ((k : ℕ) → k < from.index → bound old k + change.new_end < max change.new_end offset + change.old_end)
       → (lengths ≡ map (λ (t : Token). t.len) old → IsBound old from
-      → ((k : ℕ) → k < from.index → bound old k + damage.past < max damage.past offset + damage.old_stop)
-      → (offset ≡ damage.end → IsLast old (offset - damage.past + damage.old_stop))
-      → IsFollowed old damage.old_stop damage.past offset back met)
-      → IsFollowed old change.old_stop change.new_stop offset back met
+      → ((k : ℕ) → k < from.index → bound old k + damage.past < max damage.past offset + damage.old_end)
+      → (offset ≡ damage.end → IsLast old (offset - damage.past + damage.old_end))
+      → IsFollowed old damage.old_end damage.past offset back met)
+      → IsFollowed old change.old_end change.new_end offset back met
   follows {damage} {from} {back} {met} offset e at passed follow =
       subst (λ (d : Damage).
-      (IsBound old from → ((k : ℕ) → k < from.index → bound old k + d.past < max d.past offset + d.old_stop)
-      → (offset ≡ d.end → IsLast old (offset - d.past + d.old_stop))
-      → IsFollowed old d.old_stop d.past offset back met)) e (follow is.lengths_are) at passed (end_last offset)
+      (IsBound old from → ((k : ℕ) → k < from.index → bound old k + d.past < max d.past offset + d.old_end)
+      → (offset ≡ d.end → IsLast old (offset - d.past + d.old_end))
+      → IsFollowed old d.old_end d.past offset back met)) e (follow is.lengths_are) at passed (end_last offset)
 
 -- the offset past a token
 pub step_offset : {first : List ℕ → Token} (law : IsGrammar first) (text : List ℕ) (at : ℕ) (token : Token)
@@ -114,13 +114,13 @@ unfolding apply
 made_change {text} {insert} {new} {change} e =
     let inside = e.is_edit.inside in
     let front : List ℕ = take change.start text in
-    let back : List ℕ = drop change.old_stop text in
+    let back : List ℕ = drop change.old_end text in
     let short : length front ≡ change.start =
     length-take-le change.start text (omega (arith, inside.start_le_stop, inside.stop_inside)) in
-    let back_utf8 : IsUtf8 back = IsUtf8-drop text change.old_stop e.is_text.utf8 inside.stop_boundary in
-    let next : length (front ++ insert) ≡ change.new_stop =
-    omega (arith, length-append front insert, short, e.new_stop) in
-    let stop_boundary : IsCharBoundary new change.new_stop =
+    let back_utf8 : IsUtf8 back = IsUtf8-drop text change.old_end e.is_text.utf8 inside.stop_boundary in
+    let next : length (front ++ insert) ≡ change.new_end =
+    omega (arith, length-append front insert, short, e.new_end) in
+    let stop_boundary : IsCharBoundary new change.new_end =
     subst (IsCharBoundary new) next
     (IsCharBoundary-at_seam new (front ++ insert) back (e.made ∙ sym (append_assoc front insert back)) back_utf8) in
     record {

@@ -9,12 +9,12 @@ use Rattle.std.proofs.lemmas.Grind.{common_steps}
 use Rattle.rustc_lexer.specs.declared.relex.{checkpoints.Checkpoints.{Checkpoints}, front.TokenStart.{TokenStart}}
 use Rattle.rustc_lexer.specs.declared.head.Head.{Head}
 use Rattle.rustc_lexer.specs.{declared.relex.relexing.{Change.Change, Relexed.Relexed, Relexing.Relexing}, Token}
-use Rattle.rustc_lexer.specs.means.Document.{body_change, body_insert, counted, IsHeadIn, IsPut, tokens_of_head}
-use Rattle.rustc_lexer.specs.means.Document.{AreKeptOf, TakesFew, edit_change, text_left}
-use Rattle.rustc_lexer.specs.{Partition.{Layout, tokens_in}, Kept.{AreKept, Held, HasStepCount, IsEdited, layout_in}}
+use Rattle.rustc_lexer.specs.model.Document.{body_change, body_insert, counted, IsHeadIn, IsPut, tokens_of_head}
+use Rattle.rustc_lexer.specs.model.Document.{AreKeptOf, TakesFew, edit_change, text_left}
+use Rattle.rustc_lexer.specs.{Partition.{Layout, tokens_in}, LexedText.{AreKept, Held, HasStepCount, IsEdited, layout_in}}
 use Rattle.rustc_lexer.specs.{Offsets.{IsBound}, Relexing.{IsMadeOf, known, IsEditOf}, Locality.{IsGrammar}}
-use Rattle.rustc_lexer.specs.{Tokens.{tokens_by}, means.Checkpoints.{AreBounds, IsMovable, IsReplaced, end_of}}
-use Rattle.rustc_lexer.specs.means.Relexing.{IsLexed, kept_front}
+use Rattle.rustc_lexer.specs.{Tokens.{tokens_by}, model.Checkpoints.{AreBounds, IsMovable, IsReplaced, end_of}}
+use Rattle.rustc_lexer.specs.model.Relexing.{IsLexed, kept_front}
 use Rattle.rustc_lexer.proofs.lemmas.edits.{Bounds.{tokens_le_bytes}, Checkpoints.{movable_for}, FrontAndBack.{edited}}
 use Rattle.rustc_lexer.proofs.lemmas.edits.{Heads.{all_are, head_in}, KeptFront.{kept_none}}
 use Rattle.rustc_lexer.proofs.lemmas.edits.{UnderWay.{kept_old, lexed_whole, rest_met}, WholeEdits.{body_made, few_by}}
@@ -190,7 +190,7 @@ pub few_none : {first : List ℕ → Token} (law : IsGrammar first) (whole : Boo
     → TakesFew (layout_in whole first) text start stop insert before before
 few_none law whole text insert start stop before is its edit =
     let e : IsEditOf text (edit_change start stop insert) insert (apply text start stop insert) =
-    record { is_text = is; inserted = its; is_edit = edit; made = refl; new_stop = refl } in
+    record { is_text = is; inserted = its; is_edit = edit; made = refl; new_end = refl } in
     let old = head_in whole text is in
     let now = head_in whole (apply text start stop insert) (edited e).text_is in
     few_by law e old.1 now.1 (stays_by old.0 now.0 start (is_same_head old.0 now.0) (decided_head _ old.0 now.0 refl))
@@ -211,7 +211,7 @@ put_by {insert = insert} {start = start} {stop = stop} kept utf8 valid made_is r
     is_edit = valid;
     made = made_is
         ∙ ap (λ (bytes : List ℕ). apply bytes start stop insert) reserved_is;
-    new_stop = refl;
+    new_end = refl;
   };
 }
 

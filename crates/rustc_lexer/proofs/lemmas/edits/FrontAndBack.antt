@@ -20,12 +20,12 @@ IfErr-always r w1 = grind (arith, common_steps)
 
 -- the edited text: its parts
 pub record IsEdited (text : List ℕ) (edit : Change) (new : List ℕ) : Type 0 where
-  pub start_le_old : edit.start ≤ edit.old_stop
-  pub old_inside : edit.old_stop ≤ length text
-  pub start_le_new : edit.start ≤ edit.new_stop
-  pub len : length new + edit.old_stop ≡ length text + edit.new_stop
+  pub start_le_old : edit.start ≤ edit.old_end
+  pub old_inside : edit.old_end ≤ length text
+  pub start_le_new : edit.start ≤ edit.new_end
+  pub len : length new + edit.old_end ≡ length text + edit.new_end
   pub front : take edit.start new ≡ take edit.start text
-  pub back : drop edit.new_stop new ≡ drop edit.old_stop text
+  pub back : drop edit.new_end new ≡ drop edit.old_end text
   pub text_is : IsText new
 
 pub edited : {text insert new : List ℕ} {edit : Change} → IsEditOf text edit insert new → IsEdited text edit new
@@ -34,34 +34,34 @@ edited {text} {insert} {new} {edit} e =
     let inside = e.is_edit.inside in
     let start : ℕ = edit.start in
     let front : List ℕ = take start text in
-    let back : List ℕ = drop edit.old_stop text in
+    let back : List ℕ = drop edit.old_end text in
     let first : length front ≡ start =
     length-take-le start text (omega (arith, inside.start_le_stop, inside.stop_inside)) in
-    let long : length new ≡ start + (length insert + (length text - edit.old_stop)) =
+    let long : length new ≡ start + (length insert + (length text - edit.old_end)) =
     omega (
       arith,
       ap length e.made,
       length-append front (insert ++ back),
       length-append insert back,
-      length-drop edit.old_stop text,
+      length-drop edit.old_end text,
       first,
     ) in
     record {
       start_le_old = inside.start_le_stop;
       old_inside = inside.stop_inside;
-      start_le_new = omega (arith, e.new_stop);
-      len = omega (arith, long, e.new_stop, inside.stop_inside);
+      start_le_new = omega (arith, e.new_end);
+      len = omega (arith, long, e.new_end, inside.stop_inside);
       front = ap (take start) e.made ∙ take_at front (insert ++ back) start first;
       back = rw (
         e.made,
-        e.new_stop,
+        e.new_end,
         sym (drop-drop (length insert) start (front ++ (insert ++ back))),
         drop_at front (insert ++ back) start first,
       )
           (drop_at insert back (length insert) refl);
       text_is = record {
         utf8 = rw e.made (IsUtf8-append _ _ (IsUtf8-take text start e.is_text.utf8 inside.start_boundary)
-            (IsUtf8-append _ _ e.inserted (IsUtf8-drop text edit.old_stop e.is_text.utf8 inside.stop_boundary)));
+            (IsUtf8-append _ _ e.inserted (IsUtf8-drop text edit.old_end e.is_text.utf8 inside.stop_boundary)));
         fits = omega (arith, long, e.is_edit.short, inside.start_le_stop, inside.stop_inside);
       };
     }
@@ -148,17 +148,17 @@ module _ {first : List ℕ → Token} (law : IsGrammar first) {text insert new :
       (has_two-agree text new offset edit.start middle (edited e).front has)
 
   -- past the edit both texts have the same rest
-  pub same_rest : (p : ℕ) → edit.new_stop ≤ p → drop p new ≡ drop (p - edit.new_stop + edit.old_stop) text
+  pub same_rest : (p : ℕ) → edit.new_end ≤ p → drop p new ≡ drop (p - edit.new_end + edit.old_end) text
   same_rest p past =
-      let n : ℕ = p - edit.new_stop in
-      let here : edit.new_stop + n ≡ p = omega arith in
-      let there : edit.old_stop + n ≡ n + edit.old_stop = omega arith in
-      ap (λ q. drop q new) (sym here) ∙ (sym (drop-drop n edit.new_stop new)
-      ∙ (ap (drop n) (edited e).back ∙ (drop-drop n edit.old_stop text ∙ ap (λ q. drop q text) there)))
+      let n : ℕ = p - edit.new_end in
+      let here : edit.new_end + n ≡ p = omega arith in
+      let there : edit.old_end + n ≡ n + edit.old_end = omega arith in
+      ap (λ q. drop q new) (sym here) ∙ (sym (drop-drop n edit.new_end new)
+      ∙ (ap (drop n) (edited e).back ∙ (drop-drop n edit.old_end text ∙ ap (λ q. drop q text) there)))
 
   -- the meeting: from a bound past the edit that, moved back, is a bound of the old text, the tokens are the old ones
-  pub met_rest : (j i : ℕ) → edit.new_stop ≤ bound (tokens_by first new) j
-      → bound (tokens_by first text) i + edit.new_stop ≡ bound (tokens_by first new) j + edit.old_stop
+  pub met_rest : (j i : ℕ) → edit.new_end ≤ bound (tokens_by first new) j
+      → bound (tokens_by first text) i + edit.new_end ≡ bound (tokens_by first new) j + edit.old_end
       → drop j (tokens_by first new) ≡ drop i (tokens_by first text)
   met_rest j i past met =
       let same : drop (bound (tokens_by first new) j) new ≡ drop (bound (tokens_by first text) i) text =
@@ -250,10 +250,10 @@ three_parts text start stop less =
 
 -- what was taken out is put back
 pub put_back : {text insert new : List ℕ} {edit : Change} → IsEditOf text edit insert new
-    → apply new edit.start edit.new_stop (slice_range text edit.start edit.old_stop) ≡ text
+    → apply new edit.start edit.new_end (slice_range text edit.start edit.old_end) ≡ text
 unfolding apply
 put_back {text} {insert} {new} {edit} e =
-    rw ((edited e).front, (edited e).back) (three_parts text edit.start edit.old_stop (edited e).start_le_old)
+    rw ((edited e).front, (edited e).back) (three_parts text edit.start edit.old_end (edited e).start_le_old)
 
 pub OnOk-map : {X Y : Type 0} {P Q : Type 0} (r : Result X Y) → (P → Q) → OnOk r P → OnOk r Q
 OnOk-map r w1 w2 = grind (arith, common_steps)

@@ -5,7 +5,7 @@ use Rattle.std.proofs.Common.{slice_range, refl, sym, ap, ap₂, ◌∙◌, subs
 use Rattle.std.proofs.Common.{drop_at, length-append, length-drop, length-take, length-take-le, IsUtf8, IsCharBoundary}
 use Rattle.std.proofs.lemmas.{List.{drop-take, Folds.{drop_split}}, Slice.Eq.{bytes_eq-Decides}}
 use Rattle.std.proofs.{lemmas.Str.{IsCharBoundary-from_take, IsCharBoundary-start, IsUtf8-take}, Math.Seq.{take-add}}
-use Rattle.rustc_lexer.specs.{Edits.{IsNarrowest, Makes, apply}, means.Relexing.{IsSameBack, IsSameFront}}
+use Rattle.rustc_lexer.specs.{Edits.{IsNarrowest, Makes, apply}, model.Relexing.{IsSameBack, IsSameFront}}
 use Rattle.rustc_lexer.proofs.lemmas.edits.FrontAndBack.{three_parts}
 
 -- ---- the front

@@ -6,12 +6,12 @@ use Rattle.std.proofs.{Math.Seq.{drop-append_seam}, lemmas.{Bool.{cases_lt}, Lis
 use Rattle.std.proofs.lemmas.{Str.{IsCharBoundary-from_rest}, Grind.{common_steps}}
 use Rattle.rustc_lexer.specs.declared.relex.{checkpoints.Checkpoints.{Checkpoints}, front.TokenStart.{TokenStart}}
 use Rattle.rustc_lexer.specs.{declared.head.Head.{Head}, Token, Classes.{IsText}, Offsets.{IsBound}}
-use Rattle.rustc_lexer.specs.{means.Checkpoints.{IsBoundFrom}, Locality.{IsGrammar}, Tokens.{bound, tokens_by}}
-use Rattle.rustc_lexer.specs.{means.Document.{AreKeptOf, tokens_of_head}, Partition.{Layout}, means.Pieces.{AreCut}}
+use Rattle.rustc_lexer.specs.{model.Checkpoints.{IsBoundFrom}, Locality.{IsGrammar}, Tokens.{bound, tokens_by}}
+use Rattle.rustc_lexer.specs.{model.Document.{AreKeptOf, tokens_of_head}, Partition.{Layout}, model.Pieces.{AreCut}}
 use Rattle.rustc_lexer.proofs.lemmas.edits.Bounds.{bound-last, bound_mono, cuts, rest_is}
 use Rattle.rustc_lexer.proofs.lemmas.{heads.ByTokens.{bound-append}, edits.FrontAndBack.{bound-same}}
 use Rattle.rustc_lexer.proofs.lemmas.edits.{Heads.{all_are as tokens_are, start_is}, KeptFront.{bound-shift}}
-use Rattle.rustc_lexer.specs.Kept.{Held, layout_in, start_in}
+use Rattle.rustc_lexer.specs.LexedText.{Held, layout_in, start_in}
 
 module _ {first : List ℕ → Token} (law : IsGrammar first) {layout : (List ℕ → Token) → List ℕ → Layout} (text : List ℕ)
     (tokens : List Token) (head : Head) (checkpoints : Checkpoints)

@@ -10,9 +10,9 @@ use Rattle.rustc_lexer.specs.declared.relex.edit_list.EditStop.{EditStop, TheVar
 use Rattle.rustc_lexer.specs.declared.relex.relexing.Relexed.{Relexed}
 use Rattle.rustc_lexer.specs.Edits.{IsEdit, IsRelexed, applied, apply, apply_list, count_after, AreEdits, AreRelexed}
 use Rattle.rustc_lexer.specs.Edits.{AreStepped, IsGreatest, IsRefusedOn, IsStop, IsStopStepped, stop_at}
-use Rattle.rustc_lexer.specs.Kept.{HaveStepCounts, AreKept, AreKeptThrough, AreMade, Held, HasStepCount, IsEdited}
+use Rattle.rustc_lexer.specs.LexedText.{HaveStepCounts, AreKept, AreKeptThrough, AreMade, Held, HasStepCount, IsEdited}
 use Rattle.rustc_lexer.specs.Partition.{Layout, tokens_in}
-use Rattle.rustc_lexer.specs.means.EditList.{AreLeast, StayAtEnds, AreKeptTo, AreMadeTo}
+use Rattle.rustc_lexer.specs.model.EditList.{AreLeast, StayAtEnds, AreKeptTo, AreMadeTo}
 use Rattle.rustc_lexer.specs.declared.relex.lexed.edits.Made.{Made}
 
 pub apply-last : (text : List ℕ) (es : List Edit) (e : Edit) → apply_list text (es ++ e ∷ []) ≡

@@ -5,7 +5,7 @@ use Rattle.std.proofs.lemmas.{Bool.{cases_lt, eqb-false, eqb-true}, Grind.{commo
 use Rattle.rustc_lexer.specs.{declared.relex.relexing.{Change.Change, Relexed.Relexed}, Token}
 use Rattle.rustc_lexer.specs.Edits.{IsMeeting, IsRelexedTo, part_by, body_in, IsRelexed, offset_in}
 use Rattle.rustc_lexer.specs.{Relexing.{IsEditOf}, Locality.{IsGrammar}, Tokens.{bound, tokens_by}}
-use Rattle.rustc_lexer.specs.means.Relexing.{kept_front}
+use Rattle.rustc_lexer.specs.model.Relexing.{kept_front}
 use Rattle.rustc_lexer.proofs.lemmas.edits.{Bounds.{bound-last, cuts}, FrontAndBack.{edited, kept_same}}
 use Rattle.rustc_lexer.proofs.lemmas.edits.KeptFront.{kept_few, kept_tells, bound-shift}
 use Rattle.std.proofs.Math.Seq.{drop-append_seam}
@@ -22,17 +22,17 @@ bare tokens = record { start = 0; head = []; body = tokens }
 -- the counts of an edit, by the text that it made
 pub counts_of : (layout : List ℕ → Layout) {text insert made : List ℕ} {edit : Change} → IsEditOf text edit insert made
     → (r : Relexed)
-    → IsRelexed layout text edit.start edit.old_stop insert r
-    ↔ IsRelexedTo (layout text) (layout made) text edit.start edit.old_stop edit.new_stop r
-counts_of layout e r = (λ c. rw (e.made, e.new_stop) c, λ c. rw (sym e.made, sym e.new_stop) c)
+    → IsRelexed layout text edit.start edit.old_end insert r
+    ↔ IsRelexedTo (layout text) (layout made) text edit.start edit.old_end edit.new_end r
+counts_of layout e r = (λ c. rw (e.made, e.new_end) c, λ c. rw (sym e.made, sym e.new_end) c)
 
 -- ---- a text with a head: the bodies meet where all tokens do, as `more` is how far both bodies begin past the edit
 
-module _ (old new : Layout) (stop new_stop more body_stop new_body_stop : ℕ)
-    (old_more : body_stop + body_in old ≡ stop + more) (new_more : new_body_stop + body_in new ≡ new_stop + more)
-    (least : (other : ℕ) → body_in old ≤ stop + other → body_in new ≤ new_stop + other → more ≤ other) where
+module _ (old new : Layout) (stop new_end more body_stop new_body_stop : ℕ)
+    (old_more : body_stop + body_in old ≡ stop + more) (new_more : new_body_stop + body_in new ≡ new_end + more)
+    (least : (other : ℕ) → body_in old ≤ stop + other → body_in new ≤ new_end + other → more ≤ other) where
   pub meets : (number back : ℕ) → IsMeeting (bare old.body) (bare new.body) body_stop new_body_stop number back
-      → IsMeeting old new stop new_stop (length new.head + number) back
+      → IsMeeting old new stop new_end (length new.head + number) back
   meets number back m =
       grind (
         arith,
@@ -44,7 +44,7 @@ module _ (old new : Layout) (stop new_stop more body_stop new_body_stop : ℕ)
         length-append,
       )
 
-  pub meets_behind : (number back : ℕ) → IsMeeting old new stop new_stop number back
+  pub meets_behind : (number back : ℕ) → IsMeeting old new stop new_end number back
       → IsMeeting (bare old.body) (bare new.body) body_stop new_body_stop (number - length new.head) back
   meets_behind number back m =
       let old_head = m.past_old_head in
@@ -56,8 +56,8 @@ module _ (old new : Layout) (stop new_stop more body_stop new_body_stop : ℕ)
       ap (offset_in new) (sym n) ∙ offset-behind new (number - length new.head) in
       let old_at : offset_in old m.old_number ≡ body_in old + bound old.body (m.old_number - length old.head) =
       ap (offset_in old) (sym i) ∙ offset-behind old (m.old_number - length old.head) in
-      let far : more ≤ offset_in new number - new_stop =
-      least (offset_in new number - new_stop) (omega (arith, same, past, old_at)) (omega (arith, past, at)) in
+      let far : more ≤ offset_in new number - new_end =
+      least (offset_in new number - new_end) (omega (arith, same, past, old_at)) (omega (arith, past, at)) in
       record {
         number_inside = (let few = m.number_inside in omega (arith, few, length-append new.head new.body));
         past_edit = omega (arith, far, past, at, new_more);
@@ -122,11 +122,11 @@ first_or_none P decided (suc n) k = by_first (decided k) (first_or_none P decide
         )
     by_first (inr none) (inr all) = inr (λ i le less p. all i (past none le p) (omega (arith, less)) p)
 
-module _ (old new : List Token) (stop new_stop number : ℕ) where
+module _ (old new : List Token) (stop new_end number : ℕ) where
   abbrev At : ℕ → Type 0
-  At i = (number ≤ length new) × (new_stop ≤ bound new number) × (bound new number + stop ≡ bound old i + new_stop)
+  At i = (number ≤ length new) × (new_end ≤ bound new number) × (bound new number + stop ≡ bound old i + new_end)
 
-  pub meets_or_not : Decided ((back : ℕ) × IsMeeting (bare old) (bare new) stop new_stop number back)
+  pub meets_or_not : Decided ((back : ℕ) × IsMeeting (bare old) (bare new) stop new_end number back)
   meets_or_not = elim (first_or_none At (λ i. all (at_most _ _) (at_most _ _) (numbers _ _)) (suc (length old)) 0) [
     | inl at ↦ let m = at.2.holds in
         inl (
@@ -173,7 +173,7 @@ module _ {first : List ℕ → Token} (law : IsGrammar first) {text insert new_t
       omega (arith, few, length-take kept new, length-take kept old)
 
   abbrev Meets : ℕ → ℕ → Type 0
-  Meets = IsMeeting (part_by first text) (part_by first new_text) edit.old_stop edit.new_stop
+  Meets = IsMeeting (part_by first text) (part_by first new_text) edit.old_end edit.new_end
 
   -- both ends meet
   pub ends_meet : Meets (length new) 0
@@ -193,8 +193,8 @@ module _ {first : List ℕ → Token} (law : IsGrammar first) {text insert new_t
 
   -- so there are counts of it
   pub relexed_is : (r : Relexed)
-      × IsRelexedTo (part_by first text) (part_by first new_text) text edit.start edit.old_stop edit.new_stop r
-  relexed_is = elim (first_or_none (λ j. (back : ℕ) × Meets j back) (meets_or_not old new edit.old_stop edit.new_stop)
+      × IsRelexedTo (part_by first text) (part_by first new_text) text edit.start edit.old_end edit.new_end r
+  relexed_is = elim (first_or_none (λ j. (back : ℕ) × Meets j back) (meets_or_not old new edit.old_end edit.new_end)
       (suc (length new - kept)) kept) [
         | inl at ↦
             let is = at.2 in

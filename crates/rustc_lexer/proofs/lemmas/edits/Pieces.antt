@@ -4,7 +4,7 @@ use Rattle.std.proofs.Common.{refl, sym, ap, ◌∙◌, subst, arith, length-app
 use Rattle.std.proofs.Common.{take-take, IsCharBoundary, Option, Some, None, IfSome, IsSome}
 use Rattle.std.proofs.lemmas.{Grind.{common_steps}, List.{take-append-le}}
 use Rattle.rustc_lexer.specs.{declared.relex.{front.TokenStart.TokenStart, pieces.Piece.Piece}, Token, Tokens.{bound}}
-use Rattle.rustc_lexer.specs.{means.Pieces.{AreBoundariesFrom, AreCut}, Kept.{Placed, YieldsPiece, pieces_from, placed}}
+use Rattle.rustc_lexer.specs.{model.Pieces.{AreBoundariesFrom, AreCut}, LexedText.{Placed, YieldsPiece, pieces_from, placed}}
 use Rattle.rustc_lexer.specs.Offsets.{ContainsByte}
 use Rattle.rustc_lexer.proofs.lemmas.edits.{Bounds.{bound-end}, FrontAndBack.{bound-same, bound-take}}
 use Rattle.rustc_lexer.proofs.lemmas.edits.KeptFront.{bound-shift}

@@ -7,28 +7,28 @@ use Rattle.rustc_lexer.specs.declared.relex.front.{Meeting.Meeting, TokenStart.T
 use Rattle.rustc_lexer.specs.{declared.relex.relexing.{Change.Change, Relexed.Relexed, Relexing.Relexing}, Token}
 use Rattle.rustc_lexer.specs.{Classes.{IsText}, Edits.{IsMeeting, IsRelexed, part_by}, Locality.{IsGrammar, has_two}}
 use Rattle.rustc_lexer.specs.{Offsets.{IsBound}, Relexing.{IsMadeOf, IsUnderWay, IsWhole, TakesSteps, known}}
-use Rattle.rustc_lexer.specs.{Tokens.{bound, tokens_by}, means.Relexing.{IsFollowed, IsLexed, kept_front}}
+use Rattle.rustc_lexer.specs.{Tokens.{bound, tokens_by}, model.Relexing.{IsFollowed, IsLexed, kept_front}}
 use Rattle.rustc_lexer.specs.laws.Cuts.{at_bound, tokens-cons}
 use Rattle.rustc_lexer.proofs.lemmas.edits.Bounds.{bound_mono, rises}
 use Rattle.rustc_lexer.proofs.lemmas.edits.FrontAndBack.{bound-same, edited, has_two-before, met_rest}
 use Rattle.rustc_lexer.proofs.lemmas.edits.KeptFront.{bound-shift}
 use Rattle.rustc_lexer.proofs.lemmas.edits.OneAnswer.{ends_meet, front_same, kept_new, bare, counts_of}
 
-module _ (old new : List Token) (old_stop new_stop number offset : ℕ) (back : TokenStart)
+module _ (old new : List Token) (old_end new_end number offset : ℕ) (back : TokenStart)
     (offset_is : offset ≡ bound new number) (bound_is : IsBound old back) where
-  meets_here : number ≤ length new → (new_stop ≤ offset) × (offset + old_stop ≡ back.offset + new_stop)
-      → IsMeeting (bare old) (bare new) old_stop new_stop number (length old - back.index)
+  meets_here : number ≤ length new → (new_end ≤ offset) × (offset + old_end ≡ back.offset + new_end)
+      → IsMeeting (bare old) (bare new) old_end new_end number (length old - back.index)
   meets_here few here = grind (arith, common_steps)
 
   -- of the old bounds, the new tokens can meet none but the one that was followed to
-  meets_there : ((k : ℕ) → k < back.index → bound old k + new_stop < max new_stop offset + old_stop)
-      → (new_stop ≤ offset → back.index < length old → offset + old_stop ≤ back.offset + new_stop)
-      → (rest : ℕ) × IsMeeting (bare old) (bare new) old_stop new_stop number rest → (new_stop ≤ offset)
-      × (offset + old_stop ≡ back.offset + new_stop)
+  meets_there : ((k : ℕ) → k < back.index → bound old k + new_end < max new_end offset + old_end)
+      → (new_end ≤ offset → back.index < length old → offset + old_end ≤ back.offset + new_end)
+      → (rest : ℕ) × IsMeeting (bare old) (bare new) old_end new_end number rest → (new_end ≤ offset)
+      × (offset + old_end ≡ back.offset + new_end)
   meets_there w0 w1 w2 = grind (arith, common_steps, cases_lt, eq-or-lt_of_le, bound_mono)
 
-  met_by : {met : Bool} → number ≤ length new → IsFollowed old old_stop new_stop offset back met → (met ≡ true)
-      ↔ ((rest : ℕ) × IsMeeting (bare old) (bare new) old_stop new_stop number rest)
+  met_by : {met : Bool} → number ≤ length new → IsFollowed old old_end new_end offset back met → (met ≡ true)
+      ↔ ((rest : ℕ) × IsMeeting (bare old) (bare new) old_end new_end number rest)
   met_by few f = (
     λ hit. (length old - back.index, meets_here few (f.met_is.0 hit)),
     λ m. f.met_is.1 (meets_there f.passed f.reached m),
@@ -36,8 +36,8 @@ module _ (old new : List Token) (old_stop new_stop number offset : ℕ) (back : 
 
 -- no old token that has not been followed is met before an offset
 abbrev pub IsClear : Change → Relexing → ℕ → Type 0
-IsClear change at end = (offset : ℕ) → at.at < offset → offset < end → change.new_stop ≤ offset
-    → (change.new_stop ≤ at.at) × (offset + change.old_stop < at.back.offset + change.new_stop)
+IsClear change at end = (offset : ℕ) → at.at < offset → offset < end → change.new_end ≤ offset
+    → (change.new_end ≤ at.at) × (offset + change.old_end < at.back.offset + change.new_end)
 
 module _ {first : List ℕ → Token} (law : IsGrammar first) {before lengths insert text : List ℕ} {change : Change}
     (is : IsMadeOf first before lengths change insert text) where
@@ -48,7 +48,7 @@ module _ {first : List ℕ → Token} (law : IsGrammar first) {before lengths in
   new = tokens_by first text
 
   abbrev Meets : ℕ → ℕ → Type 0
-  Meets = IsMeeting (part_by first before) (part_by first text) change.old_stop change.new_stop
+  Meets = IsMeeting (part_by first before) (part_by first text) change.old_end change.new_end
 
   -- the old tokens of the kept front are the new ones
   pub kept_old : (number : ℕ) → number ≡ kept_front before old change.start → (take number old ≡ take number new)
@@ -58,12 +58,12 @@ module _ {first : List ℕ → Token} (law : IsGrammar first) {before lengths in
   -- each bound before it is before the edit
   pub front_below : (kept : TokenStart) → IsBound old kept
       → (0 < kept.index → has_two before kept.offset change.start ≡ true) → (k : ℕ) → k < kept.index
-      → bound old k + change.new_stop < max change.new_stop kept.offset + change.old_stop
+      → bound old k + change.new_end < max change.new_end kept.offset + change.old_end
   front_below kept at two k less = grind (arith, common_steps, bound_mono, kept, has_two-before)
 
   pub begun : (front : TokenStart) (to : Meeting) → front.index ≡ kept_front before old change.start → IsBound old front
-      → IsFollowed old change.old_stop change.new_stop front.offset to.at to.met
-      → (front.offset < change.new_stop → to.at ≡ front)
+      → IsFollowed old change.old_end change.new_end front.offset to.at to.met
+      → (front.offset < change.new_end → to.at ≡ front)
       → IsUnderWay first before change text record {
         front = front;
         lexed = 0;
@@ -115,11 +115,11 @@ module _ {first : List ℕ → Token} (law : IsGrammar first) {before lengths in
 
     -- each bound that was passed is before a later offset too
     pub below_later : (later : ℕ) → at.at ≤ later → (k : ℕ) → k < at.back.index
-        → bound old k + change.new_stop < max change.new_stop later + change.old_stop
+        → bound old k + change.new_end < max change.new_end later + change.old_end
     below_later later le k less = omega (arith, le, u.passed k less)
 
     -- no more was lexed than the whole edit lexes
-    pub few_lexed : (r : Relexed) → IsRelexed (part_by first) before change.start change.old_stop insert r
+    pub few_lexed : (r : Relexed) → IsRelexed (part_by first) before change.start change.old_end insert r
         → at.lexed ≤ r.lexed
     few_lexed r counts =
         let c = (counts_of (part_by first) is.edit_of r).0 counts in
@@ -140,7 +140,7 @@ module _ {first : List ℕ → Token} (law : IsGrammar first) {before lengths in
 
     -- the counts are those of the edit, and the new tokens are whole
     pub counts_met : at.met ≡ true
-        → IsRelexed (part_by first) before change.start change.old_stop insert
+        → IsRelexed (part_by first) before change.start change.old_end insert
         (record { kept_front = at.front.index; lexed = at.lexed; kept_back = length old - at.back.index })
         × IsWhole old new at
     counts_met hit =
@@ -162,7 +162,7 @@ module _ {first : List ℕ → Token} (law : IsGrammar first) {before lengths in
         )
 
     -- past so many tokens
-    module _ {count : ℕ} {past : Relexing} (steps : TakesSteps first text change.new_stop at count past) where
+    module _ {count : ℕ} {past : Relexing} (steps : TakesSteps first text change.new_end at count past) where
       abbrev left : List Token
       left = tokens_by first (drop at.at text)
 
@@ -181,7 +181,7 @@ module _ {first : List ℕ → Token} (law : IsGrammar first) {before lengths in
       -- it goes on, if it met no old token on the way
       pub goes_on : at.met ≡ false
           → ((number back : ℕ) → known at < number → number < known past → Meets number back → ⊥)
-          → IsFollowed old change.old_stop change.new_stop past.at past.back past.met
+          → IsFollowed old change.old_end change.new_end past.at past.back past.met
           → IsUnderWay first before change text past
       goes_on out none followed = record {
         front = ap (λ (b : TokenStart). b.index) steps.front ∙ u.front;
@@ -234,7 +234,7 @@ module _ {first : List ℕ → Token} (law : IsGrammar first) {before lengths in
 
     -- the next token
     pub gives_next : {token : Token} {past : Relexing} → at.met ≡ false → token ≡ first (drop at.at text)
-        → TakesSteps first text change.new_stop at 1 past → drop (known at) new ≡ token ∷ drop (known past) new
+        → TakesSteps first text change.new_end at 1 past → drop (known at) new ≡ token ∷ drop (known past) new
     gives_next {token} {past} out token_is steps =
         let rest : List ℕ = drop at.at text in
         let rest_is : IsText rest =

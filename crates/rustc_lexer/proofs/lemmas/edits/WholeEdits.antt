@@ -11,8 +11,8 @@ use Rattle.rustc_lexer.specs.Edits.{body_in, ends_from, IsMeeting, IsRelexed, Is
 use Rattle.rustc_lexer.specs.Locality.{has_two, IsGrammar}
 use Rattle.rustc_lexer.specs.{Relexing.{IsEditOf, IsMadeOf, IsBodyChange, IsHeadOf, IsInBody}, Partition.{Layout}}
 use Rattle.rustc_lexer.specs.Tokens.{tokens_by}
-use Rattle.rustc_lexer.specs.means.Document.{body_change, body_insert, by_head, counted, IsHeadIn, TakesFew}
-use Rattle.rustc_lexer.specs.means.Document.{tokens_of_head}
+use Rattle.rustc_lexer.specs.model.Document.{body_change, body_insert, by_head, counted, IsHeadIn, TakesFew}
+use Rattle.rustc_lexer.specs.model.Document.{tokens_of_head}
 use Rattle.rustc_lexer.proofs.lemmas.edits.KeptFront.{kept_none}
 use Rattle.rustc_lexer.proofs.lemmas.edits.OneAnswer.{relexed_is, counts_of, meets, meets_behind}
 use Rattle.rustc_lexer.proofs.lemmas.edits.{FrontAndBack.{edited, IsEdited, same_rest}, Bounds.{count-cons, rest_is}}
@@ -55,7 +55,7 @@ module _ {first : List ℕ → Token} (law : IsGrammar first) {text insert made 
 
   -- the head stays
   kept_made : from ≡ to → from ≤ edit.start
-      → body ≡ apply (drop from text) (edit.start - from) (edit.old_stop - from) insert
+      → body ≡ apply (drop from text) (edit.start - from) (edit.old_end - from) insert
   unfolding apply
   kept_made same before =
       let a = e.is_edit.inside.start_le_stop in
@@ -64,11 +64,11 @@ module _ {first : List ℕ → Token} (law : IsGrammar first) {text insert made 
       let front : drop from (take edit.start text) ≡ take (edit.start - from) (drop from text) =
       ap (λ n. drop from (take n text)) (sym there)
       ∙ drop-take from (edit.start - from) text in
-      let back : drop edit.old_stop text ≡ drop (edit.old_stop - from) (drop from text) =
-      drop-past text from edit.old_stop (omega arith) in
+      let back : drop edit.old_end text ≡ drop (edit.old_end - from) (drop from text) =
+      drop-past text from edit.old_end (omega arith) in
       let few : from ≤ length (take edit.start text) = omega (arith, length-take-le edit.start text (omega arith)) in
       ap (λ n. drop n made) (sym same) ∙ (ap (drop from) e.made
-      ∙ (drop-append-le from (take edit.start text) (insert ++ drop edit.old_stop text) few
+      ∙ (drop-append-le from (take edit.start text) (insert ++ drop edit.old_end text) few
       ∙ ap₂ (λ xs ys. xs ++ (insert ++ ys)) front back))
 
   kept_body : from ≡ to → from ≤ edit.start
@@ -79,7 +79,7 @@ module _ {first : List ℕ → Token} (law : IsGrammar first) {text insert made 
         e.is_edit.inside.start_le_stop,
         e.is_edit.inside.stop_inside,
         e.is_edit.short,
-        e.new_stop,
+        e.new_end,
         old_text,
         length-drop,
         boundary-past,
@@ -88,17 +88,17 @@ module _ {first : List ℕ → Token} (law : IsGrammar first) {text insert made 
 
   -- it does not: up to here both differ
   abbrev past : ℕ
-  past = max (from - edit.old_stop) (to - edit.new_stop)
+  past = max (from - edit.old_end) (to - edit.new_end)
 
   abbrev old_end : ℕ
-  old_end = edit.old_stop + past
+  old_end = edit.old_end + past
 
   abbrev new_end : ℕ
-  new_end = edit.new_stop + past
+  new_end = edit.new_end + past
 
   same_back : drop new_end made ≡ drop old_end text
   same_back =
-      let there : new_end - edit.new_stop + edit.old_stop ≡ old_end = omega arith in
+      let there : new_end - edit.new_end + edit.old_end ≡ old_end = omega arith in
       same_rest law e new_end (omega arith) ∙ ap (λ n. drop n text) there
 
   ends_inside : (from ≤ old_end) × (to ≤ new_end) × (old_end ≤ length text) × (new_end ≤ length made)
@@ -116,16 +116,16 @@ module _ {first : List ℕ → Token} (law : IsGrammar first) {text insert made 
   )
 
   back_utf8 : IsUtf8 (drop old_end text)
-  back_utf8 = by_max (λ n. IsUtf8 (drop (edit.old_stop + n) text)) (from - edit.old_stop) (to - edit.new_stop)
-      (by_past (λ n. IsUtf8 (drop n text)) edit.old_stop from
-      (IsUtf8-drop text edit.old_stop e.is_text.utf8 e.is_edit.inside.stop_boundary)
+  back_utf8 = by_max (λ n. IsUtf8 (drop (edit.old_end + n) text)) (from - edit.old_end) (to - edit.new_end)
+      (by_past (λ n. IsUtf8 (drop n text)) edit.old_end from
+      (IsUtf8-drop text edit.old_end e.is_text.utf8 e.is_edit.inside.stop_boundary)
       (IsUtf8-drop text from e.is_text.utf8 old_at))
-      (let m : ℕ = to - edit.new_stop in
-      let there : edit.new_stop + m - edit.new_stop + edit.old_stop ≡ edit.old_stop + m = omega arith in
-      let same : drop (edit.new_stop + m) made ≡ drop (edit.old_stop + m) text =
-      same_rest law e (edit.new_stop + m) (omega arith) ∙ ap (λ n. drop n text) there in
-      subst IsUtf8 same (by_past (λ n. IsUtf8 (drop n made)) edit.new_stop to
-      (subst IsUtf8 (sym ed.back) (IsUtf8-drop text edit.old_stop e.is_text.utf8 e.is_edit.inside.stop_boundary))
+      (let m : ℕ = to - edit.new_end in
+      let there : edit.new_end + m - edit.new_end + edit.old_end ≡ edit.old_end + m = omega arith in
+      let same : drop (edit.new_end + m) made ≡ drop (edit.old_end + m) text =
+      same_rest law e (edit.new_end + m) (omega arith) ∙ ap (λ n. drop n text) there in
+      subst IsUtf8 same (by_past (λ n. IsUtf8 (drop n made)) edit.new_end to
+      (subst IsUtf8 (sym ed.back) (IsUtf8-drop text edit.old_end e.is_text.utf8 e.is_edit.inside.stop_boundary))
       (IsUtf8-drop made to ed.text_is.utf8 now_at)))
 
   front_body : IsMadeOf first (drop from text) lengths (body_change false from to edit) (take (new_end - to) body) body
@@ -158,7 +158,7 @@ module _ {first : List ℕ → Token} (law : IsGrammar first) {text insert made 
           inserted = IsUtf8-take body (new_end - to) body_utf8 cut;
           made = sym (take-append-drop (new_end - to) body)
               ∙ ap (λ ys. take (new_end - to) body ++ ys) (back ∙ old_back);
-          new_stop = omega (arith, long);
+          new_end = omega (arith, long);
         };
         lengths_are = refl;
       }
@@ -226,12 +226,12 @@ module _ {first : List ℕ → Token} (law : IsGrammar first) {layout : (List �
   -- how far the body's change goes past the edit
   abbrev more : Bool → ℕ
   more true = 0
-  more false = max (was.body - edit.old_stop) (now.body - edit.new_stop)
+  more false = max (was.body - edit.old_end) (now.body - edit.new_end)
 
   record IsPast (stays : Bool) : Type 0 where
-    pub old_more : (change stays).old_stop + body_in old ≡ edit.old_stop + more stays
-    pub new_more : (change stays).new_stop + body_in new ≡ edit.new_stop + more stays
-    pub least : (other : ℕ) → body_in old ≤ edit.old_stop + other → body_in new ≤ edit.new_stop + other
+    pub old_more : (change stays).old_end + body_in old ≡ edit.old_end + more stays
+    pub new_more : (change stays).new_end + body_in new ≡ edit.new_end + more stays
+    pub least : (other : ℕ) → body_in old ≤ edit.old_end + other → body_in new ≤ edit.new_end + other
         → more stays ≤ other
 
   is_past : (stays : Bool) → (stays ≡ true → (was.body ≡ now.body) × (was.body ≤ edit.start)) → IsPast stays
@@ -250,7 +250,7 @@ module _ {first : List ℕ → Token} (law : IsGrammar first) {layout : (List �
   abbrev InBody : Bool → Relexed → Type 0
   InBody stays x = IsRelexedTo (part_by first (drop was.body text)) (part_by first (drop now.body made))
       (drop was.body text) (change stays).start
-      (change stays).old_stop (change stays).new_stop x
+      (change stays).old_end (change stays).new_end x
 
   abbrev all_of : Bool → Relexed → Relexed
   all_of stays x = counted stays (length (tokens_of_head was)) (length (tokens_of_head now)) x
@@ -258,20 +258,20 @@ module _ {first : List ℕ → Token} (law : IsGrammar first) {layout : (List �
   module _ {stays : Bool} (p : IsPast stays) (r x : Relexed) (is_body : InBody stays x)
       (sum : r.kept_front + r.lexed ≡ length new.head + (x.kept_front + x.lexed))
       (back_is : r.kept_back ≡ x.kept_back) where
-    meeting : IsMeeting old new edit.old_stop edit.new_stop (r.kept_front + r.lexed) r.kept_back
-    meeting = rw (back_is, sum) (meets old new edit.old_stop edit.new_stop (more stays) (change stays).old_stop
-        (change stays).new_stop p.old_more p.new_more p.least _ _ is_body.meeting)
+    meeting : IsMeeting old new edit.old_end edit.new_end (r.kept_front + r.lexed) r.kept_back
+    meeting = rw (back_is, sum) (meets old new edit.old_end edit.new_end (more stays) (change stays).old_end
+        (change stays).new_end p.old_more p.new_more p.least _ _ is_body.meeting)
 
     none_before : (number back : ℕ) → (length new.head ≤ number → x.kept_front ≤ number - length new.head)
         → number < r.kept_front + r.lexed
-        → IsMeeting old new edit.old_stop edit.new_stop number back → ⊥
+        → IsMeeting old new edit.old_end edit.new_end number back → ⊥
     none_before number back near less m =
         is_body.none_before (number - length new.head) back (near m.past_head) (omega (arith, sum, m.past_head, less))
-        (meets_behind old new edit.old_stop edit.new_stop (more stays) (change stays).old_stop
-        (change stays).new_stop p.old_more p.new_more p.least number back m)
+        (meets_behind old new edit.old_end edit.new_end (more stays) (change stays).old_end
+        (change stays).new_end p.old_more p.new_more p.least number back m)
 
   relexed_to : (stays : Bool) → kept ≡ stays → IsPast stays → (x : Relexed) → InBody stays x
-      → IsRelexedTo old new text edit.start edit.old_stop edit.new_stop (all_of stays x)
+      → IsRelexedTo old new text edit.start edit.old_end edit.new_end (all_of stays x)
   relexed_to true same p x is_body =
       let k = (head_stays was_is now_is first edit.start refl refl).1 (decided.0 same) in
       let begin : was.body + 0 ≡ body_in old = omega (arith, body_at was_is first) in
@@ -301,13 +301,13 @@ module _ {first : List ℕ → Token} (law : IsGrammar first) {layout : (List �
       }
 
   abbrev Found : Relexed → Type 0
-  Found x = IsRelexed (part_by first) (drop was.body text) (change kept).start (change kept).old_stop put x
+  Found x = IsRelexed (part_by first) (drop was.body text) (change kept).start (change kept).old_end put x
 
   as_body : (x : Relexed) → Found x → InBody kept x
   as_body x = (counts_of (part_by first) body_made.edit_of x).0
 
   -- the counts of the body give those of all
-  pub relexed_as : (x : Relexed) → Found x → IsRelexed (layout first) text edit.start edit.old_stop insert
+  pub relexed_as : (x : Relexed) → Found x → IsRelexed (layout first) text edit.start edit.old_end insert
       (all_of kept x)
   relexed_as x found =
       let p = is_past kept (λ stays. let s = decided.0 stays in (ap (λ (h : Head). h.body) s.0, s.1)) in
@@ -327,7 +327,7 @@ module _ {first : List ℕ → Token} (law : IsGrammar first) {layout : (List �
 
   -- an edit that is refused takes no more steps than it would have
   pub few_by : (before after : ℕ) → ((x : Relexed) → Found x → after ≤ before + x.lexed)
-      → TakesFew (layout first) text edit.start edit.old_stop insert before after
+      → TakesFew (layout first) text edit.start edit.old_end insert before after
   few_by before after few =
       let counts = relexed_is law body_made.edit_of in
       let found = (counts_of (part_by first) body_made.edit_of counts.0).1 counts.1 in (
@@ -376,14 +376,14 @@ body_is {first} law before insert text edit old now kept change e old_head now_h
 
     Counted : Bool → List Token → List Token → Relexed → Type 0
     Counted k fronts new_fronts r =
-        IsRelexed (whole_by first) before edit.start edit.old_stop insert
+        IsRelexed (whole_by first) before edit.start edit.old_end insert
         (counted k (length fronts) (length new_fronts) r)
 
     counts : (k : Bool) → kept ≡ k → (r : Relexed)
-        → IsRelexed (part_by first) (drop (body_start before) before) ch.start ch.old_stop inserted r
+        → IsRelexed (part_by first) (drop (body_start before) before) ch.start ch.old_end inserted r
         → Counted k (head_tokens before) (head_tokens text) r
     counts k same r x =
-        let there = subst (λ n. IsRelexed (part_by first) (drop n before) ch.start ch.old_stop inserted r)
+        let there = subst (λ n. IsRelexed (part_by first) (drop n before) ch.start ch.old_end inserted r)
         (sym old_head.end_is) x in
         subst (λ k. Counted k (head_tokens before) (head_tokens text) r) same
         (subst (λ ts. Counted kept ts (head_tokens text) r) old_head.tokens_are
@@ -392,11 +392,11 @@ body_is {first} law before insert text edit old now kept change e old_head now_h
 
 -- what the change is, by its places
 pub in_body : (kept : Bool) (from to : ℕ) (edit : Change)
-    → (kept ≡ true → (from ≤ edit.start) × (edit.start ≤ edit.old_stop) × (edit.start ≤ edit.new_stop))
+    → (kept ≡ true → (from ≤ edit.start) × (edit.start ≤ edit.old_end) × (edit.start ≤ edit.new_end))
     → IsInBody kept from to edit (body_change kept from to edit)
 in_body true from to edit order = let o = order refl in grind (arith, common_steps, o.0, o.1, o.2)
 in_body false from to edit order = (
-  max (from - edit.old_stop) (to - edit.new_stop),
+  max (from - edit.old_end) (to - edit.new_end),
   refl,
   omega arith,
   omega arith,

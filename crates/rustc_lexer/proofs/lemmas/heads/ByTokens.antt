@@ -6,12 +6,12 @@ use Rattle.std.proofs.{Math.Seq.{take-append_seam}, lemmas.Bool.{not-true}}
 use Rattle.rustc_lexer.specs.{Edition, Token, TokenKind, declared.head.Head.{Head}, Classes.{IsText, bytes}}
 use Rattle.rustc_lexer.specs.Answers.{first_in}
 use Rattle.rustc_lexer.specs.Document.{is_frontmatter, tokens_start, document_tokens, head_count, head_tokens, whole_by}
-use Rattle.rustc_lexer.specs.means.Document.{front_tokens}
+use Rattle.rustc_lexer.specs.model.Document.{front_tokens}
 use Rattle.rustc_lexer.specs.LanguageText as grammar
 use Rattle.rustc_lexer.specs.LanguageText.{AreTokens, IsTokenIn, Mode, is_source, mode_after, newest, part, source}
 use Rattle.rustc_lexer.specs.{Partition.{tokens_in}, Relexing.{IsHeadOf}, Tokens.{bound, tokens_by}}
 use Rattle.rustc_lexer.specs.laws.{Choice.{by_either, by_symbol}, LanguageTokens.{language}, Tokens.{partitions}}
-use Rattle.rustc_lexer.specs.means.{Frontmatter.{frontmatter, opens, spaces_len}, Scan.{past}, Tokens.{read_tokens}}
+use Rattle.rustc_lexer.specs.model.{Frontmatter.{frontmatter, opens, spaces_len}, Scan.{past}, Tokens.{read_tokens}}
 use Rattle.rustc_lexer.proofs.lemmas.heads.DocumentTokens.{start-boundary, with-front, with-spaced, without-front}
 use Rattle.rustc_lexer.proofs.lemmas.edits.FrontAndBack.{bound-same}
 use Rattle.std.proofs.lemmas.{List.{length-take, take-take}, Str.{IsCharBoundary-from_rest, IsUtf8-drop}}

@@ -10,7 +10,7 @@ use Rattle.std.proofs.lemmas.Str.{IsCharBoundary-from_rest, IsUtf8-drop}
 use Rattle.std.proofs.lemmas.Str.{length-le-encodes, IsCharBoundary-before_ascii, IsCharBoundary-end}
 use Rattle.std.proofs.lemmas.Str.{IsCharBoundary-start}
 use Rattle.rustc_lexer.specs.{Edition, Token, TokenKind, Eof, Whitespace, Classes.{is_whitespace, IsText, bytes}}
-use Rattle.rustc_lexer.specs.{Document.{mark_len, tokens_start}, means.Document.{front_tokens}, Answers.{shebang}}
+use Rattle.rustc_lexer.specs.{Document.{byte_order_mark_len, tokens_start}, model.Document.{front_tokens}, Answers.{shebang}}
 use Rattle.rustc_lexer.specs.Language as the
 use Rattle.rustc_lexer.specs.LanguageCalls as calls
 use Rattle.rustc_lexer.specs.{LanguageCalls.{IsLineBefore, IsShebang}, laws.TheAnswers.{the_shebang}}
@@ -23,9 +23,9 @@ use Rattle.rustc_lexer.specs.laws.{LanguageFrontmatter.{opens-none}, LanguageIn.
 use Rattle.rustc_lexer.specs.laws.{LanguageTokens.{tokens-are, tokens-read}, Frontmatter.{frontmatter-cut}}
 use Rattle.rustc_lexer.specs.laws.{LanguageRuns.{run-stops}, LanguageComments.{space-sound}}
 use Rattle.rustc_lexer.specs.laws.Past.{past-zero, chars-past, length-past, past-drop, IsUtf8-past}
-use Rattle.rustc_lexer.specs.{laws.Tokens.{tokens-cons}, means.Frontmatter.{frontmatter, opens, spaces_len}}
-use Rattle.rustc_lexer.specs.means.{Lexeme.{symbol_kind}, Scan.{bytes_of, next_is, past, run_len}, Taking.{token_at}}
-use Rattle.rustc_lexer.specs.means.Tokens.{read_tokens}
+use Rattle.rustc_lexer.specs.{laws.Tokens.{tokens-cons}, model.Frontmatter.{frontmatter, opens, spaces_len}}
+use Rattle.rustc_lexer.specs.model.{Lexeme.{symbol_kind}, Scan.{bytes_of, next_is, past, run_len}, Taking.{token_at}}
+use Rattle.rustc_lexer.specs.model.Tokens.{read_tokens}
 use Rattle.rustc_lexer.proofs.lemmas.tokens.Shebang.{mark_boundary}
 
 -- ---- a token that leaves source what it is
@@ -199,9 +199,9 @@ line-boundary text is = by_answer (shebang text) (((the_shebang text).only is (s
 
 pub start-boundary : (text : List ℕ) → IsText text → IsCharBoundary text (tokens_start text)
 start-boundary text is =
-    let after : IsText (drop (mark_len text) text) = record {
-      utf8 = IsUtf8-drop text (mark_len text) is.utf8 (mark_boundary text is.utf8);
-      fits = omega (arith, is.fits, length-drop (mark_len text) text);
+    let after : IsText (drop (byte_order_mark_len text) text) = record {
+      utf8 = IsUtf8-drop text (byte_order_mark_len text) is.utf8 (mark_boundary text is.utf8);
+      fits = omega (arith, is.fits, length-drop (byte_order_mark_len text) text);
     } in
-    IsCharBoundary-from_rest text (mark_len text) (unwrap_or (shebang (drop (mark_len text) text)) 0)
-    (mark_boundary text is.utf8).0 (line-boundary (drop (mark_len text) text) after)
+    IsCharBoundary-from_rest text (byte_order_mark_len text) (unwrap_or (shebang (drop (byte_order_mark_len text) text)) 0)
+    (mark_boundary text is.utf8).0 (line-boundary (drop (byte_order_mark_len text) text) after)

@@ -16,7 +16,7 @@ use Rattle.rustc_lexer.specs.LiteralGrammar as lit
 use Rattle.rustc_lexer.specs.LiteralGrammar.{IsDoubleQuoted, IsSingleQuoted, IsRaw, IsLiteralBefore, IsSuffixBefore}
 use Rattle.rustc_lexer.specs.{NumberGrammar.{is_no_fraction, IsNumberBefore}, Tokens.{is_faulty}, Joined.{is_malformed}}
 use Rattle.rustc_lexer.specs.LanguageText.{IsTokenIn, kept, pound, ident, lifetime, lifetime_r}
-use Rattle.rustc_lexer.specs.means.{Number.{begins_fraction}, Scan.{begins, next_is}}
+use Rattle.rustc_lexer.specs.model.{Number.{begins_fraction}, Scan.{begins, next_is}}
 use Rattle.rustc_lexer.specs.laws.{LanguageLiterals.{number-digit}, LanguageReach.{raw-alike}}
 use Rattle.rustc_lexer.specs.laws.{LanguageRuns.{IsSolid, solid-by}, NumberLongest.{fraction-solid, number-before}}
 

@@ -10,7 +10,7 @@ use Rattle.rustc_lexer.specs.{Edition, Token, Answers.{first_in}, Classes.{IsTex
 use Rattle.rustc_lexer.specs.Joined as the
 use Rattle.rustc_lexer.specs.{Joined.{IsJoined, IsSeparated, MayTouch, AreInseparable}, Locality.{has_two, IsGrammar}}
 use Rattle.rustc_lexer.specs.{Partition.{bound, tokens_by}, laws.Cuts.{IsCutAt, at_bound, tokens-cons, tokens-nil}}
-use Rattle.rustc_lexer.specs.{laws.Edition.{edition_grammar}, means.Joined.{IsSure}}
+use Rattle.rustc_lexer.specs.{laws.Edition.{edition_grammar}, model.Joined.{IsSure}}
 use Rattle.std.proofs.lemmas.List.Folds.{drop_split}
 use Rattle.rustc_lexer.proofs.lemmas.{edits.Bounds.{bound_mono, bound-last, rises}, heads.ByTokens.{bound-append}}
 use Rattle.rustc_lexer.proofs.lemmas.edits.{Settled.{stays_at}, FrontAndBack.{bound-same, drop_of-take}}

@@ -18,11 +18,11 @@ use Rattle.rustc_lexer.specs.Language.{IsTokenBefore}
 use Rattle.rustc_lexer.specs.LanguageText as grammar
 use Rattle.rustc_lexer.specs.LanguageText.{AreTokens, IsTokenIn, Mode, kept, lexed_since, mode_after, mode_edition}
 use Rattle.rustc_lexer.specs.LanguageText.{part, year}
-use Rattle.rustc_lexer.specs.{laws.Choice.{by_symbol}, means.Scan.{next_is}}
+use Rattle.rustc_lexer.specs.{laws.Choice.{by_symbol}, model.Scan.{next_is}}
 use Rattle.std.proofs.lemmas.Bool.{and_parts, not-true}
 use Rattle.rustc_lexer.specs.laws.{Cuts.{tokens-nil}, LanguageFront.{empty-text}, LanguageIn.{oldest}}
 use Rattle.rustc_lexer.specs.laws.{LanguageTokens.{tokens-are, tokens-read}, Texts.{left_text}}
-use Rattle.rustc_lexer.specs.means.Edition.{first_token_in}
+use Rattle.rustc_lexer.specs.model.Edition.{first_token_in}
 use Rattle.rustc_lexer.proofs.lemmas.joined.Apart.{Changes, here as changed, Goes, changes-past, in-apart}
 
 -- the tokens of characters that are read as a part

@@ -11,7 +11,7 @@ use Rattle.rustc_lexer.specs.Joined as the
 use Rattle.rustc_lexer.specs.Joined.{IsJoined, MayTouch, TailDecides}
 use Rattle.rustc_lexer.specs.{Locality.{AgreePast, IsGrammar, IsSettled, has_two}, Partition.{bound, tokens_by}}
 use Rattle.rustc_lexer.specs.laws.{Cuts.{IsCutAt, at_bound, tokens_local}, Edition.{edition_grammar}}
-use Rattle.rustc_lexer.specs.means.Joined.{IsSure}
+use Rattle.rustc_lexer.specs.model.Joined.{IsSure}
 use Rattle.rustc_lexer.proofs.lemmas.edits.FrontAndBack.{bound-same, drop_of-take, has_two-agree, has_two-before}
 use Rattle.rustc_lexer.proofs.lemmas.edits.FrontAndBack.{has_two-count, has_two-intro, has_two-same}
 use Rattle.rustc_lexer.proofs.lemmas.{edits.Bounds.{bound-last}, edits.KeptFront.{bound-shift}}

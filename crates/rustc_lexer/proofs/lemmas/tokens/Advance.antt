@@ -6,7 +6,7 @@ use Rattle.std.specs.{Prelude.{All}, Str.{IsCharBoundary}}
 use Rattle.std.proofs.lemmas.{Bool.{ne_eqb}, List.Elements.{All-head}, Str.{IsUtf8-drop}}
 use Rattle.rustc_lexer.specs.{FrontmatterAllowed, Token, TokenKind, Eof, LanguageText.{Mode, mode_in, newest}}
 use Rattle.rustc_lexer.specs.State.{State, kind_past, token_past, HasSuffixWithin}
-use Rattle.rustc_lexer.specs.{means.Taking.{IsCursor, token_at, take_next}, Classes.{IsText}}
+use Rattle.rustc_lexer.specs.{model.Taking.{IsCursor, token_at, take_next}, Classes.{IsText}}
 use Rattle.rustc_lexer.specs.Tokens.{tokens_left, tokens_of, HasSuffix, TakesFirst, TakesToken}
 use Rattle.rustc_lexer.specs.laws.State.{state, past_token, edition-after, advance-end, advance-some, token_past-zero}
 use Rattle.rustc_lexer.proofs.lemmas.tokens.KindsOfTexts.{suffixes, token_at-not_end}

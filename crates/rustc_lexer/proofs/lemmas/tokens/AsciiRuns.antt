@@ -6,7 +6,7 @@ use Rattle.std.proofs.lemmas.Bool.{ltb-false, ltb-true}
 use Rattle.std.proofs.lemmas.Str.{chars-nil, chars_past_char, encodes-chars, IsUtf8-past_char, byte_from_char}
 use Rattle.std.proofs.lemmas.Str.{encode_ascii, IsCharBoundary-from_drop}
 use Rattle.std.proofs.lemmas.{List.Sums.{prefix_len-le-length}, Grind.{common_steps}}
-use Rattle.rustc_lexer.specs.{means.{ByteRuns.{is_wide}, Scan.{past, next_is, run_len}}, laws.Choice.{by_either}}
+use Rattle.rustc_lexer.specs.{model.{ByteRuns.{is_wide}, Scan.{past, next_is, run_len}}, laws.Choice.{by_either}}
 use Rattle.rustc_lexer.specs.laws.Past.{past-one}
 use Rattle.rustc_lexer.proofs.lemmas.tokens.Runs.{run_ends}
 

@@ -13,7 +13,7 @@ use Rattle.std.proofs.{lemmas.List.{get_or-map, get_or_past, length-map}, Math.B
 use Rattle.std.proofs.{Math.Nat.{add-zero}, lemmas.Grind.{common_steps}}
 use lib.Count.{count_trailing_zeros}
 use lib.Lanes.{chunk, mask_l}
-use Rattle.rustc_lexer.specs.means.Ends.{bit, IsLowest}
+use Rattle.rustc_lexer.specs.model.Ends.{bit, IsLowest}
 
 bit_cases : (P : ℕ → Type 0) → P 0 → P 1 → (x : ℕ) → x < 2 → P x
 bit_cases w0 p q w3 h = grind (arith, common_steps)

@@ -3,10 +3,10 @@ use Rattle.std.proofs.Common.{◌≡◌, ◌≢◌, ℕ, suc, ◌+◌, ◌<◌, 
 use Rattle.std.proofs.Common.{refl, sym, ap, ◌∙◌, arith, length-append, subst, Option, Some, None, not}
 use Rattle.std.specs.Str.{chars, IsUtf8}
 use Rattle.std.proofs.lemmas.{Bool.{and_parts, or_cases, or_parts, eqb-true, not-true, not-false}, Grind.{common_steps}}
-use Rattle.rustc_lexer.specs.{DocStyle, TokenKind, BlockComment, means.Least.{more}}
-use Rattle.rustc_lexer.specs.means.BlockComment.{at_closing, at_opening, block_doc_style, comment_end, block_comment}
-use Rattle.rustc_lexer.specs.means.BlockComment.{block_comment_to, out_of}
-use Rattle.rustc_lexer.specs.means.Scan.{begins, or_all, or_all_at, past, run_len, scanned}
+use Rattle.rustc_lexer.specs.{DocStyle, TokenKind, BlockComment, model.Least.{more}}
+use Rattle.rustc_lexer.specs.model.BlockComment.{at_closing, at_opening, block_doc_style, comment_end, block_comment}
+use Rattle.rustc_lexer.specs.model.BlockComment.{block_comment_to, out_of}
+use Rattle.rustc_lexer.specs.model.Scan.{begins, or_all, or_all_at, past, run_len, scanned}
 use Rattle.rustc_lexer.specs.laws.BlockComment.{out_of-plain}
 use Rattle.rustc_lexer.specs.laws.{Past.{past-zero, past-past, past-two, chars-past, IsUtf8-cut}, Choice.{by_either}}
 use Rattle.rustc_lexer.proofs.lemmas.tokens.QuotedLoop.{run_fails}

@@ -8,9 +8,9 @@ use Rattle.std.proofs.{Math.Nat.{min-eq_left, min-eq_right, min-le_right}, lemma
 use Rattle.rustc_lexer.specs.{Token, Edition, FrontmatterAllowed}
 use Rattle.rustc_lexer.specs.Tokens.{IsFilledTo, state_past, bound, tokens_by, tokens_of, tokens_left, Partitions}
 use Rattle.rustc_lexer.specs.Tokens.{TakesToken}
-use Rattle.rustc_lexer.specs.{means.Tokens.{IsFilled}, State.{State}, Classes.{IsText}, Locality.{IsGrammar}}
+use Rattle.rustc_lexer.specs.{model.Tokens.{IsFilled}, State.{State}, Classes.{IsText}, Locality.{IsGrammar}}
 use Rattle.rustc_lexer.specs.LanguageText.{Mode, part, mode_after, mode_edition, mode_in}
-use Rattle.rustc_lexer.specs.{means.{Edition.{first_token_in}, Taking.{take_next}}, laws.Edition.{edition_grammar}}
+use Rattle.rustc_lexer.specs.{model.{Edition.{first_token_in}, Taking.{take_next}}, laws.Edition.{edition_grammar}}
 use Rattle.rustc_lexer.specs.laws.Cuts.{IsCutAt, at_bound, tokens-cons}
 use Rattle.rustc_lexer.proofs.lemmas.tokens.Progress.{IsOffset, next-from_drop, none_more, none_past}
 

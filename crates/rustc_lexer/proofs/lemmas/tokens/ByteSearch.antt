@@ -10,7 +10,7 @@ use Rattle.std.proofs.{Math.Seq.{drop-append_seam}, lemmas.List.Folds.{prefix_le
 use Rattle.std.proofs.lemmas.List.Sums.{position_or_len_is, prefix_len_is}
 use Rattle.std.proofs.lemmas.{Str.{encode_ascii, inside_one, encodes-chars}, Grind.{common_steps}}
 use Rattle.memchr.specs.Find.{IsFirstByte, is_byte, is_byte2}
-use Rattle.rustc_lexer.specs.{means.{Ends.{bit}, Scan.{begins, next_is, past, run_len}}, laws.Choice.{by_either}}
+use Rattle.rustc_lexer.specs.{model.{Ends.{bit}, Scan.{begins, next_is, past, run_len}}, laws.Choice.{by_either}}
 use Rattle.rustc_lexer.proofs.lemmas.tokens.AsciiRuns.{next_byte, past_run, past_run-in, past_run-out}
 use Rattle.rustc_lexer.specs.laws.Past.{chars-past}
 use Rattle.rustc_lexer.proofs.lemmas.tokens.Bits.{mask_in, mask_lowest}

@@ -2,7 +2,7 @@
 use Rattle.std.proofs.Common.{◌≡◌, ℕ, ◌<◌, ◌&&◌, Bool, true, refl, nat_lt, arith}
 use Rattle.std.proofs.lemmas.{Bool.{agree_below_at, and_parts, ltb-true, lt-ltb}, Grind.{common_steps}}
 use Rattle.unicode_ident.proofs.IdentLemmas.{is_xid_continue-ascii, is_xid_start-ascii}
-use Rattle.rustc_lexer.specs.{means.ByteRuns.{is_continue_byte, is_space_byte}, Classes.{is_id_continue, is_whitespace}}
+use Rattle.rustc_lexer.specs.{model.ByteRuns.{is_continue_byte, is_space_byte}, Classes.{is_id_continue, is_whitespace}}
 use Rattle.rustc_lexer.proofs.lemmas.tokens.AsciiRuns.{IsPart}
 
 small : (p : ℕ → Bool) (b : ℕ) → (nat_lt b 128 && p b) ≡ true → b < 128

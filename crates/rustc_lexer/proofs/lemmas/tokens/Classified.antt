@@ -5,8 +5,8 @@ use Rattle.std.specs.Str.{IsUtf8}
 use Rattle.std.proofs.lemmas.List.{take_rest}
 use Rattle.rustc_lexer.specs.{Edition, FrontmatterAllowed, Token, No, LanguageText.{mode_in}}
 use Rattle.rustc_lexer.specs.{declared.entry.ahead.Ahead.{Ahead}, State.{State}, Tokens.{TakesToken}}
-use Rattle.rustc_lexer.specs.{laws.State.{state}, means.Edition.{first_token_in}}
-use Rattle.rustc_lexer.specs.means.Ends.{AreEndsPast, IsEnds, IsUnclassified, KnowsAhead, TakesClassified}
+use Rattle.rustc_lexer.specs.{laws.State.{state}, model.Edition.{first_token_in}}
+use Rattle.rustc_lexer.specs.model.Ends.{AreEndsPast, IsEnds, IsUnclassified, KnowsAhead, TakesClassified}
 use Rattle.rustc_lexer.proofs.lemmas.tokens.Tokens.{takes_part}
 
 -- found anew at an offset

@@ -6,9 +6,9 @@ use Rattle.rustc_lexer.specs.{RawLifetime, UnknownPrefix, UnknownPrefixLifetime}
 use Rattle.rustc_lexer.specs.laws.{Edition.{edition_grammar}, Language.{lexeme-sound}, LanguageIn.{unhashed}}
 use Rattle.rustc_lexer.specs.{declared.lexemes.family.Family.TheVariants.{Hash}, Tables.{is_emoji}}
 use Rattle.unicode_ident.proofs.Computing.{unicode_ident}
-use Rattle.rustc_lexer.specs.means.Lexeme.{family_of, first_token, lexeme, past_first}
-use Rattle.rustc_lexer.specs.means.{Quick.{BeginsWithNoHash, IsFirstBy, IsFirstToken}, Scan.{bytes_of}}
-use Rattle.rustc_lexer.specs.{means.Edition.{token, before_2024, changed, first_token_in}, Classes.{IsText}}
+use Rattle.rustc_lexer.specs.model.Lexeme.{family_of, first_token, lexeme, past_first}
+use Rattle.rustc_lexer.specs.model.{Quick.{BeginsWithNoHash, IsFirstBy, IsFirstToken}, Scan.{bytes_of}}
+use Rattle.rustc_lexer.specs.{model.Edition.{token, before_2024, changed, first_token_in}, Classes.{IsText}}
 use Rattle.std.proofs.lemmas.Grind.{common_steps}
 use Rattle.std.specs.Fmt.{decimal, digits}
 

@@ -7,7 +7,7 @@ use Rattle.std.proofs.lemmas.List.Sorted.{IsNonDecreasingBy-from_all_adjacent}
 use Rattle.std.specs.{List.Sorted.{IsBinarySearchResult, IsPartitionPoint, IsSearchInRange}, Ordering.{ordering_index}}
 use Rattle.std.specs.declared.cmp.Ordering.{Ordering, TheVariants.{Less, Equal, Greater}}
 use Rattle.std.proofs.lemmas.Grind.{common_steps}
-use Rattle.rustc_lexer.specs.{Tables.{emoji_ranges, is_emoji}, means.Emoji.{Range, is_within, in_ranges, side}}
+use Rattle.rustc_lexer.specs.{Tables.{emoji_ranges, is_emoji}, model.Emoji.{Range, is_within, in_ranges, side}}
 use Rattle.rustc_lexer.specs.laws.Choice.{by_either}
 
 -- each range has a member, and begins past the end of the one before, the first at n or later

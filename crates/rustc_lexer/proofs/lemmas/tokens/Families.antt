@@ -8,8 +8,8 @@ use Rattle.unicode_ident.proofs.Computing.{unicode_ident}
 use Rattle.rustc_lexer.specs.declared.lexemes.family.{TheConstants.{FAMILIES}, Family.{Family}}
 use Rattle.rustc_lexer.specs.{declared.lexemes.family.Family.TheVariants.{Slash, Word}, TokenKind}
 use Rattle.rustc_lexer.specs.{Classes.{is_id_start, is_whitespace}, Tables.{is_emoji}, laws.Choice.{by_either}}
-use Rattle.rustc_lexer.specs.{laws.LanguageRuns.{among}, means.Lexeme.{family_of, past_first, read_by}}
-use Rattle.rustc_lexer.specs.{means.Scan.{scanned}, laws.Scan.{scanned-same}}
+use Rattle.rustc_lexer.specs.{laws.LanguageRuns.{among}, model.Lexeme.{family_of, past_first, read_by}}
+use Rattle.rustc_lexer.specs.{model.Scan.{scanned}, laws.Scan.{scanned-same}}
 
 -- what the family of the first character reads
 pub by_family : (f : Family) (c : ℕ) (tail : List ℕ) (read : TokenKind × List ℕ) → f ≡ family_of c

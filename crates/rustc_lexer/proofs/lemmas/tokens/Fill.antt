@@ -5,7 +5,7 @@ use Rattle.std.proofs.Common.{length-drop, pos_of_ne-zero}
 use Rattle.std.proofs.{lemmas.{List.{nil_from_length}, Str.{IsUtf8-drop}}, Math.Nat.{min-le_right}}
 use Rattle.rustc_lexer.specs.{Token, Classes.{IsText}, LanguageText.{Mode, mode_edition}, State.{State}}
 use Rattle.rustc_lexer.specs.Tokens.{advance, bound, state_past, tokens_left, tokens_of, TakesToken}
-use Rattle.rustc_lexer.specs.{means.Taking.{token_at}, laws.State.{edition-after, past_token}}
+use Rattle.rustc_lexer.specs.{model.Taking.{token_at}, laws.State.{edition-after, past_token}}
 use Rattle.rustc_lexer.specs.laws.Tokens.{partitions, tokens-nil}
 use Rattle.rustc_lexer.proofs.lemmas.tokens.{Buffers.{left_more, rest_more, shorter_left}, Progress.{none_more}}
 use Rattle.rustc_lexer.proofs.lemmas.tokens.Tokens.{takes_first}

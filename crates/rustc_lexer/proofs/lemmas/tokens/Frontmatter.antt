@@ -5,8 +5,8 @@ use Rattle.std.proofs.lemmas.{Bool.{eqb-true}, Grind.{common_steps}}
 use Rattle.unicode_ident.proofs.Computing.{unicode_ident}
 use Rattle.rustc_lexer.specs.{Edition, Token, Minus, Whitespace, Classes.{is_whitespace}, FrontmatterGrammar.{fence}}
 use Rattle.rustc_lexer.specs.{Tables.{emoji_ranges, is_emoji}, declared.lexemes.family.Family.TheVariants.{Symbol}}
-use Rattle.rustc_lexer.specs.means.{Edition.{first_token_in}, Frontmatter.{is_dash, opens, spaces_len}}
-use Rattle.rustc_lexer.specs.means.{Lexeme.{first_token, past_first, read_by}, Scan.{begins, bytes_of, past}}
+use Rattle.rustc_lexer.specs.model.{Edition.{first_token_in}, Frontmatter.{is_dash, opens, spaces_len}}
+use Rattle.rustc_lexer.specs.model.{Lexeme.{first_token, past_first, read_by}, Scan.{begins, bytes_of, past}}
 use Rattle.rustc_lexer.specs.laws.{Choice.{by_either}, Frontmatter.{opens-other}, LanguageClosing.{begins-encode}}
 use Rattle.rustc_lexer.specs.laws.{LanguageRuns.{chooses, chooses-space}, Past.{past-drop}}
 use Rattle.rustc_lexer.proofs.lemmas.tokens.{Editions.{older}, Search.{starts-begins}}

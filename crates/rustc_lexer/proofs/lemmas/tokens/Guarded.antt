@@ -3,8 +3,8 @@ use Rattle.std.proofs.Common.{◌≡◌, ℕ, suc, ◌+◌, ◌-◌, Bool, true,
 use Rattle.std.proofs.Common.{ap, ◌∙◌, arith, subst, Option, Some, None}
 use Rattle.std.specs.Str.{chars, IsUtf8, IsCharBoundary}
 use Rattle.std.proofs.lemmas.{Str.{IsCharBoundary-from_drop}, Grind.{common_steps}}
-use Rattle.rustc_lexer.specs.{GuardedStr, means.Guarded.{guarded_body, string_past, guarded_by, take_guarded}}
-use Rattle.rustc_lexer.specs.means.{Raw.{hash_run, is_quote}, Scan.{after, begins, bytes_of, next_is, past, scanned}}
+use Rattle.rustc_lexer.specs.{GuardedStr, model.Guarded.{guarded_body, string_past, guarded_by, take_guarded}}
+use Rattle.rustc_lexer.specs.model.{Raw.{hash_run, is_quote}, Scan.{after, begins, bytes_of, next_is, past, scanned}}
 use Rattle.rustc_lexer.specs.{LanguageText.{Mode}, State.{State}}
 use Rattle.rustc_lexer.specs.laws.Past.{past-past, past-drop, chars-past, IsUtf8-past, length-past}
 use Rattle.rustc_lexer.proofs.lemmas.tokens.{ByteSearch.{begins-byte}, Raw.{hash_cut}}

@@ -7,9 +7,9 @@ use Rattle.std.proofs.lemmas.Str.{chars-nil, encode_ascii, encodes-chars, IsChar
 use Rattle.std.proofs.lemmas.Grind.{common_steps}
 use Rattle.rustc_lexer.specs.{GuardedStrPrefix, Pound, laws.Choice.{by_either}}
 use Rattle.rustc_lexer.proofs.lemmas.tokens.Editions.{first_by, pound_by}
-use Rattle.rustc_lexer.specs.{declared.lexemes.family.Family.TheVariants.{Hash}, means.Hash.{opens_guarded}}
-use Rattle.rustc_lexer.specs.means.{Lexeme.{family_of, past_first}, Quick.{BeginsWithNoHash, IsFirstBy, IsFirstToken}}
-use Rattle.rustc_lexer.specs.means.{Raw.{is_hash}, Scan.{next_is, scanned}}
+use Rattle.rustc_lexer.specs.{declared.lexemes.family.Family.TheVariants.{Hash}, model.Hash.{opens_guarded}}
+use Rattle.rustc_lexer.specs.model.{Lexeme.{family_of, past_first}, Quick.{BeginsWithNoHash, IsFirstBy, IsFirstToken}}
+use Rattle.rustc_lexer.specs.model.{Raw.{is_hash}, Scan.{next_is, scanned}}
 use Rattle.rustc_lexer.proofs.lemmas.tokens.{AsciiRuns.{next_byte, IsUtf8-ascii, past-ascii}, Families.{by_family}}
 use Rattle.rustc_lexer.specs.laws.Past.{past-zero}
 use Rattle.rustc_lexer.proofs.lemmas.tokens.Quick.{first}

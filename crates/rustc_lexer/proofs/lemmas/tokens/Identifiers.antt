@@ -5,8 +5,8 @@ use Rattle.std.specs.{List.{list_all}, Str.{chars, encode_utf8_all, IsUtf8}}
 use Rattle.std.proofs.lemmas.{Bool.Decides.{nat_tests}, Grind.{common_steps}, Str.{length-le-encodes}}
 use Rattle.rustc_lexer.specs.{Ident, UnknownPrefix}
 use Rattle.rustc_lexer.specs.{Classes.{is_id_start, is_id_continue, ends_prefix, is_word_continue}, Tables.{is_emoji}}
-use Rattle.rustc_lexer.specs.means.Ident.{ident_or_unknown_prefix, invalid_ident, begins_hash_ident}
-use Rattle.rustc_lexer.specs.means.Scan.{begins, next_is, past, run_len, scanned}
+use Rattle.rustc_lexer.specs.model.Ident.{ident_or_unknown_prefix, invalid_ident, begins_hash_ident}
+use Rattle.rustc_lexer.specs.model.Scan.{begins, next_is, past, run_len, scanned}
 use Rattle.rustc_lexer.specs.laws.Choice.{by_either}
 use Rattle.rustc_lexer.specs.laws.Past.{chars-past, past-past, past-two}
 

@@ -4,7 +4,7 @@ use Rattle.std.proofs.Common.{get_or, refl, sym, ap, ◌∙◌, arith}
 use Rattle.std.proofs.lemmas.List.{take_rest, Sums.{prefix_len-le-length, prefix_len-drop_yes, prefix_len-drop_no}}
 use Rattle.std.proofs.lemmas.Bool.{not-true, not-false}
 use Rattle.std.specs.List.{prefix_len}
-use Rattle.rustc_lexer.specs.means.{ByteRuns.{outside}, Ends.{bit}}
+use Rattle.rustc_lexer.specs.model.{ByteRuns.{outside}, Ends.{bit}}
 use Rattle.rustc_lexer.proofs.lemmas.tokens.Bits.{bit-zero, mask_in, mask_lowest}
 use lib.Lanes.{chunk, mask_l}
 use lib.Count.{count_trailing_zeros}

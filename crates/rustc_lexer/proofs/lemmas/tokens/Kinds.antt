@@ -17,7 +17,7 @@ use Rattle.rustc_lexer.specs.{NumberGrammar.{HasNumberForm}, State.{HasSuffixWit
 use Rattle.rustc_lexer.specs.{Tokens.{is_faulty, HasSuffix, HasText}, laws.{Choice.{by_symbol}, LanguageFront.{split}}}
 use Rattle.rustc_lexer.specs.laws.{LanguageLiterals.{bytes-append}, LanguageRaw.{raw-read}}
 use Rattle.rustc_lexer.specs.laws.{LanguageReach.{number-kind, raw-alike}, Language.{lexeme-sound}}
-use Rattle.rustc_lexer.specs.{laws.TheAnswers.{the_raw}, means.Lexeme.{first_token}}
+use Rattle.rustc_lexer.specs.{laws.TheAnswers.{the_raw}, model.Lexeme.{first_token}}
 
 -- ---- literals
 

@@ -5,7 +5,7 @@ use Rattle.std.specs.Str.{chars}
 use Rattle.std.proofs.lemmas.List.Elements.{All-nil, All-cons}
 use Rattle.rustc_lexer.specs.{Eof, Classes.{IsText}, LanguageText.{AreTokens, Mode}}
 use Rattle.rustc_lexer.specs.{Tokens.{tokens_of, HasSuffix, HaveTexts}, laws.LanguageTokens.{tokens-are}}
-use Rattle.rustc_lexer.specs.{laws.Tokens.{token_at-cuts, by_tokens, tokens-nil, tokens-cons}, means.Taking.{token_at}}
+use Rattle.rustc_lexer.specs.{laws.Tokens.{token_at-cuts, by_tokens, tokens-nil, tokens-cons}, model.Taking.{token_at}}
 use Rattle.rustc_lexer.proofs.lemmas.tokens.Kinds.{first-said, IsSaid}
 
 token_at-said : (mode : Mode) (text : List ℕ) → IsText text → 0 < length text → IsSaid text (token_at mode text)

@@ -3,8 +3,8 @@ use Rattle.std.proofs.lemmas.Grind.{common_steps}
 use Rattle.std.proofs.Common.{◌≡◌, ℕ, ◌+◌, ◌-◌, ◌≤◌, [], ◌∷◌, List, length, sym, ap, ◌∙◌, arith, subst}
 use Rattle.std.specs.Str.{chars, IsUtf8, IsCharBoundary}
 use Rattle.std.proofs.lemmas.Str.{IsCharBoundary-from_drop}
-use Rattle.rustc_lexer.specs.{Token, TokenKind, Eof, means.Lexeme.{past_first, lexeme, first_token}}
-use Rattle.rustc_lexer.specs.{means.{Quick.{IsFirstToken}, Scan.{bytes_of, past, scanned}}, State.{HasSuffixWithin}}
+use Rattle.rustc_lexer.specs.{Token, TokenKind, Eof, model.Lexeme.{past_first, lexeme, first_token}}
+use Rattle.rustc_lexer.specs.{model.{Quick.{IsFirstToken}, Scan.{bytes_of, past, scanned}}, State.{HasSuffixWithin}}
 use Rattle.rustc_lexer.specs.laws.Past.{past-past, past-drop, IsUtf8-past, length-past}
 use Rattle.rustc_lexer.proofs.lemmas.tokens.Kinds.{first_token-suffix}
 

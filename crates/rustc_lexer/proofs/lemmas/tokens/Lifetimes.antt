@@ -6,10 +6,10 @@ use Rattle.std.specs.{Char.{is_ascii_digit, encode_utf8, len_utf8}, List.{list_a
 use Rattle.std.proofs.{lemmas.Str.{length-encode, length-le-encodes}, Math.Bool.{not-not}, lemmas.Grind.{common_steps}}
 use Rattle.rustc_lexer.specs.{TokenKind, Char, Literal, Lifetime, UnknownPrefixLifetime}
 use Rattle.rustc_lexer.specs.{Classes.{is_id_continue, is_word_continue}, Tables.{is_emoji}}
-use Rattle.rustc_lexer.specs.means.Lifetime.{past_name, plain_lifetime, lifetime, is_character, is_character_at}
-use Rattle.rustc_lexer.specs.means.Lifetime.{lifetime_or_char}
-use Rattle.rustc_lexer.specs.{laws.Lifetime.{name_of, unquoted_name}, means.{Literal.{literal}, Quoted.{char_body}}}
-use Rattle.rustc_lexer.specs.{laws.Reach.{run_len_le}, means.Scan.{begins, bytes_of, past, run_len, scanned}}
+use Rattle.rustc_lexer.specs.model.Lifetime.{past_name, plain_lifetime, lifetime, is_character, is_character_at}
+use Rattle.rustc_lexer.specs.model.Lifetime.{lifetime_or_char}
+use Rattle.rustc_lexer.specs.{laws.Lifetime.{name_of, unquoted_name}, model.{Literal.{literal}, Quoted.{char_body}}}
+use Rattle.rustc_lexer.specs.{laws.Reach.{run_len_le}, model.Scan.{begins, bytes_of, past, run_len, scanned}}
 use Rattle.rustc_lexer.specs.laws.Past.{past-zero, past-past, chars-past, length-past, IsUtf8-past}
 use Rattle.rustc_lexer.proofs.lemmas.tokens.Identifiers.{has_emoji, word_runs, word_all, word_more}
 use Rattle.rustc_lexer.specs.laws.Scan.{scanned-and_then, scanned-no, scanned-yes}

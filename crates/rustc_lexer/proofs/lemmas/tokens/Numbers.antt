@@ -4,8 +4,8 @@ use Rattle.std.proofs.Common.{zero-add, arith}
 use Rattle.std.specs.{Char.{is_ascii_digit, is_ascii_hexdigit}, List.{list_any}, Str.{chars, IsUtf8}}
 use Rattle.std.proofs.lemmas.{Bool.{eqb-true}, Grind.{common_steps}}
 use Rattle.unicode_ident.proofs.IdentLemmas.{is_xid_start-ascii}
-use Rattle.rustc_lexer.specs.means.Number.{is_underscore, or_underscore, digits, is_exponent_letter, is_no_fraction}
-use Rattle.rustc_lexer.specs.means.Scan.{begins, next_is, past, run_len, scanned}
+use Rattle.rustc_lexer.specs.model.Number.{is_underscore, or_underscore, digits, is_exponent_letter, is_no_fraction}
+use Rattle.rustc_lexer.specs.model.Scan.{begins, next_is, past, run_len, scanned}
 use Rattle.rustc_lexer.proofs.lemmas.tokens.AsciiRuns.{next_byte}
 use Rattle.rustc_lexer.specs.laws.LanguageRuns.{digit-small as ascii_digit-small}
 use Rattle.rustc_lexer.specs.laws.Past.{IsUtf8-past, chars-past, past-past, past-zero}

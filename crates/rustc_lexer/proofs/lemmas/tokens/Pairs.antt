@@ -7,7 +7,7 @@ use Rattle.std.proofs.lemmas.{Simd.{length-chunk, mask_l-lt}, Nat.Bits.{bit_at_a
 use lib.Count.{count_trailing_zeros}
 use lib.Lanes.{chunk, mask_l}
 use Rattle.memchr.specs.Find.{is_byte}
-use Rattle.rustc_lexer.specs.means.{Ends.{bit}, Frontmatter.{first}, Least.{more, one_more}, Scan.{begins}}
+use Rattle.rustc_lexer.specs.model.{Ends.{bit}, Frontmatter.{first}, Least.{more, one_more}, Scan.{begins}}
 use Rattle.rustc_lexer.specs.laws.{Least.{more-zero, offset-on, one_more-more}}
 use Rattle.rustc_lexer.proofs.lemmas.tokens.Bits.{bit-and, bit-zero, lowest_in, lowest_is}
 

@@ -6,14 +6,14 @@ use Rattle.std.proofs.lemmas.Bool.{or_parts, or_cases, not-true, not-false, eqb-
 use Rattle.std.proofs.lemmas.{Str.{chars-nil}, List.Sums.{prefix_len-le-length}, Grind.{common_steps}}
 use Rattle.unicode_ident.proofs.IdentLemmas.{is_xid_continue-ascii}
 use Rattle.rustc_lexer.specs.{TokenKind, Ident, UnknownPrefix, Whitespace}
-use Rattle.rustc_lexer.specs.means.ByteRuns.{is_continue_byte, is_space_byte, is_wide}
+use Rattle.rustc_lexer.specs.model.ByteRuns.{is_continue_byte, is_space_byte, is_wide}
 use Rattle.rustc_lexer.specs.{Classes.{is_id_continue, ends_prefix}, Tables.{is_emoji}}
-use Rattle.rustc_lexer.specs.{means.Ident.{ident_or_unknown_prefix, begins_hash_ident}, laws.Choice.{by_symbol}}
+use Rattle.rustc_lexer.specs.{model.Ident.{ident_or_unknown_prefix, begins_hash_ident}, laws.Choice.{by_symbol}}
 use Rattle.rustc_lexer.specs.laws.LanguageWords.{by_letter}
 use Rattle.rustc_lexer.proofs.lemmas.tokens.Editions.{first_by, is_newer}
-use Rattle.rustc_lexer.specs.means.Lexeme.{family_of, word, symbols, symbol_kind, past_first, opens_raw, begins_raw}
-use Rattle.rustc_lexer.specs.means.Quick.{is_space_lead, turns_word, IsFirstBy, IsFirstToken}
-use Rattle.rustc_lexer.specs.means.Scan.{begins, next_is, past, run_len, scanned}
+use Rattle.rustc_lexer.specs.model.Lexeme.{family_of, word, symbols, symbol_kind, past_first, opens_raw, begins_raw}
+use Rattle.rustc_lexer.specs.model.Quick.{is_space_lead, turns_word, IsFirstBy, IsFirstToken}
+use Rattle.rustc_lexer.specs.model.Scan.{begins, next_is, past, run_len, scanned}
 use Rattle.rustc_lexer.proofs.lemmas.tokens.AsciiRuns.{chars-ascii, IsUtf8-ascii, past-ascii, skips, stops_here}
 use Rattle.rustc_lexer.proofs.lemmas.tokens.{Identifiers.{ident_or_unknown_prefix-valid}, Lexemes.{made}}
 use Rattle.rustc_lexer.proofs.lemmas.tokens.ClassParts.{continue_part}

@@ -4,7 +4,7 @@ use Rattle.std.proofs.Common.{◌∙◌, arith, ◌<◌, Option, MatchOption, Bo
 use Rattle.std.specs.Str.{chars, IsUtf8}
 use Rattle.memchr.specs.Find.{is_byte2}
 use Rattle.std.proofs.lemmas.{Bool.{eqb-true, ne_eqb, not-false, or_cases, or_parts}, Grind.{common_steps}}
-use Rattle.rustc_lexer.specs.means.{Scan.{begins, past, run_len, scanned}, Quoted.{double_quoted_string, is_lone}}
+use Rattle.rustc_lexer.specs.model.{Scan.{begins, past, run_len, scanned}, Quoted.{double_quoted_string, is_lone}}
 use Rattle.rustc_lexer.specs.laws.Scan.{run_len-stop}
 use Rattle.rustc_lexer.specs.laws.Past.{past-zero, past-past, past-two, chars-past, IsUtf8-past, past_le}
 

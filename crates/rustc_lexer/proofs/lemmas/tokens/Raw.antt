@@ -5,13 +5,13 @@ use Rattle.std.proofs.Common.{Some, None, Result, Err, MatchOption}
 use Rattle.std.specs.Str.{chars, encode_utf8_all, IsUtf8, IsCharBoundary}
 use Rattle.std.proofs.lemmas.Bool.{eqb-true, eq-eqb, ne_eqb, le-leb, lt-leb, and_parts, not-true}
 use Rattle.std.proofs.{lemmas.Str.{IsCharBoundary-from_drop}, Math.Seq.{drop-length}, lemmas.Grind.{common_steps}}
-use Rattle.rustc_lexer.specs.{RawStrError, NoTerminator, means.Least.{one_more, more}}
+use Rattle.rustc_lexer.specs.{RawStrError, NoTerminator, model.Least.{one_more, more}}
 use Rattle.rustc_lexer.specs.laws.Least.{offset-here, offset-on, more-more, more-zero}
-use Rattle.rustc_lexer.specs.means.Raw.{least_offset, is_hash, is_quote, is_no_quote, hash_run, closes, close}
-use Rattle.rustc_lexer.specs.means.Raw.{quote_hashes, most_hashes, quote_with, quote_if, quote_end, hash_count}
-use Rattle.rustc_lexer.specs.means.Raw.{raw_closed, raw_text}
+use Rattle.rustc_lexer.specs.model.Raw.{least_offset, is_hash, is_quote, is_no_quote, hash_run, closes, close}
+use Rattle.rustc_lexer.specs.model.Raw.{quote_hashes, most_hashes, quote_with, quote_if, quote_end, hash_count}
+use Rattle.rustc_lexer.specs.model.Raw.{raw_closed, raw_text}
 use Rattle.rustc_lexer.specs.laws.LanguageRuns.{run-stops}
-use Rattle.rustc_lexer.specs.means.Scan.{begins, next_is, bytes_of, past, run_len, scanned}
+use Rattle.rustc_lexer.specs.model.Scan.{begins, next_is, bytes_of, past, run_len, scanned}
 use Rattle.rustc_lexer.specs.laws.Scan.{bytes-run, length-run}
 use Rattle.rustc_lexer.specs.laws.Past.{past-zero, past-past, past-drop, chars-past, IsUtf8-past, length-past}
 use Rattle.rustc_lexer.specs.laws.Fences.{skip_run}

@@ -4,8 +4,8 @@ use Rattle.std.proofs.Common.{take, drop, sym, ap, ◌∙◌, arith, length-take
 use Rattle.std.specs.Str.{chars, encode_utf8_all, IsUtf8}
 use Rattle.std.proofs.{Math.{Seq.{drop-nil}, Bool.{and-true}}, lemmas.Str.{encodes-chars, length-le-encodes}}
 use Rattle.std.proofs.lemmas.Grind.{common_steps}
-use Rattle.rustc_lexer.specs.{RawStrError, means.Raw.{hash_run, raw_text, raw_starter, raw_read, StartsRaw}}
-use Rattle.rustc_lexer.specs.means.Scan.{begins, past, scanned}
+use Rattle.rustc_lexer.specs.{RawStrError, model.Raw.{hash_run, raw_text, raw_starter, raw_read, StartsRaw}}
+use Rattle.rustc_lexer.specs.model.Scan.{begins, past, scanned}
 use Rattle.rustc_lexer.specs.laws.Past.{past-zero, past-past, chars-past, IsUtf8-cut, IsUtf8-past, length-past}
 use Rattle.rustc_lexer.proofs.lemmas.tokens.Raw.{hash_len, quote_front}
 use Rattle.rustc_lexer.specs.laws.Scan.{scanned-after}

@@ -12,12 +12,12 @@ use Rattle.std.proofs.{Math.Bool.{and-true, not-not}, lemmas.Grind.{common_steps
 use Rattle.unicode_ident.proofs.Computing.{unicode_ident}
 use Rattle.rustc_lexer.specs.{Edition, TokenKind, Ident, Whitespace, declared.lexemes.family.TheConstants.{CLASSIFIED}}
 use Rattle.rustc_lexer.specs.declared.lexemes.family.Family.{Family, TheVariants.{Space, Word, Symbol}}
-use Rattle.rustc_lexer.specs.means.Edition.{changed, first_token_in}
-use Rattle.rustc_lexer.specs.means.Ends.{bit, goes_on, is_end, AreEndsPast, IsEnds, IsLowest, classified, classified_in}
-use Rattle.rustc_lexer.specs.means.Ends.{StaysWithin}
-use Rattle.rustc_lexer.specs.{means.ByteRuns.{is_continue_byte, is_space_byte}, Tables.{is_emoji}}
-use Rattle.rustc_lexer.specs.means.{Lexeme.{family_of, symbol_kind}, Quick.{is_space_lead, turns_word, IsFirstToken}}
-use Rattle.rustc_lexer.specs.means.Scan.{next_is}
+use Rattle.rustc_lexer.specs.model.Edition.{changed, first_token_in}
+use Rattle.rustc_lexer.specs.model.Ends.{bit, goes_on, is_end, AreEndsPast, IsEnds, IsLowest, classified, classified_in}
+use Rattle.rustc_lexer.specs.model.Ends.{StaysWithin}
+use Rattle.rustc_lexer.specs.{model.ByteRuns.{is_continue_byte, is_space_byte}, Tables.{is_emoji}}
+use Rattle.rustc_lexer.specs.model.{Lexeme.{family_of, symbol_kind}, Quick.{is_space_lead, turns_word, IsFirstToken}}
+use Rattle.rustc_lexer.specs.model.Scan.{next_is}
 use Rattle.rustc_lexer.proofs.lemmas.tokens.Editions.{is_newer, older}
 use Rattle.rustc_lexer.proofs.lemmas.tokens.Bits.{bit-and, bit-below, bit-flip, bit-zero, flip, within}
 use Rattle.rustc_lexer.proofs.lemmas.tokens.Quick.{word_first, space_first, symbol_first}

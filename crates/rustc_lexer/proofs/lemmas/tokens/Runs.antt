@@ -1,7 +1,7 @@
 -- Runs of a class of characters, read from the front.
 use Rattle.std.proofs.{lemmas.Grind.{common_steps}, Common.{◌≡◌, ℕ, Bool, true, false, List, [], ◌∷◌, refl, ◌∙◌, arith}}
 use Rattle.std.specs.Str.{chars, IsUtf8}
-use Rattle.rustc_lexer.specs.{means.Scan.{next_is, past, run_len}, laws.Past.{past-zero, past-past}}
+use Rattle.rustc_lexer.specs.{model.Scan.{next_is, past, run_len}, laws.Past.{past-zero, past-past}}
 
 -- past a character of the class the run goes on
 pub run_on : (p : ℕ → Bool) (text tail : List ℕ) (c : ℕ) → IsUtf8 text → chars text ≡ c ∷ chars tail

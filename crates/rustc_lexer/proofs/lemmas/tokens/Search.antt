@@ -7,7 +7,7 @@ use Rattle.std.proofs.{Math.Seq.{drop-cons, drop-length}, lemmas.Bool.{eq-eqb, e
 use Rattle.std.proofs.lemmas.{Bool.Decides.{Decides-eqb}, List.{get_or-drop}, Slice.Eq.{starts_is}}
 use Rattle.std.specs.List.{starts_with}
 use Rattle.memchr.specs.Find.{IsFirstByte, is_byte}
-use Rattle.rustc_lexer.specs.means.{Frontmatter.{first}, Least.{more, one_more}, Scan.{begins}}
+use Rattle.rustc_lexer.specs.model.{Frontmatter.{first}, Least.{more, one_more}, Scan.{begins}}
 use Rattle.rustc_lexer.specs.laws.{Choice.{by_either}, Fences.{begins-whole}, LanguageRuns.{either-way}}
 use Rattle.rustc_lexer.specs.laws.Least.{more-more, more-zero, offset-here, offset-on, one_more-more}
 

@@ -8,9 +8,9 @@ use Rattle.std.proofs.Math.Seq.{drop-cons, drop-length, get_or-append_seam}
 use Rattle.std.proofs.lemmas.Bool.{cases_Bool, eqb-true, ne_eqb}
 use Rattle.std.proofs.lemmas.{List.{get_or-take}, Grind.{common_steps}}
 use Rattle.std.proofs.lemmas.Str.{IsCharBoundary-past_char, IsCharBoundary-start, encodes-chars}
-use Rattle.rustc_lexer.specs.Document.{mark_len}
-use Rattle.rustc_lexer.specs.{Classes.{AreAll, is_inline}, means.Scan.{begins}}
-use Rattle.rustc_lexer.specs.means.Shebang.{is_attribute, line_len, shebang_past, read_shebang}
+use Rattle.rustc_lexer.specs.Document.{byte_order_mark_len}
+use Rattle.rustc_lexer.specs.{Classes.{AreAll, is_inline}, model.Scan.{begins}}
+use Rattle.rustc_lexer.specs.model.Shebang.{is_attribute, line_len, shebang_past, read_shebang}
 use Rattle.rustc_lexer.specs.{LanguageText.{part, newest}, Tokens.{tokens_of}}
 use Rattle.rustc_lexer.specs.{LanguageCalls.{IsLineBefore, to_end, to_newline, to_return}, laws.Fences.{begins-whole}}
 use Rattle.rustc_lexer.specs.laws.LanguageShebang.{line-read}
@@ -72,10 +72,10 @@ module _ (text : List ℕ) where
         grind (arith, common_steps, get_or-take k text (k - 1) 0 (omega arith), get_or-append_seam u 13 [] 0, free)))
 
 -- a document can be cut after its byte order mark
-pub mark_boundary : (text : List ℕ) → IsUtf8 text → IsCharBoundary text (mark_len text)
+pub mark_boundary : (text : List ℕ) → IsUtf8 text → IsCharBoundary text (byte_order_mark_len text)
 mark_boundary text utf8 = by_chars (chars text) refl
   where
-    by_chars : (cs : List ℕ) → chars text ≡ cs → IsCharBoundary text (mark_len text)
+    by_chars : (cs : List ℕ) → chars text ≡ cs → IsCharBoundary text (byte_order_mark_len text)
     by_chars [] e = rw e (IsCharBoundary-start text utf8)
     by_chars (c ∷ cs) e = elim (cases_Bool (c == 0xFEFF)) [
       | inl mark ↦

@@ -5,8 +5,8 @@ use Rattle.std.specs.{Int.{from_bool}, Str.{chars, encode_utf8_all, IsUtf8, IsCh
 use Rattle.std.proofs.lemmas.{Bool.{eqb-true, lt-leb}, Str.{encodes-chars, IsCharBoundary-from_drop}}
 use Rattle.std.proofs.{Math.Bool.{or-true}, lemmas.Grind.{common_steps}}
 use Rattle.unicode_ident.proofs.IdentLemmas.{is_xid_start-ascii}
-use Rattle.rustc_lexer.specs.{Tables.{is_emoji}, means.Lifetime.{is_name_start, is_character_at}}
-use Rattle.rustc_lexer.specs.means.{Quoted.{single_quoted_string}, Scan.{begins, past, scanned}}
+use Rattle.rustc_lexer.specs.{Tables.{is_emoji}, model.Lifetime.{is_name_start, is_character_at}}
+use Rattle.rustc_lexer.specs.model.{Quoted.{single_quoted_string}, Scan.{begins, past, scanned}}
 use Rattle.rustc_lexer.specs.laws.Choice.{by_either}
 use Rattle.rustc_lexer.proofs.lemmas.tokens.AsciiRuns.{chars-ascii, IsUtf8-ascii, past-ascii}
 use Rattle.rustc_lexer.specs.laws.Past.{past-two}

@@ -4,7 +4,7 @@ use Rattle.std.proofs.Common.{◌≡◌, ℕ, ◌+◌, ◌-◌, ◌*◌, ◌%◌
 use Rattle.std.proofs.Common.{arith, bit_or}
 use Rattle.std.proofs.lemmas.Bool.{cases_lt, or_cases, or_right}
 use lib.Lanes.{chunk, mask_l}
-use Rattle.rustc_lexer.specs.means.{ByteRuns.{outside}, Ends.{bit}}
+use Rattle.rustc_lexer.specs.model.{ByteRuns.{outside}, Ends.{bit}}
 use Rattle.rustc_lexer.proofs.lemmas.tokens.Bits.{bit-or, bit-shl_below, bit-shl_on, mask_in, mask_past}
 
 module _ (p : ℕ → Bool) (bytes : List ℕ) where

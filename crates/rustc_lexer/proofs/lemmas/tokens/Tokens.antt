@@ -8,7 +8,7 @@ use Rattle.rustc_lexer.specs.{Edition, FrontmatterAllowed, Token, No}
 use Rattle.rustc_lexer.specs.Tokens.{tokens_of, tokens_left, RestartsAtBounds, TakesToken}
 use Rattle.rustc_lexer.specs.laws.Tokens.{token_at-cuts, tokens-cons, tokens-nil}
 use Rattle.rustc_lexer.specs.{LanguageText.{Mode, part, mode_after, mode_in}, laws.Edition.{edition_grammar}}
-use Rattle.rustc_lexer.specs.{means.Edition.{first_token_in}, State.{State}, means.Taking.{token_at}}
+use Rattle.rustc_lexer.specs.{model.Edition.{first_token_in}, State.{State}, model.Taking.{token_at}}
 use Rattle.rustc_lexer.specs.laws.Cuts.{at_bound}
 use Rattle.rustc_lexer.specs.laws.State.{state, past_token, past_token-is, advance-some, token_past-zero}
 use Rattle.rustc_lexer.specs.Classes.{IsText}

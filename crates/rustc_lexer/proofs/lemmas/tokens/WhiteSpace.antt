@@ -3,9 +3,9 @@ use Rattle.std.proofs.Common.{◌≡◌, ℕ, ◌||◌, Bool, true, false, true�
 use Rattle.std.proofs.Common.{◌∙◌, arith}
 use Rattle.std.specs.{Char.{encode_utf8}, List.{prefix_len}, Str.{chars, encode_utf8_all, IsUtf8}}
 use Rattle.std.proofs.lemmas.{List.{get_or_append_left}, Str.{encodes-chars, length-encode, len_utf8_bounds}}
-use Rattle.rustc_lexer.specs.{means.ByteRuns.{is_space_byte}, Classes.{is_whitespace}}
+use Rattle.rustc_lexer.specs.{model.ByteRuns.{is_space_byte}, Classes.{is_whitespace}}
 use Rattle.std.proofs.lemmas.Bool.{false_from_ne_true}
-use Rattle.rustc_lexer.specs.{laws.LanguageRuns.{among}, means.{Quick.{is_space_lead}, Scan.{next_is, past, run_len}}}
+use Rattle.rustc_lexer.specs.{laws.LanguageRuns.{among}, model.{Quick.{is_space_lead}, Scan.{next_is, past, run_len}}}
 use Rattle.rustc_lexer.proofs.lemmas.tokens.{AsciiRuns.{Skips, left_there, run_over}, ClassParts.{space_part}}
 
 abbrev leads : ℕ → Bool

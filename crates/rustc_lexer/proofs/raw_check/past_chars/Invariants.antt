@@ -1,7 +1,7 @@
 use Rattle.std.proofs.Common.{◌≡◌}
 use denote.Text.{Utf8}
 use denote.Shadow.{shadow}
-use Rattle.rustc_lexer.specs.means.Scan.{past}
+use Rattle.rustc_lexer.specs.model.Scan.{past}
 use Rattle.rustc_lexer.proofs.raw_check.past_chars.Given as goal
 
 abbrev pub invariant-chars : goal.invariant-chars

@@ -1,5 +1,5 @@
 use Rattle.std.proofs.{lemmas.Grind.{common_steps}, Common.{arith, rules}}
-use Rattle.rustc_lexer.specs.{means.ByteRuns.{is_continue_byte}, Classes.{is_id_continue}}
+use Rattle.rustc_lexer.specs.{model.ByteRuns.{is_continue_byte}, Classes.{is_id_continue}}
 use Rattle.rustc_lexer.proofs.lemmas.tokens.{AsciiRuns.{may_cut, goes_on, stops_here}, ClassParts.{continue_part}}
 use Rattle.rustc_lexer.proofs.scan.eat_continue.Goals as goal
 

@@ -1,4 +1,4 @@
-use Rattle.rustc_lexer.specs.means.Raw.{is_hash}
+use Rattle.rustc_lexer.specs.model.Raw.{is_hash}
 use Rattle.rustc_lexer.proofs.lemmas.tokens.{AsciiRuns.{may_cut_small, past_small}, Hashes.{hash-small}}
 use Rattle.rustc_lexer.proofs.scan.eat_hashes.Goals as goal
 

@@ -1,5 +1,5 @@
 use Rattle.std.specs.Char.{is_ascii_hexdigit}
-use Rattle.rustc_lexer.specs.means.Number.{or_underscore}
+use Rattle.rustc_lexer.specs.model.Number.{or_underscore}
 use Rattle.rustc_lexer.proofs.lemmas.tokens.{AsciiRuns.{may_cut_small, past_small}, Numbers.{hexdigit-small}}
 use Rattle.rustc_lexer.proofs.scan.eat_hexadecimal.Goals as goal
 

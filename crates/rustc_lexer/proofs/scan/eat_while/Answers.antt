@@ -1,5 +1,5 @@
 use Rattle.std.proofs.{Common.{sym, refl, ap, arith, ◌∙◌}, lemmas.Grind.{common_steps}}
-use Rattle.rustc_lexer.specs.{means.Scan.{next_is}, laws.Past.{IsUtf8-cut}}
+use Rattle.rustc_lexer.specs.{model.Scan.{next_is}, laws.Past.{IsUtf8-cut}}
 use Rattle.rustc_lexer.proofs.lemmas.tokens.Runs.{run_on, run_ends}
 use Rattle.rustc_lexer.proofs.scan.eat_while.Goals as goal
 

@@ -2,7 +2,7 @@ use Rattle.std.proofs.Common.{ℕ, Bool, ◌≡◌, ◌≤◌, length}
 use Rattle.std.specs.Str.{chars}
 use denote.Text.{Utf8}
 use denote.Shadow.{shadow}
-use Rattle.rustc_lexer.specs.means.Scan.{past, run_len}
+use Rattle.rustc_lexer.specs.model.Scan.{past, run_len}
 use Rattle.rustc_lexer.proofs.scan.eat_while.Given as goal
 
 abbrev pub invariant-chars : goal.invariant-chars

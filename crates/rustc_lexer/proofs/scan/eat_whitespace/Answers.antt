@@ -1,5 +1,5 @@
 use Rattle.std.proofs.{lemmas.Grind.{common_steps}, Common.{arith, rules}, lemmas.Bool.{not-true}}
-use Rattle.rustc_lexer.specs.{means.ByteRuns.{is_space_byte}, Classes.{is_whitespace}}
+use Rattle.rustc_lexer.specs.{model.ByteRuns.{is_space_byte}, Classes.{is_whitespace}}
 use Rattle.rustc_lexer.proofs.lemmas.tokens.{AsciiRuns.{may_cut, goes_on}, ClassParts.{space_part}}
 use Rattle.rustc_lexer.proofs.lemmas.tokens.WhiteSpace.{space_stops_here}
 use Rattle.rustc_lexer.proofs.scan.eat_whitespace.Goals as goal

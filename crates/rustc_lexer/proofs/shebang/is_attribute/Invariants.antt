@@ -1,5 +1,5 @@
 use Rattle.std.proofs.Common.{◌≡◌, length}
-use Rattle.rustc_lexer.specs.{LanguageText.{part, newest}, means.Shebang.{is_attribute}}
+use Rattle.rustc_lexer.specs.{LanguageText.{part, newest}, model.Shebang.{is_attribute}}
 use Rattle.rustc_lexer.specs.Tokens.{tokens_of, tokens_left}
 use Rattle.rustc_lexer.proofs.shebang.is_attribute.Given as goal
 

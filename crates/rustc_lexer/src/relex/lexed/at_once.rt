@@ -6,8 +6,8 @@ ghost use Rattle.rustc_lexer.specs.declared.relex.edit_list.EditStop.{EditStop};
 ghost use Rattle.rustc_lexer.specs.Edits.{AreAtOnce, AreInOrder, IsStopAtOnce, all_stay, apply_list, start_of_first, stop_of_last};
 ghost use Rattle.rustc_lexer.specs.Edits.{with_all};
 ghost use Rattle.rustc_lexer.specs.Classes.{Fits};
-ghost use Rattle.rustc_lexer.specs.means.Document.{edit_change};
-ghost use Rattle.rustc_lexer.specs.Kept.{HasStepCount, IsEdited, layout_in};
+ghost use Rattle.rustc_lexer.specs.model.Document.{edit_change};
+ghost use Rattle.rustc_lexer.specs.LexedText.{HasStepCount, IsEdited, layout_in};
 
 use crate::entry::stepper::Stepper;
 use crate::head::Extent;
@@ -25,7 +25,7 @@ impl<S: Stepper, E: Extent> Lexed<S, E> {
     /// where the first begins to where the last ends, and returns its counts. An empty list keeps all at the front.
     /// `Err` names the first that is out of bounds, cuts a character or begins before the one in front of it ends; or
     /// the last, if the text would be too long or memory is refused. Text and tokens then stay.
-    pub fn edit_at_once(&mut self, edits: &[Edit<'_>]) -> Result<Relexed, EditStop>
+    pub fn edit_batch(&mut self, edits: &[Edit<'_>]) -> Result<Relexed, EditStop>
         ensures accepted { OnOk result (AreAtOnce self.old.text edits.now) }
         ensures none { edits.now ≡ []
             → (self.new ≡ self.old) × (result ≡ Ok (all_stay (length self.old.tokens))) }
@@ -80,22 +80,18 @@ fn change_of(text: &str, edits: &[Edit<'_>]) -> Result<Change, EditStop>
 {
     let mut change = Change {
         start: edits[0].start,
-        old_stop: 0,
-        new_stop: 0,
+        old_end: 0,
+        new_end: 0,
     };
     for (at, edit) in edits.iter().enumerate() {
-        if edit.start < change.old_stop || !contains_range(text, edit.start, edit.stop) {
+        if edit.start < change.old_end || !contains_range(text, edit.start, edit.stop) {
             return Err(EditStop::Range { at });
         }
-        change.new_stop = saturating_len(
-            change.new_stop,
-            edit.start - change.old_stop,
-            edit.insert,
-        );
-        change.old_stop = edit.stop;
+        change.new_end = saturating_len(change.new_end, edit.start - change.old_end, edit.insert);
+        change.old_end = edit.stop;
     }
-    let behind = text.len() - change.old_stop;
-    if change.new_stop > u32::MAX as usize - behind {
+    let behind = text.len() - change.old_end;
+    if change.new_end > u32::MAX as usize - behind {
         let at = edits.len() - 1;
         return Err(EditStop::TooLong { at });
     }
@@ -118,14 +114,14 @@ fn edited_text(
     edit: Change,
 ) -> Result<String, AllocError>
     requires in_order { AreInOrder text.now 0 edits.now }
-    requires stop { edit.old_stop ≤ length text.now }
-    requires short { edit.new_stop < 2 ^ 33 }
+    requires stop { edit.old_end ≤ length text.now }
+    requires short { edit.new_end < 2 ^ 33 }
     requires fits { Fits text.now }
     ensures { IfOk result (λ made. string_bytes made
         ≡ with_all text.now 0 edits.now ++ drop (stop_of_last 0 edits.now) text.now) }
 {
     let mut made = String::new(alloc);
-    made.reserve(edit.new_stop + (text.len() - edit.old_stop))?;
+    made.reserve(edit.new_end + (text.len() - edit.old_end))?;
     let mut from = 0;
     for edit in edits {
         made.push_str(&text[from..edit.start])?;

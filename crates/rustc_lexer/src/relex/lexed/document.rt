@@ -4,11 +4,11 @@ ghost use Rattle.rustc_lexer.specs.Document as spec;
 ghost use Rattle.rustc_lexer.specs.Tokens.{tokens_by};
 
 use crate::entry::stepper::Stepper;
-use crate::head::Whole;
+use crate::head::Document;
 use crate::relex::front::TokenStart;
 use crate::relex::lexed::Lexed;
 
-impl<S: Stepper> Lexed<S, Whole> {
+impl<S: Stepper> Lexed<S, Document> {
     /// Returns the offset of the first token, in bytes: only a byte order mark and a shebang line come before it.
     pub fn tokens_start(&self) -> usize
         ensures start { result ≡ spec.tokens_start self.now.text }

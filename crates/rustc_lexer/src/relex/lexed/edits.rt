@@ -1,14 +1,14 @@
 //! Several edits of a kept text, one after another.
 ghost use Rattle.std.specs.Prelude.{◌≡◌, ◌+◌, ◌-◌, ◌^◌, ◌<◌, ◌≤◌, IfErr, IfOk, OnOk, length, min, take};
 ghost use Rattle.rustc_lexer.specs.Edits.{stop_at};
-ghost use Rattle.rustc_lexer.specs.Kept.{HaveStepCounts, AreKeptThrough, AreMade, layout_in, reason};
+ghost use Rattle.rustc_lexer.specs.LexedText.{HaveStepCounts, AreKeptThrough, AreMade, layout_in, reason};
 ghost use Rattle.rustc_lexer.specs.Partition.{tokens_in};
-ghost use Rattle.rustc_lexer.specs.means.EditList.{AreKeptTo};
+ghost use Rattle.rustc_lexer.specs.model.EditList.{AreKeptTo};
 
 use crate::entry::stepper::Stepper;
 use crate::head::Extent;
 use crate::relex::edit::{Edit, accepts, contains_range};
-use crate::relex::edit_list::{EditStop, Stopped};
+use crate::relex::edit_list::{EditSequenceError, EditStop};
 use crate::relex::lexed::Lexed;
 use crate::relex::relexing::Relexed;
 
@@ -62,7 +62,7 @@ impl<S: Stepper, E: Extent> Lexed<S, E> {
         ensures count { HaveStepCounts (layout_in E.whole (S.grammar self.old.stepper).first) self.old.text
             edits.now result (S.count self.old.stepper) (S.count self.new.stepper) }
     {
-        match self.edit_each(edits) {
+        match self.edit_sequence(edits) {
             Ok(_) => Ok(()),
             Err(stopped) => Err(stopped.stop),
         }
@@ -71,7 +71,7 @@ impl<S: Stepper, E: Extent> Lexed<S, E> {
     /// Makes the edits as [`edit_all`](Lexed::edit_all) does. Returns how many tokens all of them kept at the front
     /// and at the back, and how many are now between these. An empty list keeps all at the front. `Err` also says
     /// what the edits before the refused one kept.
-    pub fn edit_each(&mut self, edits: &[Edit<'_>]) -> Result<Relexed, Stopped>
+    pub fn edit_sequence(&mut self, edits: &[Edit<'_>]) -> Result<Relexed, EditSequenceError>
         ensures made { AreMade (layout_in E.whole (S.grammar self.old.stepper).first) self.old edits.now
             (reason result) self.new }
         ensures grammar { S.grammar self.new.stepper ≡ S.grammar self.old.stepper }
@@ -93,7 +93,7 @@ impl<S: Stepper, E: Extent> Lexed<S, E> {
         let relexed = made.counts(old_len, self.tokens().len());
         match all {
             Ok(()) => Ok(relexed),
-            Err(stop) => Err(Stopped { stop, relexed }),
+            Err(stop) => Err(EditSequenceError { stop, relexed }),
         }
     }
 

@@ -2,7 +2,7 @@
 ghost use Rattle.std.specs.Prelude.{◌≡◌, ◌+◌, IfOk, OnErr, OnOk, length};
 ghost use Rattle.rustc_lexer.specs.Answers.{first_in, grammar_of};
 ghost use Rattle.rustc_lexer.specs.Classes.{Fits};
-ghost use Rattle.rustc_lexer.specs.Kept.{edition_tokens_in, layout_in};
+ghost use Rattle.rustc_lexer.specs.LexedText.{edition_tokens_in, layout_in};
 ghost use Rattle.rustc_lexer.specs.LanguageText.{newest};
 
 use crate::edition::Edition;

@@ -1,9 +1,9 @@
 //! From an offset to a token of a kept text, and the pieces of the text.
 ghost use Rattle.std.specs.Prelude.{[], ◌∷◌, ◌≡◌, ◌+◌, ◌-◌, ◌^◌, ◌<◌, ◌≤◌, ◌↔◌, IfSome, IsNone, IsSome, ℕ, drop, length, take};
-ghost use Rattle.rustc_lexer.specs.Kept.{pieces_from, placed, start_in};
+ghost use Rattle.rustc_lexer.specs.LexedText.{pieces_from, placed, start_in};
 ghost use Rattle.rustc_lexer.specs.Offsets.{AreTouched, ContainsByte};
 ghost use Rattle.rustc_lexer.specs.Tokens.{bound};
-ghost use Rattle.rustc_lexer.specs.means.Checkpoints.{IsBoundFrom};
+ghost use Rattle.rustc_lexer.specs.model.Checkpoints.{IsBoundFrom};
 
 use crate::entry::stepper::Stepper;
 use crate::head::Extent;
@@ -38,11 +38,11 @@ impl<S: Stepper, E: Extent> Lexed<S, E> {
     /// ```ignore
     /// // An editor paints what an edit changed.
     /// let counts = held.edit(start, stop, insert)?;
-    /// for piece in held.pieces_of_tokens(counts.kept_front, counts.kept_front + counts.lexed) {
+    /// for piece in held.pieces_by_index(counts.kept_front, counts.kept_front + counts.lexed) {
     ///     paint(piece.start, piece.token.kind, piece.text);
     /// }
     /// ```
-    pub fn pieces_of_tokens(&self, from: usize, to: usize) -> Pieces<'_>
+    pub fn pieces_by_index(&self, from: usize, to: usize) -> Pieces<'_>
         requires from_le_to { from ≤ to }
         requires to_inside { to ≤ length self.now.tokens }
         ensures pieces { result
@@ -80,7 +80,7 @@ impl<S: Stepper, E: Extent> Lexed<S, E> {
             (pieces_from self.now.text (start_in E.whole self.now.text) self.now.tokens))) }
     {
         let (from, to) = self.numbers_in(start, stop);
-        self.pieces_of_tokens(from, to)
+        self.pieces_by_index(from, to)
     }
 
     /// Returns the last boundary known without a search that has at most `number` tokens before

@@ -3,11 +3,11 @@ ghost use Rattle.rustc_lexer.specs.Locality.{IsSettled, StaysUpTo};
 ghost use Rattle.rustc_lexer.specs.Tokens.{tokens_by};
 
 use crate::entry::stepper::Stepper;
-use crate::head::Part;
+use crate::head::Fragment;
 use crate::relex::front::{TokenStart, kept_front};
 use crate::relex::lexed::Lexed;
 
-impl<S: Stepper> Lexed<S, Part> {
+impl<S: Stepper> Lexed<S, Fragment> {
     /// Returns where the last token that at least two characters follow ends, in bytes, or 0 if there is no such token.
     ///
     /// Whatever is appended to the text, its tokens up to this place stay as they are. It lexes nothing, and reads only

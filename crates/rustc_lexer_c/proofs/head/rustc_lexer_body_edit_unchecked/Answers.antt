@@ -4,25 +4,25 @@ use Rattle.rustc_lexer_c.proofs.HeadLemmas.{Changes, found, refused_body, refuse
 use Rattle.rustc_lexer_c.specs.Relex.{change_of}
 use Rattle.rustc_lexer_c.proofs.head.rustc_lexer_body_edit_unchecked.Goals as goal
 
-pub returns-then-not-may_make : goal.returns-then-not-may_make
-returns-then-not-may_make c =
+pub returns-then-not-is_valid_for : goal.returns-then-not-is_valid_for
+returns-then-not-is_valid_for c =
     let text : List ℕ = c.in-Ok.text.now in
     let is : IsText text = rw c.in-Ok.ensures.0 c.in-Ok.ensures.1 in
     let not : ¬ (IsChange text (change_of c.args.edit.now)) =
-    λ fine. true≢false (sym (c.may_make.ensures.1 (rw c.change_of-change.ensures fine)) ∙ c.if-not-may_make.true) in
-    rw (← c.in-Ok.ensures.0, c.number-then-not-may_make.ensures)
+    λ fine. true≢false (sym (c.is_valid_for.ensures.1 (rw c.change_of-change.ensures fine)) ∙ c.if-not-is_valid_for.true) in
+    rw (← c.in-Ok.ensures.0, c.number-then-not-is_valid_for.ensures)
     (refused_edit text is c.args.edit.now c.args.head.now c.args.body_edit.now c.args.head_kept.now not)
 
-pub returns-then-not-may_make-2 : goal.returns-then-not-may_make-2
-returns-then-not-may_make-2 c =
+pub returns-then-not-is_valid_for-2 : goal.returns-then-not-is_valid_for-2
+returns-then-not-is_valid_for-2 c =
     let text : List ℕ = c.in-Ok.text.now in
     let is : IsText text = rw c.in-Ok.ensures.0 c.in-Ok.ensures.1 in
     let body = c.change_to-body.result in
     let all : Changes c.args.head.now c.args.edit.now c.find-now.result body.keeps_head body.change =
     rw (sym c.head_of.ensures.head, sym c.change_of-change.ensures) c.change_to-body.ensures.body in
     let not : ¬ (IsChange c.range_from.result.now body.change) =
-    λ may. true≢false (sym (c.may_make-2.ensures.1 may) ∙ c.if-not-may_make-2.true) in
-    rw (← c.in-Ok.ensures.0, c.number-then-not-may_make-2.ensures)
+    λ may. true≢false (sym (c.is_valid_for-2.ensures.1 may) ∙ c.if-not-is_valid_for-2.true) in
+    rw (← c.in-Ok.ensures.0, c.number-then-not-is_valid_for-2.ensures)
     (refused_body text is c.args.edit.now c.args.head.now c.args.body_edit.now c.args.head_kept.now
     c.find-now.result body.keeps_head body.change c.find-now.ensures.head all
     (rw c.range_from.ensures.value at not))
@@ -34,8 +34,8 @@ returns c =
     let body = c.change_to-body.result in
     let all : Changes c.args.head.now c.args.edit.now c.find-now.result body.keeps_head body.change =
     rw (sym c.head_of.ensures.head, sym c.change_of-change.ensures) c.change_to-body.ensures.body in
-    let fine = rw c.change_of-change.ensures at (c.may_make.ensures.0 c.if-not-may_make.false) in
-    let may = rw c.range_from.ensures.value at (c.may_make-2.ensures.0 c.if-not-may_make-2.false) in
+    let fine = rw c.change_of-change.ensures at (c.is_valid_for.ensures.0 c.if-not-is_valid_for.false) in
+    let may = rw c.range_from.ensures.value at (c.is_valid_for-2.ensures.0 c.if-not-is_valid_for-2.false) in
     rw (← c.in-Ok.ensures.0, c.numbers_of_head.ensures, c.edit_of.ensures, c.from.ensures)
     (found text is c.args.edit.now c.args.head.now c.args.body_edit.now c.args.head_kept.now c.find-now.result
     body.keeps_head body.change c.find-now.ensures.head all fine may)

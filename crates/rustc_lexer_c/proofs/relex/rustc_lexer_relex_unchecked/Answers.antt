@@ -1,7 +1,7 @@
 use Rattle.std.proofs.Common.{◌≡◌, ◌<◌, List, ℕ, ◌++◌, length, map, take, drop, subst, true, ◌∙◌, Some}
 use Rattle.std.proofs.lemmas.List.{length-map}
 use Rattle.rustc_lexer.specs.{declared.relex.relexing.Change.{Change}, Classes.{IsText}, Relexing.{known}}
-use Rattle.rustc_lexer.specs.{Relexing.{IsMadeOf, IsUnderWay, TakesSteps, is_over}, Answers.{grammar_of}}
+use Rattle.rustc_lexer.specs.{Relexing.{IsMadeOf, IsUnderWay, TakesSteps, is_done}, Answers.{grammar_of}}
 use Rattle.rustc_lexer.specs.{LanguageCalls.{edition_of_year}, Locality.{Grammar}, Tokens.{tokens_by}}
 use Rattle.rustc_lexer_c.specs.{declared.token.CToken.{CToken}, Numbers.{token_numbers}, Relex.{change_of}}
 use Rattle.rustc_lexer_c.proofs.RelexLemmas.{none_some, relexed}
@@ -22,13 +22,13 @@ returns c =
     let lens_are : now.lengths ≡ lens = f.edited.1 ∙ some.1 in
     let many : length lens ≡ length c.args.old.now = length-map c.args.old.now _ in
     let Fills : Grammar → List ℕ → List ℕ → Change → Type 0 =
-    λ g t ls ch. TakesSteps g.first t ch.new_stop begin.at c.fill.result now.at
+    λ g t ls ch. TakesSteps g.first t ch.new_end begin.at c.fill.result now.at
     × (c.fill.new.buffer ≡ map token_numbers (take c.fill.result (tokens_by g.first (drop begin.at.at t)))
     ++ drop c.fill.result c.args.buffer.now)
     × ((before insert : List ℕ) → IsMadeOf g.first before ls ch insert t → IsUnderWay g.first before ch t begin.at
     → IsUnderWay g.first before ch t now.at
     × (tokens_by g.first (drop begin.at.at t) ≡ drop (known begin.at) (tokens_by g.first t)))
-    × (c.fill.result < length c.args.buffer.now → is_over t now.at ≡ true) in
+    × (c.fill.result < length c.args.buffer.now → is_done t now.at ≡ true) in
     let grammar : Grammar = grammar_of c.in-Some.edition in
     let begun = subst (λ (g : Grammar). Fills g begin.text begin.lengths begin.change) c.new_in.ensures.grammar
     (f.steps, f.tokens, f.under_way, f.over) in
@@ -36,7 +36,7 @@ returns c =
     let old_are = subst (λ (ls : List ℕ). Fills grammar begin.text ls change) some.1 changed in
     let fills = subst (λ (t : List ℕ). Fills grammar t lens change) some.0 old_are in
     let numbers = rw (text_is, lens_are, many) at c.relexing_numbers.ensures.numbers in
-    let may = rw (text_is, lens_are, many) at c.relexing_numbers.ensures.may_go_on in
+    let may = rw (text_is, lens_are, many) at c.relexing_numbers.ensures.can_continue in
     let passes = rw c.change_of.ensures at some.5 in
     let year_is : edition_of_year c.args.edition ≡ Some c.in-Some.edition = cc in
     let asked = rw c.change_of.ensures at c.in-Some-relex_at.ensures.none.1 in

@@ -1,6 +1,6 @@
 use Rattle.std.proofs.Common.{◌≡◌, List, ℕ, false, sym, ap, ◌∙◌, rules}
 use Rattle.rustc_literal_escaper.specs.{declared.element.Element.{Element}}
-use Rattle.rustc_literal_escaper.specs.means.{Elements.{Front, front, one}, Escape.{escape}}
+use Rattle.rustc_literal_escaper.specs.model.{Elements.{Front, front, one}, Escape.{escape}}
 use Rattle.rustc_literal_escaper.proofs.SinkLemmas.{at_end, at_same, escape_reads, items_line, less_left, line_reads}
 use Rattle.rustc_literal_escaper.proofs.SinkLemmas.{one_enough, one_more, plain_reads, takes_enough, takes_more}
 use Rattle.rustc_literal_escaper.proofs.elements.each_escaped.Goals as goal

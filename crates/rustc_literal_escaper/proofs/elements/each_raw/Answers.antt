@@ -1,6 +1,6 @@
 use Rattle.std.proofs.Common.{List, ℕ, true, sym, ap, ◌∙◌, rules}
 use Rattle.rustc_literal_escaper.specs.declared.element.Element.{Element}
-use Rattle.rustc_literal_escaper.specs.means.Elements.{one}
+use Rattle.rustc_literal_escaper.specs.model.Elements.{one}
 use Rattle.rustc_literal_escaper.proofs.SinkLemmas.{at_end, at_same, one_enough, one_more, raw_reads}
 use Rattle.rustc_literal_escaper.proofs.elements.each_raw.Goals as goal
 

@@ -1,5 +1,5 @@
 use Rattle.std.proofs.Common.{refl, sym, ap, ◌∙◌}
-use Rattle.rustc_literal_escaper.specs.means.Elements.{more_space}
+use Rattle.rustc_literal_escaper.specs.model.Elements.{more_space}
 use Rattle.rustc_literal_escaper.proofs.SinkLemmas.{at_same, warning_taken}
 use Rattle.rustc_literal_escaper.proofs.elements.warn_of_space.Goals as goal
 

@@ -1,5 +1,5 @@
 use Rattle.std.proofs.{Common.{ℕ, false, bit_or, refl, arith}, lemmas.Simd.{zip2_splat, zip2_of_maps, splat_is_map}}
-use Rattle.rustc_literal_escaper.specs.means.Plain.{is_stop}
+use Rattle.rustc_literal_escaper.specs.model.Plain.{is_stop}
 use Rattle.rustc_literal_escaper.proofs.LaneLemmas.{least, masked}
 use Rattle.rustc_literal_escaper.proofs.simple.escaped_stops.Goals as goal
 

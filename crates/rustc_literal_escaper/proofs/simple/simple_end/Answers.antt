@@ -1,6 +1,6 @@
 use Rattle.std.proofs.Common.{sym, ap, ◌∙◌, arith}
 use lib.Count.{count_trailing_zeros}
-use Rattle.rustc_literal_escaper.specs.means.Plain.{is_simple}
+use Rattle.rustc_literal_escaper.specs.model.Plain.{is_simple}
 use Rattle.rustc_literal_escaper.proofs.LaneLemmas.{run_bound, run_stops}
 use Rattle.rustc_literal_escaper.proofs.simple.simple_end.Goals as goal
 

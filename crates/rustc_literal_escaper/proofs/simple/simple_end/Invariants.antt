@@ -1,6 +1,6 @@
 use Rattle.std.proofs.Common.{◌≡◌, ◌+◌, ◌-◌, ◌≤◌, length, drop}
 use Rattle.std.specs.List.{prefix_len}
-use Rattle.rustc_literal_escaper.specs.means.Plain.{is_simple}
+use Rattle.rustc_literal_escaper.specs.model.Plain.{is_simple}
 use Rattle.rustc_literal_escaper.proofs.simple.simple_end.Given as goal
 
 abbrev pub invariant-lanes : goal.invariant-lanes

@@ -2,7 +2,7 @@
 //! re-lex: `cargo run --release --bin edits -- FILE [ROUNDS]`, on 64-bit Linux. It edits the first 970,000 bytes of the
 //! file. Times are the minimum of all rounds: wall-clock time for single edits, CPU time for everything else.
 
-use marks::{Edition, Format, class_of, keyword_kind, write_marked};
+use rustc_lexer_highlight::{Edition, Format, class_of, keyword_kind, write_highlighted};
 use rustc_lexer::{
     Edit, FrontmatterAllowed, JoinedText, LexedDocument, LexedText, Piece, TokenKind, tokenize,
 };
@@ -115,11 +115,11 @@ fn lists(text: &str, whole: f64, rounds: usize) {
                     let time = least(rounds, || $Kept::new(text), what);
                     row(&format!("{count} by `{call}` of a `{name}`"), time, whole);
                 };
-                list("edit_each", &|kept| {
-                    kept.edit_each(&each).expect("the edits are accepted");
+                list("edit_sequence", &|kept| {
+                    kept.edit_sequence(&each).expect("the edits are accepted");
                 });
-                list("edit_at_once", &|kept| {
-                    kept.edit_at_once(&at_once).expect("the edits are accepted");
+                list("edit_batch", &|kept| {
+                    kept.edit_batch(&at_once).expect("the edits are accepted");
                 });
             }};
         }
@@ -160,7 +160,7 @@ fn written(text: &str, whole: f64, rounds: usize) {
         )))
     };
     let keyword = |piece: &Piece| drop(black_box(keyword_kind(piece.text, Edition::E2024)));
-    let html = |page: &mut String| write_marked(Format::Html, Edition::E2024, text, page).unwrap();
+    let html = |page: &mut String| write_highlighted(Format::Html, Edition::E2024, text, page).unwrap();
     let page = || String::with_capacity(8 * text.len());
     for (what, time, count) in [
         (
@@ -179,7 +179,7 @@ fn written(text: &str, whole: f64, rounds: usize) {
             words.len(),
         ),
         (
-            "a token by `write_marked` as HTML",
+            "a token by `write_highlighted` as HTML",
             least(rounds, page, html),
             count,
         ),

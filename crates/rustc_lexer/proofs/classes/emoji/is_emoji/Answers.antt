@@ -1,5 +1,5 @@
 use Rattle.std.proofs.{Common.{rules, ◌∙◌}, lemmas.Fn.{always_returns_same}}
-use Rattle.rustc_lexer.specs.{means.Emoji.{side}, Tables.{emoji_ranges}}
+use Rattle.rustc_lexer.specs.{model.Emoji.{side}, Tables.{emoji_ranges}}
 use Rattle.rustc_lexer.proofs.lemmas.tokens.Emoji.{past_ascii}
 use Rattle.rustc_lexer.proofs.classes.emoji.is_emoji.Goals as goal
 

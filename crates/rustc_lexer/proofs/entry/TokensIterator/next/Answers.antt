@@ -1,7 +1,7 @@
 use Rattle.std.proofs.Common.{arith, refl, sym, ap, subst, ◌∙◌}
 use Rattle.std.specs.Str.{IsUtf8}
 use Rattle.std.proofs.lemmas.Str.{IsUtf8-drop}
-use Rattle.rustc_lexer.specs.{LanguageText.{mode_in}, means.{Taking.{token_at}, Quick.{BeginsWithNoHash}}}
+use Rattle.rustc_lexer.specs.{LanguageText.{mode_in}, model.{Taking.{token_at}, Quick.{BeginsWithNoHash}}}
 use Rattle.rustc_lexer.proofs.lemmas.tokens.Tokens.{goes, none_left, takes_next}
 use Rattle.rustc_lexer.proofs.lemmas.tokens.Classified.{left_is, still, takes_left, takes_classified}
 use Rattle.rustc_lexer.proofs.entry.TokensIterator.next.Goals as goal

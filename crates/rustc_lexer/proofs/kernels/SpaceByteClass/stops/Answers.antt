@@ -1,7 +1,7 @@
 use Rattle.std.proofs.Common.{List, ℕ, bit_and, refl, arith, rules, w8}
 use Rattle.std.proofs.lemmas.Simd.{chunk-fits, length-chunk, zip2_splat, zip2_of_maps, splat_is_map}
 use lib.Lanes.{chunk}
-use Rattle.rustc_lexer.specs.means.ByteRuns.{outside, is_space_byte}
+use Rattle.rustc_lexer.specs.model.ByteRuns.{outside, is_space_byte}
 use Rattle.rustc_lexer.proofs.lemmas.tokens.Lanes.{least, masked}
 use Rattle.rustc_lexer.proofs.kernels.SpaceByteClass.stops.Goals as goal
 

@@ -1,6 +1,6 @@
 use Rattle.std.proofs.Common.{List, codes, if◌then◌else◌, ℕ, sym, ◌∙◌}
-use Rattle.rustc_lexer.specs.{TokenKind, Slash, means.{BlockComment.{block_comment}, Comment.{line_comment}}}
-use Rattle.rustc_lexer.specs.means.Scan.{after, begins, gives}
+use Rattle.rustc_lexer.specs.{TokenKind, Slash, model.{BlockComment.{block_comment}, Comment.{line_comment}}}
+use Rattle.rustc_lexer.specs.model.Scan.{after, begins, gives}
 use Rattle.rustc_lexer.specs.laws.Scan.{scanned-after, scanned-gives, scanned-yes, scanned-no}
 use Rattle.rustc_lexer.proofs.lexemes.comment.slash.Goals as goal
 

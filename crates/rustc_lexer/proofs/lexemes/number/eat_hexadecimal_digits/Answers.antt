@@ -2,7 +2,7 @@ use Rattle.std.proofs.Common.{refl, ap, ◌∙◌}
 use Rattle.rustc_lexer.proofs.lemmas.tokens.Numbers.{digits-is}
 use Rattle.rustc_lexer.proofs.lexemes.number.eat_hexadecimal_digits.Goals as goal
 use Rattle.std.specs.Char.{is_ascii_hexdigit}
-use Rattle.rustc_lexer.specs.means.Number.{is_underscore}
+use Rattle.rustc_lexer.specs.model.Number.{is_underscore}
 
 pub returns : goal.returns
 returns c = digits-is is_ascii_hexdigit refl _ _ _ _ refl c.utf8.rest

@@ -1,7 +1,7 @@
 use Rattle.std.proofs.Common.{◌≡◌, ◌≤◌, length}
 use denote.Text.{Utf8}
 use denote.Shadow.{shadow}
-use Rattle.rustc_lexer.specs.means.{Quoted.{double_quoted_string}, Scan.{scanned}}
+use Rattle.rustc_lexer.specs.model.{Quoted.{double_quoted_string}, Scan.{scanned}}
 use Rattle.rustc_lexer.proofs.lexemes.quoted.double_quoted_string.Given as goal
 
 abbrev pub invariant-quoted : goal.invariant-quoted

@@ -1,7 +1,7 @@
 use Rattle.std.proofs.Common.{◌≡◌, ◌≤◌, length}
 use denote.Text.{Utf8}
 use denote.Shadow.{shadow}
-use Rattle.rustc_lexer.specs.means.{Quoted.{quoted_from, at_single_stop, single_quoted_string}, Scan.{scanned}}
+use Rattle.rustc_lexer.specs.model.{Quoted.{quoted_from, at_single_stop, single_quoted_string}, Scan.{scanned}}
 use Rattle.rustc_lexer.proofs.lexemes.quoted.single_quoted_string.Given as goal
 
 abbrev pub invariant-loop-c : goal.invariant-loop-c

@@ -1,8 +1,8 @@
 use Rattle.std.proofs.{lemmas.Grind.{common_steps}, Common.{arith, rules}}
 use Rattle.std.proofs.Common.{◌≡◌, ◌∙◌, ◌&&◌, Bool, true, List, ℕ, ap, sym, codes, drop}
 use Rattle.std.specs.Str.{chars, IsUtf8}
-use Rattle.rustc_lexer.specs.means.{Ident.{ident_or_unknown_prefix}, Lexeme.{opens_raw, begins_raw}, Raw.{raw_literal}}
-use Rattle.rustc_lexer.specs.{means.Scan.{after, begins, next_is, past}, laws.Past.{chars-past}}
+use Rattle.rustc_lexer.specs.model.{Ident.{ident_or_unknown_prefix}, Lexeme.{opens_raw, begins_raw}, Raw.{raw_literal}}
+use Rattle.rustc_lexer.specs.{model.Scan.{after, begins, next_is, past}, laws.Past.{chars-past}}
 use Rattle.rustc_lexer.specs.laws.Scan.{scanned-after, scanned-yes, scanned-no}
 use Rattle.rustc_lexer.proofs.lexemes.word.raw_or_ident.Goals as goal
 

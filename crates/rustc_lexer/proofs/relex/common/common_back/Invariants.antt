@@ -1,5 +1,5 @@
 use Rattle.std.proofs.Common.{◌≤◌, ◌+◌, ◌-◌, ℕ, length, IsCharBoundary}
-use Rattle.rustc_lexer.specs.means.Relexing.{IsSameBack}
+use Rattle.rustc_lexer.specs.model.Relexing.{IsSameBack}
 use Rattle.rustc_lexer.proofs.relex.common.common_back.Given as goal
 
 abbrev pub invariant-halves : goal.invariant-halves

@@ -1,5 +1,5 @@
 use Rattle.std.proofs.Common.{◌≤◌, ◌-◌, ℕ, length, IsCharBoundary}
-use Rattle.rustc_lexer.specs.means.Relexing.{IsSameFront}
+use Rattle.rustc_lexer.specs.model.Relexing.{IsSameFront}
 use Rattle.rustc_lexer.proofs.relex.common.common_front.Given as goal
 
 abbrev pub invariant-halves : goal.invariant-halves

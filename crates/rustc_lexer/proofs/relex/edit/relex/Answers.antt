@@ -47,7 +47,7 @@ left-init g c =
     c.in_ok-push.ensures.items ∙ ap (λ (ts : List Token). ts ++ token ∷ []) c.new-tokens.ensures.items in
     let count = ap (λ (ts : List Token). length ts) items in
     record {
-      may_go_on = c.in-Some.ensures.may_go_on;
+      can_continue = c.in-Some.ensures.can_continue;
       grammar = c.in-Some.ensures.grammar;
       count = omega (arith, c.in-Some.ensures.step.2, count);
       lexed = omega (arith, steps.lexed, count, c.begin-at.ensures.none);
@@ -63,7 +63,7 @@ left-init g c =
     }
 
 pub left-smaller : goal.left-smaller
-left-smaller g c = omega (arith, c.block-count.ensures.ahead, c.block-count.ensures.may_go_on.boundary.0)
+left-smaller g c = omega (arith, c.block-count.ensures.ahead, c.block-count.ensures.can_continue.boundary.0)
 
 pub left-preserved : goal.left-preserved
 left-preserved g c =
@@ -83,7 +83,7 @@ left-preserved g c =
     let items = c.in_ok-extend_from_slice.ensures.items in
     let size = ap (λ (ts : List Token). length ts) items in
     record {
-      may_go_on = c.block-count.ensures.may_go_on;
+      can_continue = c.block-count.ensures.can_continue;
       grammar = c.block-count.ensures.grammar ∙ inv.grammar;
       count = omega (
         arith,
@@ -139,7 +139,7 @@ returns-clause-lexed g c = λ before insert is near.
     record {
       under_way = so.0;
       met =
-          sym (c.is_over.ensures.met (g.S.Stepper.grammar c.args.stepper.now).first before _ insert
+          sym (c.is_done.ensures.met (g.S.Stepper.grammar c.args.stepper.now).first before _ insert
           c.args.edited.now.change law is so.0) ∙ c.left-test.false;
       lexed = c.left.invariant.lexed;
       tokens_are = so.1;

@@ -1,11 +1,11 @@
 use Rattle.std.proofs.Common.{length, ◌-◌, ◌≡◌, ◌+◌, drop, take}
-use Rattle.rustc_lexer.specs.{Tokens.{tokens_by}, Relexing.{IsUnderWay, MayGoOn}}
-use Rattle.rustc_lexer.specs.means.{Checkpoints.{AreBounds}, Relexing.{ForEachOldText}}
+use Rattle.rustc_lexer.specs.{Tokens.{tokens_by}, Relexing.{IsUnderWay, CanContinue}}
+use Rattle.rustc_lexer.specs.model.{Checkpoints.{AreBounds}, Relexing.{ForEachOldText}}
 use Rattle.rustc_lexer.proofs.relex.edit.relex.Given as goal
 
 abbrev pub invariant-left : goal.invariant-left
 invariant-left g l = record {
-  may_go_on : MayGoOn l.fn.edited.text.now (length l.fn.edited.old_tokens.now) l.at;
+  can_continue : CanContinue l.fn.edited.text.now (length l.fn.edited.old_tokens.now) l.at;
   grammar : g.S.Stepper.grammar l.stepper ≡ g.S.Stepper.grammar l.fn.stepper;
   count : g.S.Stepper.count l.stepper ≡ g.S.Stepper.count l.fn.stepper + length l.tokens.items;
   lexed : l.at.lexed ≡ length l.tokens.items;

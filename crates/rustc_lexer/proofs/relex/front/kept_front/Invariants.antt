@@ -1,5 +1,5 @@
 use Rattle.std.proofs.Common.{length, map, List, ℕ, ◌≡◌, ◌<◌, ◌≤◌, ◌-◌, true, IsCharBoundary}
-use Rattle.rustc_lexer.specs.{Token, Offsets.{IsBound}, means.Relexing.{IsFront}, Locality.{has_two}}
+use Rattle.rustc_lexer.specs.{Token, Offsets.{IsBound}, model.Relexing.{IsFront}, Locality.{has_two}}
 use Rattle.rustc_lexer.proofs.relex.front.kept_front.Given as goal
 
 abbrev pub invariant-loop-at : goal.invariant-loop-at

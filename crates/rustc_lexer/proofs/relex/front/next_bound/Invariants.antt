@@ -1,5 +1,5 @@
 use Rattle.std.proofs.Common.{length, map, List, ℕ, ◌≤◌, ◌<◌, ◌-◌, ◌^◌}
-use Rattle.rustc_lexer.specs.{means.Relexing.{HasLengths}, Token, Tokens.{bound}, Offsets.{IsBound}}
+use Rattle.rustc_lexer.specs.{model.Relexing.{HasLengths}, Token, Tokens.{bound}, Offsets.{IsBound}}
 use Rattle.rustc_lexer.proofs.relex.front.next_bound.Given as goal
 
 abbrev pub invariant-loop-at : goal.invariant-loop-at

@@ -13,8 +13,8 @@ overflow_sub-at c =
     (near c.args.edition c.args.text.now c.args.sure c.args.at record { utf8 = c.utf8.text; fits = c.requires.fits }
     c.requires.boundary c.requires.sure).inside
 
-pub is_seam-requires-clause-boundary : goal.is_seam-requires-clause-boundary
-is_seam-requires-clause-boundary c =
+pub is_token_boundary-requires-clause-boundary : goal.is_token_boundary-requires-clause-boundary
+is_token_boundary-requires-clause-boundary c =
     let its = near c.args.edition c.args.text.now c.args.sure c.args.at record
     { utf8 = c.utf8.text; fits = c.requires.fits } c.requires.boundary
     c.requires.sure in
@@ -31,5 +31,5 @@ returns c =
     c.requires.sure in
     let sum : c.args.sure + (c.args.at - c.args.sure) ≡ c.args.at = omega (arith, its.inside) in
     let answer = rw (c.range_from.ensures.value, drop-drop (c.args.at - c.args.sure) c.args.sure c.args.text.now, sum)
-    at c.is_seam.ensures.touch in
+    at c.is_token_boundary.ensures.touch in
     (λ t. its.touch.1 (answer.0 t), λ touch. answer.1 (its.touch.0 touch))

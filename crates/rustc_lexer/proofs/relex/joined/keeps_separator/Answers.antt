@@ -8,4 +8,4 @@ returns-then-len-eq0 c =
     (λ t. rw none (touch_none c.args.edition (drop c.args.at c.args.text.now)), λ touch. refl)
 
 pub returns : goal.returns
-returns c = rw c.range_from.ensures.value at c.is_seam.ensures.touch
+returns c = rw c.range_from.ensures.value at c.is_token_boundary.ensures.touch

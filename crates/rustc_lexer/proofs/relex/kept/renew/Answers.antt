@@ -1,6 +1,6 @@
 use Rattle.std.proofs.Common.{◌≡◌, ◌-◌, take, List, length, drop, refl, sym, ap, ap₂, ◌∙◌, arith, rules, string_bytes}
 use Rattle.std.proofs.lemmas.List.{length-map, take_rest}
-use Rattle.rustc_lexer.specs.{declared.relex.relexing.Relexed.{Relexed}, Token, Kept.{layout_in}}
+use Rattle.rustc_lexer.specs.{declared.relex.relexing.Relexed.{Relexed}, Token, LexedText.{layout_in}}
 use Rattle.rustc_lexer.specs.Partition.{tokens_by, tokens_in}
 use Rattle.rustc_lexer.proofs.lemmas.edits.DocumentEdits.{bounds_move, counted_are, counted_few, counted_refused}
 use Rattle.rustc_lexer.proofs.lemmas.edits.DocumentEdits.{made_here, made_read, near_behind, new_are, new_behind}

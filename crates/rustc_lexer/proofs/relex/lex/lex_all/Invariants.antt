@@ -1,5 +1,5 @@
 use Rattle.std.proofs.Common.{drop, length, ◌-◌, ◌≡◌, ◌+◌, ◌++◌}
-use Rattle.rustc_lexer.specs.{Tokens.{tokens_by}, means.Checkpoints.{AreBounds}}
+use Rattle.rustc_lexer.specs.{Tokens.{tokens_by}, model.Checkpoints.{AreBounds}}
 use Rattle.rustc_lexer.proofs.lemmas.tokens.Progress.{IsLexedTo}
 use Rattle.rustc_lexer.proofs.relex.lex.lex_all.Given as goal
 

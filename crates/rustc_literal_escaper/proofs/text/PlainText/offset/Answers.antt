@@ -1,7 +1,7 @@
 use Rattle.std.proofs.Common.{◌-◌, ℕ, List, length, sym, ap, ◌∙◌}
 use Rattle.std.specs.Str.Iter.{chars_rest}
 use Rattle.std.proofs.lemmas.Str.{encodes-chars}
-use Rattle.rustc_literal_escaper.specs.means.Elements.{place}
+use Rattle.rustc_literal_escaper.specs.model.Elements.{place}
 use Rattle.rustc_literal_escaper.proofs.text.PlainText.offset.Goals as goal
 
 pub returns : goal.returns

@@ -1,7 +1,7 @@
 use Rattle.std.proofs.Common.{◌≡◌, ◌+◌, ℕ, List, length-drop, get_or, sym, ap, subst, ◌∙◌, arith, is_some}
 use Rattle.std.specs.ControlFlow.{continue_value}
 use lib.Count.{count_trailing_zeros}
-use Rattle.rustc_lexer.specs.means.Ends.{IsLowest, StaysWithin, classified}
+use Rattle.rustc_lexer.specs.model.Ends.{IsLowest, StaysWithin, classified}
 use Rattle.rustc_lexer.proofs.lemmas.tokens.Bits.{lowest_is}
 use Rattle.rustc_lexer.proofs.lemmas.tokens.RunEnds.{TellsNext, classified_after, classified_ahead, classified_bound}
 use Rattle.rustc_lexer.proofs.lemmas.tokens.RunEnds.{classified_first, classified_inside, classified_stays}

@@ -1,7 +1,7 @@
 use Rattle.std.proofs.{lemmas.Grind.{common_steps}, Common.{rules}}
 use Rattle.std.proofs.Common.{◌≡◌, ◌-◌, ◌<◌, ◌≤◌, List, ℕ, drop, length, refl, sym, ap, subst, ◌∙◌, arith, length-drop}
 use Rattle.rustc_lexer.specs.{Edition, Token, Classes.{IsText}, Tokens.{bound, tokens_by}}
-use Rattle.rustc_lexer.specs.{laws.Edition.{edition_grammar}, means.Edition.{first_token_in}, State.{State}}
+use Rattle.rustc_lexer.specs.{laws.Edition.{edition_grammar}, model.Edition.{first_token_in}, State.{State}}
 use Rattle.rustc_lexer.proofs.lemmas.tokens.Buffers.{filled_more, IsFilling, some_left, stands, written_to}
 use Rattle.rustc_lexer.proofs.entry.stepper.StepsStepper.fill.Goals as goal
 use Rattle.rustc_lexer.proofs.entry.stepper.StepsStepper.fill.Goals.{then-places-test+else-left-past_end}

@@ -1,6 +1,6 @@
 use Rattle.std.proofs.Common.{List}
 use Rattle.std.specs.List.{All}
-use Rattle.rustc_lexer.specs.{Token, means.Checkpoints.{AreBounds, IsReplaced}, Offsets.{IsBound}}
+use Rattle.rustc_lexer.specs.{Token, model.Checkpoints.{AreBounds, IsReplaced}, Offsets.{IsBound}}
 use Rattle.rustc_lexer.proofs.relex.checkpoints.Checkpoints.after.Given as goal
 
 abbrev pub invariant-loop-i : goal.invariant-loop-i

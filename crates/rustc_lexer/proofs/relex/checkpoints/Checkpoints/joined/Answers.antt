@@ -1,5 +1,5 @@
 use Rattle.std.proofs.Common.{arith, subst, sym}
-use Rattle.rustc_lexer.specs.{declared.relex.checkpoints.Checkpoints.{Checkpoints}, means.Checkpoints.{AreBounds}}
+use Rattle.rustc_lexer.specs.{declared.relex.checkpoints.Checkpoints.{Checkpoints}, model.Checkpoints.{AreBounds}}
 use Rattle.rustc_lexer.proofs.relex.checkpoints.Checkpoints.joined.Goals as goal
 use Rattle.rustc_lexer.proofs.relex.checkpoints.Checkpoints.joined.Goals.{then-bound-gt0, else-bound-gt0}
 

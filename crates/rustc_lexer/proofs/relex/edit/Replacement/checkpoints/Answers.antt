@@ -1,5 +1,5 @@
 use Rattle.std.proofs.Common.{subst, sym}
-use Rattle.rustc_lexer.specs.means.Checkpoints.{IsReplaced}
+use Rattle.rustc_lexer.specs.model.Checkpoints.{IsReplaced}
 use Rattle.rustc_lexer.proofs.lemmas.edits.Checkpoints.{kept_stays}
 use Rattle.rustc_lexer.proofs.relex.edit.Replacement.checkpoints.Goals as goal
 

@@ -1,7 +1,7 @@
 use Rattle.std.proofs.{Common.{arith, subst, string_bytes, chars, List, ℕ}, lemmas.Grind.{common_steps}}
 use Rattle.std.proofs.lemmas.Str.{IsUtf8-string_bytes}
 use Rattle.rustc_lexer.specs.{Answers.{first_in, tokens_of}, Joined.{AreWellFormed, AreInseparable, Joined, RunsOn}}
-use Rattle.rustc_lexer.specs.{LanguageText.{part}, means.Joined.{IsSure}}
+use Rattle.rustc_lexer.specs.{LanguageText.{part}, model.Joined.{IsSure}}
 use Rattle.rustc_lexer.proofs.lemmas.joined.{Sure.{grown, joined-only, sure_joined}, Separators.{runs-on}}
 use Rattle.rustc_lexer.proofs.relex.joined.JoinedText.push.Goals as goal
 

@@ -1,5 +1,5 @@
 use Rattle.std.proofs.{Common.{◌+◌, drop, length, ap, arith, string_bytes}, lemmas.List.Elements.{All-contains}}
-use Rattle.rustc_lexer.specs.{Offsets.{IsBound}, Tokens.{bound}, means.Document.{tokens_of_head}}
+use Rattle.rustc_lexer.specs.{Offsets.{IsBound}, Tokens.{bound}, model.Document.{tokens_of_head}}
 use Rattle.rustc_lexer.proofs.lemmas.edits.KeptBounds.{near_from, offset_fits, start_seen}
 use Rattle.rustc_lexer.proofs.relex.lexed.Lexed.bound_near.Goals as goal
 

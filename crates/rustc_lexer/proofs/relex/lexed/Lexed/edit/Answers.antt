@@ -1,7 +1,7 @@
 use Rattle.std.proofs.Common.{◌≡◌, List, ℕ, slice_range, string_bytes, refl, sym, ◌∙◌, subst, arith, Err, rules}
 use Rattle.std.proofs.lemmas.Grind.{common_steps}
 use Rattle.rustc_lexer.specs.{declared.relex.relexing.Change.{Change}, Relexing.{IsEditOf}, Edits.{IsEdit, apply}}
-use Rattle.rustc_lexer.specs.Kept.{HasStepCount, IsEdited, layout_in}
+use Rattle.rustc_lexer.specs.LexedText.{HasStepCount, IsEdited, layout_in}
 use Rattle.rustc_lexer.proofs.lemmas.edits.FrontAndBack.{edited, put_back}
 use Rattle.rustc_lexer.proofs.lemmas.edits.DocumentEdits.{counted_refused, few_none, put_by, refused}
 use Rattle.rustc_lexer.proofs.lemmas.edits.ByLengths.{made_change}
@@ -9,8 +9,8 @@ use Rattle.rustc_lexer.proofs.relex.lexed.Lexed.edit.Goals as goal
 
 -- what was taken out is put back
 put_back_from : {text insert read removed put now : List ℕ} {edit : Change} → IsEditOf text edit insert put
-    → removed ≡ slice_range read edit.start edit.old_stop → read ≡ text
-    → now ≡ apply put edit.start edit.new_stop removed → now ≡ text
+    → removed ≡ slice_range read edit.start edit.old_end → read ≡ text
+    → now ≡ apply put edit.start edit.new_end removed → now ≡ text
 put_back_from e removed_is read_is again = again ∙ rw (removed_is, read_is) (put_back e)
 
 pub renew-requires-clause-fits : goal.renew-requires-clause-fits

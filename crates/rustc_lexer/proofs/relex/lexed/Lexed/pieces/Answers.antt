@@ -1,5 +1,5 @@
 use Rattle.std.proofs.Common.{length, ap, ◌∙◌, arith, string_bytes}
-use Rattle.rustc_lexer.specs.Kept.{pieces_from, start_in}
+use Rattle.rustc_lexer.specs.LexedText.{pieces_from, start_in}
 use Rattle.rustc_lexer.proofs.lemmas.edits.{Heads.{start_is}, KeptBounds.{kept_cuts, offset_fits}}
 use Rattle.rustc_lexer.proofs.lemmas.edits.Pieces.{length-pieces}
 use Rattle.rustc_lexer.proofs.relex.lexed.Lexed.pieces.Goals as goal

@@ -1,5 +1,5 @@
 use Rattle.std.proofs.Common.{length, map, ap, refl, ◌∙◌, string_bytes}
-use Rattle.rustc_lexer.specs.{Kept.{start_in}, Offsets.{ArePlaced}, Token}
+use Rattle.rustc_lexer.specs.{LexedText.{start_in}, Offsets.{ArePlaced}, Token}
 use Rattle.rustc_lexer.proofs.lemmas.edits.{KeptBounds.{end_seen}, Offsets.{answered, if_some}}
 use Rattle.rustc_lexer.proofs.relex.lexed.Lexed.token_start_at.Goals as goal
 

@@ -35,7 +35,7 @@ loop-at-preserved c =
     let inside = c.if-not-contains_range.ensures.0 refl in
     let edit : Edit = get_or c.args.edits.now c.loop-at.at none in
     let made : List Edit = take c.loop-at.at c.args.edits.now in
-    let after : c.loop-at.change.old_stop ≤ edit.start = omega (arith, c.if-edit-change.false) in
+    let after : c.loop-at.change.old_end ≤ edit.start = omega (arith, c.if-edit-change.false) in
     let more = made-last c.args.text.now made edit _ _ _ c.utf8.text is.1 is.3 is.4 is.5 after inside
     c.saturating_len.ensures.utf8 c.saturating_len.ensures.sum in
     rw (take_more c.args.edits.now c.loop-at.at none c.loop-at-test.true) (

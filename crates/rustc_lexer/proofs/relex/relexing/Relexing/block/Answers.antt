@@ -7,18 +7,18 @@ use Rattle.rustc_lexer.proofs.lemmas.edits.UnderWay.{below_later, goes_on, left_
 use Rattle.rustc_lexer.proofs.relex.relexing.Relexing.block.Goals as goal
 
 pub range_from-requires : goal.range_from-requires
-range_from-requires g c = λ some. c.requires.may_go_on.boundary
+range_from-requires g c = λ some. c.requires.can_continue.boundary
 
 pub least_meeting-end-requires-clause-inside : goal.least_meeting-end-requires-clause-inside
 least_meeting-end-requires-clause-inside g c =
-    (not_over c.args.self.now.met c.args.self.now.at (length c.args.edited.now.text.now) c.requires.may_go_on.boundary.0
+    (not_over c.args.self.now.met c.args.self.now.at (length c.args.edited.now.text.now) c.requires.can_continue.boundary.0
     c.requires.going).1
 
 pub overflow_add-at : goal.overflow_add-at
 overflow_add-at g c =
     let is : IsText c.args.edited.now.text.now = c.requires.is_text in
     let inside = block_inside (g.S.Stepper.law c.args.stepper.now) c.args.edited.now.text.now c.range_from.result.now is
-    c.args.self.now.at c.requires.may_go_on.boundary c.range_from.ensures.value _ _ c.fill-count.ensures.filled.few
+    c.args.self.now.at c.requires.can_continue.boundary c.range_from.ensures.value _ _ c.fill-count.ensures.filled.few
     c.fill-count.ensures.bytes in
     omega (arith, inside)
 
@@ -27,19 +27,19 @@ overflow_add-self g c =
     let is : IsText c.args.edited.now.text.now = c.requires.is_text in
     let law = g.S.Stepper.law c.args.stepper.now in
     let inside = block_inside law c.args.edited.now.text.now c.range_from.result.now is c.args.self.now.at
-    c.requires.may_go_on.boundary c.range_from.ensures.value _ _ c.fill-count.ensures.filled.few
+    c.requires.can_continue.boundary c.range_from.ensures.value _ _ c.fill-count.ensures.filled.few
     c.fill-count.ensures.bytes in
     let fewer = block_count law c.args.edited.now.text.now c.range_from.result.now is c.args.self.now.at
-    c.requires.may_go_on.boundary c.range_from.ensures.value _ _ c.fill-count.ensures.filled.few
+    c.requires.can_continue.boundary c.range_from.ensures.value _ _ c.fill-count.ensures.filled.few
     c.fill-count.ensures.bytes in
-    let few = c.requires.may_go_on.few in
+    let few = c.requires.can_continue.few in
     omega (arith, inside, fewer, few)
 
 pub follow-to-requires-clause-offset_fits : goal.follow-to-requires-clause-offset_fits
 follow-to-requires-clause-offset_fits g c =
     let is : IsText c.args.edited.now.text.now = c.requires.is_text in
     let inside = block_inside (g.S.Stepper.law c.args.stepper.now) c.args.edited.now.text.now c.range_from.result.now is
-    c.args.self.now.at c.requires.may_go_on.boundary c.range_from.ensures.value _ _ c.fill-count.ensures.filled.few
+    c.args.self.now.at c.requires.can_continue.boundary c.range_from.ensures.value _ _ c.fill-count.ensures.filled.few
     c.fill-count.ensures.bytes in
     rw c.damage.ensures (omega (arith, inside))
 
@@ -49,7 +49,7 @@ returns g c =
     let first : List ℕ → Token = (g.S.Stepper.grammar c.args.stepper.now).first in
     let text : List ℕ = c.args.edited.now.text.now in
     let is : IsText text = c.requires.is_text in
-    let may = c.requires.may_go_on in
+    let may = c.requires.can_continue in
     let change = c.args.edited.now.change in
     let at = c.args.self.now in
     let to = c.follow-to.result in
@@ -68,7 +68,7 @@ returns g c =
     let fewer = block_count law text (drop at.at text) is at.at may.boundary refl count bytes filled.few bytes_is in
     let past : Relexing =
     record { front = at.front; lexed = at.lexed + count; back = to.at; at = at.at + bytes; met = to.met } in
-    let steps : TakesSteps first text change.new_stop at count past = record {
+    let steps : TakesSteps first text change.new_end at count past = record {
       inside = filled.few;
       none = λ e. absurd (omega (arith, some, e));
       front = refl;
@@ -78,7 +78,7 @@ returns g c =
       not_met = λ more early. c.follow-to.ensures.early (rw c.damage.ensures early);
     } in
     record {
-      may_go_on = record {
+      can_continue = record {
         boundary = block_boundary law text (drop at.at text) is at.at may.boundary refl count bytes filled.few bytes_is;
         number = c.follow-to.ensures.number;
         order = (let order = may.order in let ahead = c.follow-to.ensures.ahead in omega arith);

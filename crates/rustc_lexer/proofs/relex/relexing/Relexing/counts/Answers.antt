@@ -11,6 +11,6 @@ returns-clause-exact c = λ first before lengths insert text change law is many 
     ∙ (ap (λ (ns : List ℕ). length ns) (sym is.lengths_are) ∙ many) in (
       subst (λ (n : ℕ). let r : Relexed = record
           { kept_front = at.front.index; lexed = at.lexed; kept_back = n - at.back.index } in
-          IsRelexed (part_by first) before change.start change.old_stop insert r) same met.0,
+          IsRelexed (part_by first) before change.start change.old_end insert r) same met.0,
       met.1,
     )

@@ -1,6 +1,6 @@
 use Rattle.std.proofs.{lemmas.Grind.{common_steps}, Common.{rules}}
 use Rattle.std.proofs.{Common.{◌≡◌, List, ℕ, drop, map, inl, inr, sym, ap, subst, ◌∙◌, arith}, lemmas.Bool.{cases_lt}}
-use Rattle.rustc_lexer.specs.{Token, Classes.{IsText}, Relexing.{IsMadeOf, IsUnderWay, TakesSteps, is_over}}
+use Rattle.rustc_lexer.specs.{Token, Classes.{IsText}, Relexing.{IsMadeOf, IsUnderWay, TakesSteps, is_done}}
 use Rattle.rustc_lexer.specs.Tokens.{tokens_by}
 use Rattle.rustc_lexer.proofs.lemmas.tokens.Buffers.{none_written, one_written}
 use Rattle.rustc_lexer.proofs.lemmas.edits.{ManyTokens.{next_left, no_step, step_more}, UnderWay.{left_at}}
@@ -22,22 +22,22 @@ places-preserved g c =
     let past = c.next.new.self in
     let token = c.in-Some.token in
     let step = subst (λ (f : List ℕ → Token). (token ≡ f (drop at.at text))
-    × TakesSteps f text c.args.edited.now.change.new_stop at 1 past) (same_first inv.grammar)
+    × TakesSteps f text c.args.edited.now.change.new_end at 1 past) (same_first inv.grammar)
     (c.in-Some.ensures.step.0, c.in-Some.ensures.step.1) in
-    let boundary = c.requires.may_go_on.boundary in
+    let boundary = c.requires.can_continue.boundary in
     record {
-      may_go_on = c.in-Some.ensures.may_go_on;
+      can_continue = c.in-Some.ensures.can_continue;
       grammar = c.in-Some.ensures.grammar ∙ inv.grammar;
       count = omega (arith, c.in-Some.ensures.step.2, inv.count);
-      steps = step_more law is c.args.edited.now.change.new_stop begin boundary inv.steps step.1;
+      steps = step_more law is c.args.edited.now.change.new_end begin boundary inv.steps step.1;
       written = one_written g.R.FromToken.written (tokens_by first (drop begin.at text)) _ c.args.buffer.now
           c.places.buffer c.places.count token inv.written
-          (next_left law is c.args.edited.now.change.new_stop begin boundary inv.steps step.0 step.1.inside)
+          (next_left law is c.args.edited.now.change.new_end begin boundary inv.steps step.0 step.1.inside)
           (let less = c.places-test.true in omega arith) c.from_token.result c.from_token.ensures;
       begins = λ _. elim (cases_lt 0 c.places.count) [
         | inl some ↦ inv.begins some
         | inr none ↦ (let e : c.places.count ≡ 0 = omega arith in
-            ap (is_over text) (sym (inv.steps.none e)) ∙ c.in-Some.ensures.step.3)
+            ap (is_done text) (sym (inv.steps.none e)) ∙ c.in-Some.ensures.step.3)
       ];
       under_way = λ before insert made begun.
           let Next : (List ℕ → Token) → Type 0 =

@@ -1,8 +1,0 @@
-use Rattle.marks.proofs.FrontmatterLemmas.{ends_found}
-use Rattle.marks.proofs.frontmatter.end_fault.Goals as goal
-
-pub returns : goal.returns
-returns c =
-    rw (c.closing_fault.ensures, c.run_of.ensures.value)
-    (ends_found c.as_bytes-bytes.result.now c.args.text.now c.as_bytes-bytes.ensures.value c.in-Some.newline
-    c.in-Some.ensures)

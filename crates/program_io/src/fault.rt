@@ -1,0 +1,152 @@
+//! Why a program stops, and what it says then.
+ghost use Rattle.std.specs.Prelude.{◌≡◌, ◌++◌, ◌||◌, ◌∷◌, [], false, is_err, true, IfOk, OnErr, OnOk};
+ghost use Rattle.std.specs.Io.KnownBytes.{Appends};
+ghost use Rattle.program_io.specs.Fault.{fault_line, fault_text, is_told, number_text, status_of, IsReported};
+ghost use Rattle.program_io.specs.Known.{AppendsFront};
+ghost use Rattle.program_io.specs.Watch.{has_failed};
+ghost use Rattle.program_io.specs.declared.fault.Fault.TheVariants.{Memory};
+
+use crate::watched::Watched;
+use crate::writing::{write_bytes, write_texts};
+use itoa::Buffer;
+use std::alloc::{AllocError, AllocFailed};
+use std::io::Write;
+
+/// Why a program stops.
+#[derive(Clone, Copy, Debug, PartialEq, Eq)]
+pub enum Fault {
+    /// The program does not take these arguments.
+    Arguments,
+    /// The input is not UTF-8.
+    NotUtf8,
+    /// The input has more than `u32::MAX` bytes.
+    TooLong,
+    /// The range of edit number `at`, from 0, is not inside the text or not between characters.
+    EditRange { at: usize },
+    /// Edit number `at`, from 0, would make a text of more than `u32::MAX` bytes.
+    EditTooLong { at: usize },
+    /// An allocation failed.
+    Memory,
+    /// The reader failed.
+    Read,
+    /// The writer failed, or took none of the bytes that it was given.
+    Write,
+}
+
+/// Returns the exit status of a program that stops.
+pub fn status(fault: &Fault) -> u8
+    ensures { result ≡ status_of fault.now }
+{
+    match fault {
+        Fault::Arguments => 2,
+        Fault::NotUtf8 => 3,
+        Fault::TooLong => 4,
+        Fault::EditRange { at: _ } | Fault::EditTooLong { at: _ } => 5,
+        Fault::Memory => 6,
+        Fault::Read | Fault::Write => 7,
+    }
+}
+
+/// Writes why a run stopped, after the name of the program, and flushes. Returns the exit status.
+///
+/// `unknown` is the message for arguments that the program does not take. If the run did not
+/// stop, or if it is `quiet` and a write failed, this writes nothing and returns 0. If `errors`
+/// fails, it has taken a beginning of the line, and the status is the same.
+pub fn report<E: Write>(
+    name: &str,
+    unknown: &str,
+    outcome: &Result<(), Fault>,
+    quiet: bool,
+    errors: &mut Watched<E>,
+) -> u8
+    ensures { IsReported (fault_line name.now unknown.now) outcome.now quiet result
+        (has_failed errors.new ≡ false) errors.new.flushed (E.contents errors.old.inner)
+        (E.contents errors.new.inner) }
+{
+    let Err(fault) = outcome else {
+        return 0;
+    };
+    // If this can't be written, there is nobody to tell.
+    if !is_told(fault, quiet) {
+        let _ = errors.flush();
+        return 0;
+    }
+    let _ = tell(name, unknown, fault, errors);
+    status(fault)
+}
+
+/// Returns whether a fault is told: a failed write of a quiet run is not.
+fn is_told(fault: &Fault, quiet: bool) -> bool
+    ensures { result ≡ is_told fault.now quiet }
+{
+    match fault {
+        Fault::Write => !quiet,
+        _ => true,
+    }
+}
+
+/// Writes the line of a fault, and flushes.
+#[tactic(auto, using(crate::proofs::KnownLemmas::front_first, crate::proofs::KnownLemmas::front_more))]
+fn tell<E: Write>(
+    name: &str,
+    unknown: &str,
+    fault: &Fault,
+    errors: &mut Watched<E>,
+) -> Result<(), Fault>
+    ensures failed { has_failed errors.new ≡ (has_failed errors.old || is_err result) }
+    ensures flushed { IfOk result (λ _. errors.new.flushed ≡ true) }
+    ensures ok { OnOk result (Appends (E.contents errors.old.inner) (E.contents errors.new.inner)
+        (fault_line name.now unknown.now fault.now)) }
+    ensures err { OnErr result (AppendsFront (E.contents errors.old.inner)
+        (E.contents errors.new.inner) (fault_line name.now unknown.now fault.now)) }
+{
+    write_bytes(errors, name.as_bytes())?;
+    let mut buffer = Buffer::new();
+    let (before, number, after) = message(fault, unknown);
+    write_texts(errors, before, digits(&mut buffer, number), after)
+}
+
+/// Returns the digits of the number, if there is one.
+fn digits(buffer: &mut Buffer, number: Option<usize>) -> &str
+    ensures { result.now ≡ number_text number }
+{
+    match number {
+        Some(number) => buffer.format(number),
+        None => "",
+    }
+}
+
+/// Returns the message of a fault and its newline: what stands before the number of the edit,
+/// that number, and the rest.
+#[tactic(auto, unfolding(crate::specs::Fault::fault_text))]
+fn message<'a>(fault: &Fault, unknown: &'a str) -> (&'a str, Option<usize>, &'a str)
+    ensures { result.0.now ++ (number_text result.1 ++ result.2.now)
+        ≡ fault_text unknown.now fault.now ++ 10 ∷ [] }
+{
+    match fault {
+        Fault::Arguments => (unknown, None, "\n"),
+        Fault::NotUtf8 => ("input is not UTF-8", None, "\n"),
+        Fault::TooLong => ("input too long", None, "\n"),
+        Fault::EditRange { at } => ("edit ", Some(*at), ": bad range\n"),
+        Fault::EditTooLong { at } => ("edit ", Some(*at), ": text too long\n"),
+        Fault::Memory => ("no memory", None, "\n"),
+        Fault::Read => ("read failed", None, "\n"),
+        Fault::Write => ("write failed", None, "\n"),
+    }
+}
+
+impl From<AllocError> for Fault {
+    ghost from_gives = { λ _ fault. fault ≡ Memory };
+
+    fn from(_error: AllocError) -> Fault {
+        Fault::Memory
+    }
+}
+
+impl<T: Drop> From<AllocFailed<T>> for Fault {
+    ghost from_gives = { λ _ fault. fault ≡ Memory };
+
+    fn from(_error: AllocFailed<T>) -> Fault {
+        Fault::Memory
+    }
+}

@@ -1,0 +1,83 @@
+//! Writing all of some bytes.
+ghost use Rattle.std.specs.Prelude.{◌≡◌, ◌||◌, ◌++◌, true, is_err, IfErr, IfOk, IfSome, OnErr, OnOk};
+ghost use Rattle.std.specs.Io.KnownBytes.{Appends};
+ghost use Rattle.program_io.specs.Known.{AppendsFront};
+ghost use Rattle.program_io.specs.Watch.{has_failed};
+
+use crate::fault::Fault;
+use crate::watched::Watched;
+use std::io::Write;
+
+/// Writes all of the bytes, and flushes.
+///
+/// # Errors
+///
+/// `Fault::Write` if a write or the flush failed. The output has taken a beginning of the bytes,
+/// all of them if only the flush failed.
+pub fn write_all<W: Write>(output: &mut Watched<W>, bytes: &[u8]) -> Result<(), Fault>
+    ensures failed { has_failed output.new ≡ (has_failed output.old || is_err result) }
+    ensures first { IfSome output.old.failure (λ kind. output.new.failure ≡ Some kind) }
+    ensures only { IfErr result (λ fault. fault ≡ Fault.Write) }
+    ensures flushed { IfOk result (λ _. output.new.flushed ≡ true) }
+    ensures ok { OnOk result
+        (Appends (W.contents output.old.inner) (W.contents output.new.inner) bytes.now) }
+    ensures err { OnErr result
+        (AppendsFront (W.contents output.old.inner) (W.contents output.new.inner) bytes.now) }
+{
+    write_bytes(output, bytes)?;
+    output.flush().map_err(|_| Fault::Write)
+}
+
+/// Writes all of the bytes.
+///
+/// # Errors
+///
+/// `Fault::Write` if a write failed. The output has taken a beginning of the bytes.
+#[tactic(auto, using(crate::proofs::KnownLemmas::went_more, crate::proofs::KnownLemmas::cut_past))]
+pub fn write_bytes<W: Write>(output: &mut Watched<W>, bytes: &[u8]) -> Result<(), Fault>
+    ensures failed { has_failed output.new ≡ (has_failed output.old || is_err result) }
+    ensures first { IfSome output.old.failure (λ kind. output.new.failure ≡ Some kind) }
+    ensures only { IfErr result (λ fault. fault ≡ Fault.Write) }
+    ensures ok { OnOk result
+        (Appends (W.contents output.old.inner) (W.contents output.new.inner) bytes.now) }
+    ensures err { OnErr result
+        (AppendsFront (W.contents output.old.inner) (W.contents output.new.inner) bytes.now) }
+{
+    let mut rest = bytes;
+    while !rest.is_empty() {
+        let count = match output.write(rest) {
+            Ok(count) => count,
+            Err(_) => return Err(Fault::Write),
+        };
+        if count == 0 {
+            return Err(Fault::Write);
+        }
+        rest = &rest[count..];
+    }
+    Ok(())
+}
+
+/// Writes three texts, one after another, and flushes.
+///
+/// # Errors
+///
+/// `Fault::Write` if a write or the flush failed. The output has taken a beginning of the texts.
+pub fn write_texts<W: Write>(
+    output: &mut Watched<W>,
+    one: &str,
+    two: &str,
+    three: &str,
+) -> Result<(), Fault>
+    ensures failed { has_failed output.new ≡ (has_failed output.old || is_err result) }
+    ensures first { IfSome output.old.failure (λ kind. output.new.failure ≡ Some kind) }
+    ensures only { IfErr result (λ fault. fault ≡ Fault.Write) }
+    ensures flushed { IfOk result (λ _. output.new.flushed ≡ true) }
+    ensures ok { OnOk result (Appends (W.contents output.old.inner) (W.contents output.new.inner)
+        (one.now ++ (two.now ++ three.now))) }
+    ensures err { OnErr result (AppendsFront (W.contents output.old.inner)
+        (W.contents output.new.inner) (one.now ++ (two.now ++ three.now))) }
+{
+    write_bytes(output, one.as_bytes())?;
+    write_bytes(output, two.as_bytes())?;
+    write_all(output, three.as_bytes())
+}

@@ -1,0 +1,93 @@
+-- Means, by how it is read: the parts of relexing.
+use Rattle.std.specs.Prelude.{ℕ, ◌+◌, ◌-◌, ◌<◌, ◌≤◌, Bool, count_by, max, map, IsCharBoundary, ◌≡◌, ◌↔◌, true, List}
+use Rattle.std.specs.Prelude.{length, take, drop}
+use Rattle.std.specs.Str.{IsUtf8}
+use Rattle.rustc_lexer.specs.declared.relex.front.TokenStart.{TokenStart}
+use Rattle.rustc_lexer.specs.declared.relex.front.Damage.{Damage}
+use Rattle.rustc_lexer.specs.declared.relex.relexing.Change.{Change}
+use Rattle.rustc_lexer.specs.declared.relex.relexing.EditedText.{EditedText}
+use Rattle.rustc_lexer.specs.declared.relex.relexing.Relexing.{Relexing}
+use Rattle.rustc_lexer.specs.{Token}
+use Rattle.rustc_lexer.specs.Partition.{bound, tokens_by}
+use Rattle.rustc_lexer.specs.Offsets.{IsBound}
+use Rattle.rustc_lexer.specs.Edits.{ends_from}
+use Rattle.rustc_lexer.specs.Relexing.{IsMadeOf, IsUnderWay}
+use Rattle.rustc_lexer.specs.Locality.{has_two}
+
+-- ---- what an edit of a text without a head keeps
+
+-- how many of the tokens end at least two characters before `to`
+abbrev pub kept_front : List ℕ → List Token → ℕ → ℕ
+kept_front text tokens to = count_by (λ end. has_two text end to) (ends_from 0 tokens)
+
+-- ---- the parts
+
+-- each boundary of the tokens is inside the text, between characters
+abbrev pub AreBoundaries : List ℕ → List Token → Type 0
+AreBoundaries text tokens = (k : ℕ) → k ≤ length tokens → IsCharBoundary text (bound tokens k)
+
+-- these are the lengths of the tokens
+abbrev pub HasLengths : List Token → List ℕ → Type 0
+HasLengths tokens lengths = lengths ≡ map (λ (t : Token). t.len) tokens
+
+-- the old text, whose token boundaries are between characters, and the new one are the same up to
+-- `start`
+pub record IsFront (old : List ℕ) (tokens : List Token) (lengths text : List ℕ) (start : ℕ) : Type 0
+  where
+    pub utf8 : IsUtf8 old
+    pub cuts : AreBoundaries old tokens
+    pub lengths_are : HasLengths tokens lengths
+    pub same : take start text ≡ take start old
+
+-- the effect of a change on the text that it made
+abbrev pub damage_of : List ℕ → Change → Damage
+damage_of text change =
+    record { past = change.new_end; old_end = change.old_end; end = length text }
+
+-- the last boundary of the tokens, and no other, is at this offset
+abbrev pub IsLast : List Token → ℕ → Type 0
+IsLast tokens offset =
+    (bound tokens (length tokens) ≡ offset)
+    × ((k : ℕ) → k < length tokens → bound tokens k < offset)
+
+-- the old tokens were followed to boundary `back` for an offset of the new text, and `met` says
+-- whether that offset meets them there
+pub record IsFollowed (old : List Token) (old_end new_end offset : ℕ) (back : TokenStart) (met : Bool)
+    : Type 0 where
+  pub bound_is : IsBound old back
+  pub passed : (k : ℕ) → k < back.index → bound old k + new_end < max new_end offset + old_end
+  pub reached : new_end ≤ offset → back.index < length old
+      → offset + old_end ≤ back.offset + new_end
+  pub met_is : (met ≡ true) ↔ ((new_end ≤ offset) × (offset + old_end ≡ back.offset + new_end))
+
+-- relexing has met the old tokens, and these are the tokens that were lexed for it
+pub record IsLexed (first : List ℕ → Token) (old : List ℕ) (change : Change) (text : List ℕ)
+    (tokens : List Token) (at : Relexing) : Type 0 where
+  pub under_way : IsUnderWay first old change text at
+  pub met : at.met ≡ true
+  pub lexed : at.lexed ≡ length tokens
+  pub tokens_are : tokens ≡ take at.lexed (drop at.front.index (tokens_by first text))
+
+-- `P` holds for each text that has the old tokens and from which the edit made this text, if `near`
+-- is a boundary of those tokens
+abbrev pub ForEachOldText : (List ℕ → Token) → EditedText Token → TokenStart → (List ℕ → List ℕ → Type 0) → Type 0
+ForEachOldText first edited near P =
+    (before insert : List ℕ)
+    → IsMadeOf first before (map (λ (t : Token). t.len) edited.old_tokens.now) edited.change insert
+    edited.text.now
+    → IsBound (tokens_by first before) near
+    → P before insert
+
+-- ---- what two texts have in common
+
+-- both begin with the same n bytes
+pub record IsSameFront (old new : List ℕ) (n : ℕ) : Type 0 where
+  pub in_old : n ≤ length old
+  pub in_new : n ≤ length new
+  pub same : take n old ≡ take n new
+
+-- behind `start` both end with the same n bytes
+pub record IsSameBack (old new : List ℕ) (start n : ℕ) : Type 0 where
+  pub in_old : start + n ≤ length old
+  pub in_new : start + n ≤ length new
+  pub same : drop (length old - n) old ≡ drop (length new - n) new

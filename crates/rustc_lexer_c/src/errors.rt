@@ -1,0 +1,142 @@
+//! The class and the error of a token.
+ghost use Rattle.std.specs.Prelude.{◌≡◌, ◌≢◌, None};
+ghost use Rattle.rustc_lexer.specs.declared.edition.Edition.{Edition};
+ghost use Rattle.rustc_lexer.specs.declared.token.Token.{Token};
+ghost use Rattle.rustc_lexer.specs.LanguageCalls.{edition_of_year};
+ghost use Rattle.rustc_lexer_highlight.specs.Class.{class_of};
+ghost use Rattle.rustc_lexer_highlight.specs.TokenError.{token_error};
+ghost use Rattle.rustc_lexer_c.specs.EscapeErrors as spec;
+ghost use Rattle.rustc_lexer_c.specs.Numbers.{token_numbers};
+ghost use Rattle.rustc_lexer_c.specs.declared.status.Refusal.TheVariants.{BadEdition};
+ghost use Rattle.rustc_lexer_c.specs.Status.{Writes, refusal_number};
+
+use crate::relex::edition_of;
+use crate::status::{Refusal, done, refuse, text_of};
+use crate::token::CToken;
+use rustc_lexer::{Base, DocStyle, LiteralKind, TokenKind};
+use rustc_lexer_highlight::{TokenError, class_of, token_error};
+
+/// Writes the number of a token's class in the edition of a year. The token is passed as its numbers and its text.
+#[tactic(auto, using(crate::proofs::ErrorLemmas::same_class))]
+#[unsafe(no_mangle)]
+pub extern "C" fn rustc_lexer_class(
+    text: &[u8],
+    token: &CToken,
+    edition: u32,
+    number: &mut u32,
+) -> u32
+    ensures class { Writes text.now (edition_of_year edition ≢ None) (refusal_number BadEdition)
+        (spec.class_in token.now text.now (edition_of_year edition)) 0 number.new result }
+    ensures same { (it : Token) (year : Edition) → token_numbers it ≡ token.now
+        → class_of (spec.kind_of token.now) text.now year ≡ class_of it.kind text.now year }
+{
+    let text = match text_of(text) {
+        Ok(text) => text,
+        Err(refusal) => return refuse(refusal, 0, number),
+    };
+    match edition_of(edition) {
+        Some(edition) => done(
+            u32::from(class_of(kind_of(token), text, edition).number()),
+            number,
+        ),
+        None => refuse(Refusal::BadEdition, 0, number),
+    }
+}
+
+/// Writes the number of a token's error, or 0 if it has none. The token is passed as its numbers and its text.
+#[tactic(auto, using(crate::proofs::ErrorLemmas::same_error))]
+#[unsafe(no_mangle)]
+pub extern "C" fn rustc_lexer_token_error(text: &[u8], token: &CToken, number: &mut u32) -> u32
+    ensures error { Writes text.now (Unit {0}) 0
+        (spec.number_of (token_error (spec.kind_of token.now) text.now)) 0 number.new result }
+    ensures same { (it : Token) → token_numbers it ≡ token.now
+        → token_error (spec.kind_of token.now) text.now ≡ token_error it.kind text.now }
+{
+    match text_of(text) {
+        Ok(text) => done(number_of(token_error(kind_of(token), text)), number),
+        Err(refusal) => refuse(refusal, 0, number),
+    }
+}
+
+/// Returns the number of an error, or 0 if there is none.
+fn number_of(error: Option<TokenError>) -> u32
+    ensures { result ≡ spec.number_of error }
+{
+    match error {
+        Some(error) => u32::from(error.number()),
+        None => 0,
+    }
+}
+
+/// Returns the kind with these numbers, as far as a class or an error depends on it.
+fn kind_of(token: &CToken) -> TokenKind
+    ensures { result ≡ spec.kind_of token.now }
+{
+    let (first, second) = (token.first != 0, token.second != 0);
+    let doc_style = if first { Some(DocStyle::Outer) } else { None };
+    match token.kind {
+        1 => TokenKind::LineComment { doc_style },
+        2 => TokenKind::BlockComment {
+            doc_style,
+            terminated: second,
+        },
+        4 => TokenKind::Frontmatter {
+            has_invalid_preceding_whitespace: first,
+            invalid_infostring: second,
+        },
+        5 => TokenKind::Ident,
+        6 => TokenKind::InvalidIdent,
+        7 => TokenKind::RawIdent,
+        9 => TokenKind::UnknownPrefix,
+        10 => TokenKind::UnknownPrefixLifetime,
+        11 => TokenKind::RawLifetime,
+        12 => TokenKind::GuardedStrPrefix,
+        13 => TokenKind::Literal {
+            kind: literal_of(token),
+            suffix_start: token.suffix_start,
+        },
+        14 => TokenKind::Lifetime {
+            starts_with_number: first,
+        },
+        42 => TokenKind::Unknown,
+        _ => TokenKind::Whitespace,
+    }
+}
+
+/// Returns the kind of literal with these numbers, as far as a class or an error depends on it.
+fn literal_of(token: &CToken) -> LiteralKind
+    ensures { result ≡ spec.literal_of token.now }
+{
+    let base = base_of(token.second);
+    let (terminated, empty) = (token.second != 0, token.third != 0);
+    let n_hashes = if terminated { Some(token.third) } else { None };
+    match token.first {
+        1 => LiteralKind::Int {
+            base,
+            empty_int: empty,
+        },
+        2 => LiteralKind::Float {
+            base,
+            empty_exponent: empty,
+        },
+        3 => LiteralKind::Char { terminated },
+        4 => LiteralKind::Byte { terminated },
+        5 | 7 => LiteralKind::Str { terminated },
+        6 => LiteralKind::ByteStr { terminated },
+        8 => LiteralKind::RawStr { n_hashes },
+        9 => LiteralKind::RawByteStr { n_hashes },
+        _ => LiteralKind::RawCStr { n_hashes },
+    }
+}
+
+/// Returns the base with this number.
+fn base_of(number: u8) -> Base
+    ensures { result ≡ spec.base_of number }
+{
+    match number {
+        2 => Base::Binary,
+        8 => Base::Octal,
+        10 => Base::Decimal,
+        _ => Base::Hexadecimal,
+    }
+}

@@ -1,0 +1,84 @@
+-- What a highlighted text says, and the calls that write it.
+use Rattle.std.proofs.Common.{◌≡◌, ℕ, ◌+◌, ◌-◌, ◌==◌, inl, inr, List, [], ◌∷◌, ◌++◌, length, take, drop, refl, sym, ap}
+use Rattle.std.proofs.Common.{subst, ◌∙◌, arith, take-add, take-append-drop, Option, append-nil}
+use Rattle.std.specs.{Fmt.{WritesInCalls}, Prelude.{OnOk, Result}, Char.{encode_utf8, len_utf8}}
+use Rattle.std.specs.Str.{IsCharBoundary, IsUtf8, chars}
+use Rattle.std.proofs.lemmas.{Bool.{cases_Bool, eqb-true}, Str.{IsCharBoundary-past_char, IsCharBoundary-start}}
+use Rattle.std.proofs.lemmas.{List.Concat.{flat_map-append}, Grind.{common_steps}, Result.{on_ok_weaker}}
+use Rattle.rustc_lexer.specs.declared.{edition.Edition.{Edition}, token.Token.{Token}}
+use Rattle.rustc_lexer.specs.{Document.{document_tokens, byte_order_mark_len, tokens_start}, Tokens.{bound, Partitions}}
+use Rattle.rustc_literal_escaper.specs.declared.mode.Mode.{Mode}
+use Rattle.rustc_lexer_highlight.specs.declared.{class.{Class.{Class, TheVariants.{Comment, Plain}}}, errors.TokenError.{TokenError}}
+use Rattle.rustc_lexer_highlight.specs.{declared.{format.{Format.{Format, TheVariants.{Html}}}}, Escape.{unescaped, untagged}}
+use Rattle.rustc_lexer_highlight.specs.Highlighted.{document_parts, highlighted, marked_tokens, parts, parts_by, start_parts, token_parts}
+use Rattle.rustc_lexer_highlight.specs.Part.{Own, own, with_marks, without_marks}
+use Rattle.rustc_lexer_highlight.proofs.{EscapeLemmas.{unescaped_escaped}, LiteralLemmas.{without_literal}}
+use Rattle.rustc_lexer_highlight.proofs.PartLemmas.{shows, without_error, writes_parts}
+
+without_token : (error : Option TokenError) (mode : Option Mode) (class : Class) (text : List ℕ)
+    → without_marks (parts_by error mode class text) ≡ text
+without_token error mode class text = grind (arith, common_steps, without_error, without_literal, append-nil)
+
+-- without the marks, the parts are the text as far as the tokens go
+without_marks-parts : (edition : Edition) (text : List ℕ) (tokens : List Token)
+    → without_marks (parts edition text tokens) ≡ take (bound tokens (length tokens)) text
+without_marks-parts edition text [] = refl
+without_marks-parts edition text (token ∷ tokens) =
+    grind (
+      arith,
+      common_steps,
+      flat_map-append,
+      without_token,
+      take-add,
+      without_marks-parts edition
+          (drop token.len text) tokens,
+    )
+
+-- without the marks, a document is as it was
+pub document_is : (edition : Edition) (text : List ℕ)
+    → Partitions (drop (tokens_start text) text) (document_tokens edition text)
+    → without_marks (document_parts edition text) ≡ text
+document_is edition text cut = grind (arith, common_steps, without_marks-parts)
+
+-- and so it is on a page
+pub page_is : (edition : Edition) (text : List ℕ) → without_marks (document_parts edition text) ≡ text
+    → unescaped (untagged (highlighted Html edition text)) ≡ text
+page_is edition text is =
+    ap unescaped (shows (document_parts edition text))
+    ∙ (unescaped_escaped (without_marks (document_parts edition text)) ∙ is)
+
+-- ---- the calls that write the tokens
+
+module _ {W : Type 0} (took : W → List ℕ → W → Type 0) where
+  -- a token, and then those that are left
+  pub writes_token : (format : Format) (edition : Edition) (w0 w1 w : W) (text rest own : List ℕ)
+      (left others : List Token) (token : Token)
+      → left ≡ token ∷ others → rest ≡ drop token.len text → own ≡ take token.len text
+      → WritesInCalls took w0 (with_marks format (token_parts edition token.kind own)) w1
+      → WritesInCalls took w1 (marked_tokens format edition rest others) w
+      → WritesInCalls took w0 (marked_tokens format edition text left) w
+  writes_token format edition w0 w1 w text rest own left others token first past is wrote more =
+      grind (arith, common_steps, writes_parts)
+
+  -- a byte order mark, and then a shebang line
+  pub writes_start : {T E : Type 0} (r : Result T E) (format : Format) (text mark line : List ℕ) (n : ℕ) (w v u : W)
+      → n ≡ byte_order_mark_len text → mark ≡ take (n - 0) text → line ≡ drop n text
+      → WritesInCalls took w (with_marks format (Own Plain mark ∷ [])) v
+      → OnOk r (WritesInCalls took v (with_marks format (Own Comment line ∷ [])) u)
+      → OnOk r (WritesInCalls took w (with_marks format (start_parts text)) u)
+  writes_start r format text mark line n w v u is front past before after =
+      let same : n - 0 ≡ byte_order_mark_len text = omega arith in
+      let is_mark : mark ≡ take (byte_order_mark_len text) text = front ∙ ap (λ (k : ℕ). take k text) same in
+      let is_line : line ≡ drop (byte_order_mark_len text) text = past ∙ ap (λ (k : ℕ). drop k text) is in
+      on_ok_weaker r (λ wrote. rw (sym is_mark, sym is_line)
+      (writes_parts took format (Own Plain mark ∷ []) (Own Comment line ∷ []) w v u before wrote)) after
+
+  -- what comes before the first token, and then the tokens
+  pub writes_past : (format : Format) (edition : Edition) (w0 w u : W) (text : List ℕ)
+      → WritesInCalls took w0 (with_marks format (start_parts (take (tokens_start text) text))) w
+      → WritesInCalls took w
+      (marked_tokens format edition (drop (tokens_start text) text) (document_tokens edition text)) u
+      → WritesInCalls took w0 (highlighted format edition text) u
+  writes_past format edition w0 w u text before more =
+      writes_parts took format (start_parts (take (tokens_start text) text))
+      (parts edition (drop (tokens_start text) text) (document_tokens edition text)) w0 w u before more

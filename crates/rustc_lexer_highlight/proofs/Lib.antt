@@ -1,0 +1,15 @@
+pub mod CallLemmas
+pub mod EscapeLemmas
+pub mod FileErrorLemmas
+pub mod FrontmatterEndLemmas
+pub mod FrontmatterLemmas
+pub mod KeywordLemmas
+pub mod LineEndLemmas
+pub mod LiteralLemmas
+pub mod LiteralMarkLemmas
+pub mod HighlightedLemmas
+pub mod MovedLemmas
+pub mod PartLemmas
+pub mod PlaceLemmas
+pub mod ScreenLemmas
+pub mod TextErrorLemmas

@@ -1,0 +1,130 @@
+-- What stands in a literal of a file, by what stands in the text with newlines for its line ends.
+use Rattle.std.proofs.Common.{◌≡◌, ℕ, zero, suc, add-zero, ◌+◌, ◌≤◌, ◌⊎◌, inl, inr, nat_lt, get_or, append-nil}
+use Rattle.std.proofs.Common.{IsCharBoundary, IsUtf8, Bool, true, List, [], ◌∷◌, length, map, refl, sym, ap, ◌∙◌, arith}
+use Rattle.std.proofs.Common.{Option, Result}
+use Rattle.std.specs.{Option.{option_map}, Result.{result_err}, Str.{chars}}
+use Rattle.std.proofs.lemmas.{Bool.{cases_lt, Decides.{nat_tests}}, Grind.{common_steps}, List.{map-append}}
+use Rattle.std.proofs.lemmas.List.Elements.{All-cons, All-head, All-nil, All-tail}
+use Rattle.rustc_literal_escaper.proofs.{AnswerLemmas.{literal_read}, PlacedLemmas.{are_placed}}
+use Rattle.rustc_literal_escaper.specs.{Answers.{items_of, single_of, without_range}, Grammar.{Error, Item}}
+use Rattle.rustc_literal_escaper.specs.{Items.{ArePlaced, IsPlaced}, Meaning.{byte_of, char_of, error_of}}
+use Rattle.rustc_literal_escaper.specs.declared.{element.Element.{Element}, error.EscapeError.{EscapeError}}
+use Rattle.rustc_literal_escaper.specs.declared.mode.Mode.{Mode, TheVariants.{Char, Byte}}
+use Rattle.rustc_literal_escaper.specs.laws.Escape.{by_either}
+use Rattle.rustc_literal_escaper.specs.model.Elements as reading
+use Rattle.rustc_literal_escaper.specs.model.Single.{alone, alone_error, literal, single_error}
+use Rattle.rustc_lexer_highlight.specs.LineEnds.{ends_line, file_items, moved, place, unix}
+use Rattle.rustc_lexer_highlight.specs.{Literal.{char_error, moved_stretch, stretch}, declared.literal.Look.{Look}}
+use Rattle.rustc_lexer_highlight.specs.model.{LineEnds.{is_whole, single_left}, Literal.{stretches_from}}
+use Rattle.rustc_lexer_highlight.proofs.LineEndLemmas.{chars-unix, place-append, place_less, utf8-unix}
+
+-- ---- places
+
+whole-nil : (s : List ℕ) → is_whole s [] ≡ true
+whole-nil s = grind (arith, common_steps, nat_tests)
+
+pub place-end : (s : List ℕ) → place s (length (unix s)) ≡ length s
+place-end s = rw (append-nil s, add-zero (length (unix s)), add-zero (length s)) at (place-append s [] 0 (whole-nil s))
+
+-- the byte at a place is that of the text with newlines, or a carriage return
+place-byte : (s : List ℕ) (i : ℕ) → (get_or s (place s i) 0 ≡ get_or (unix s) i 0) ⊎ (get_or s (place s i) 0 ≡ 13)
+place-byte [] zero = inl refl
+place-byte [] (suc i) = inl refl
+place-byte (c ∷ s) zero = by_either (ends_line c s) (λ ends. inr (grind (arith, common_steps, nat_tests)))
+    (λ stays. rw stays (inl refl))
+place-byte (c ∷ s) (suc i) =
+    by_either (ends_line c s) (λ ends. rw ends (place-byte s (suc i))) (λ stays. rw stays (place-byte s i))
+
+pub place-le : (s : List ℕ) (i j : ℕ) → i ≤ j → place s i ≤ place s j
+place-le s i j le = elim (cases_lt i j) [
+  | inl less ↦ let l = place_less s i j less in
+      omega arith
+  | inr more ↦ let same : i ≡ j = omega arith in omega (arith, ap (place s) same)
+]
+
+place-boundary : (s : List ℕ) (i : ℕ) → IsCharBoundary (unix s) i → IsCharBoundary s (place s i)
+place-boundary s i at =
+    grind (arith, common_steps, place-le s i (length (unix s)) at.0, place-end s, place-byte, cases_lt)
+
+placed-moved : (s : List ℕ) (items : List Item) → ArePlaced (unix s) items
+    → ArePlaced s (map (λ (i : Item). (moved s i.0, i.1)) items)
+placed-moved s [] are = All-nil (IsPlaced s)
+placed-moved s (i ∷ items) are =
+    let one : IsPlaced (unix s) i = All-head (IsPlaced (unix s)) i items are in
+    All-cons (IsPlaced s) (moved s i.0, i.1) (map (λ (i : Item). (moved s i.0, i.1)) items)
+    (record {
+      not_empty = place_less s i.0.start i.0.end one.not_empty;
+      start = place-boundary s i.0.start one.start;
+      end = place-boundary s i.0.end one.end;
+    })
+    (placed-moved s items (All-tail (IsPlaced (unix s)) i items are))
+
+pub items_placed : (raw : Bool) (s : List ℕ) → IsUtf8 s → ArePlaced s (file_items raw s)
+items_placed raw s is = placed-moved s (items_of raw (unix s)) (are_placed (unix s) (utf8-unix s is) raw)
+
+-- ---- stretches
+
+same-order : (s : List ℕ) (begin i j : ℕ) → nat_lt (begin + place s i) (begin + place s j) ≡ nat_lt i j
+same-order s begin i j = grind (arith, common_steps, nat_tests, place_less s i j, place-le s j i)
+
+stretch-moved : (begin : ℕ) (s : List ℕ) (start end : ℕ) (look : Option Look)
+    → stretch (begin + place s start) (begin + place s end) look ≡ map (moved_stretch begin s) (stretch start end look)
+stretch-moved begin s start end look = grind (arith, common_steps)
+
+pub stretches-moved : (mode : Mode) (begin : ℕ) (s : List ℕ) (at close : ℕ) (items : List Item)
+    → stretches_from mode begin (begin + place s at) (begin + place s close)
+    (map (λ (i : Item). (moved s i.0, i.1)) items) ≡
+    map (moved_stretch begin s) (stretches_from mode 0 at close items)
+stretches-moved mode begin s at close [] = grind (arith, common_steps, same-order s begin at close)
+stretches-moved mode begin s at close (i ∷ items) =
+    grind (
+      arith,
+      common_steps,
+      map-append,
+      stretch-moved,
+      same-order s begin i.0.start at,
+      same-order s begin at i.0.start,
+      stretches-moved mode begin s at close items,
+      stretches-moved mode begin s i.0.end close items,
+    )
+
+-- ---- errors between single quotes
+
+abbrev kind : Option Error → Option EscapeError
+kind o = option_map (λ (e : Error). e.1) o
+
+alone-error : {U : Type 0} (meant : Result U EscapeError) (left : List ℕ) (offset : List ℕ → ℕ)
+    → kind (alone_error offset (result_err meant) left) ≡ result_err (alone meant left)
+alone-error meant left offset = grind (arith, common_steps)
+
+literal-error : {U : Type 0} (meaning : Element → Result U EscapeError) (mode : Mode) (offset : List ℕ → ℕ) (s : List ℕ)
+    → ((e : Element) → result_err (meaning e) ≡ error_of mode e)
+    → kind (single_error offset mode s) ≡ result_err (literal meaning s)
+literal-error meaning mode offset s w4 = grind (arith, common_steps, alone-error)
+
+kind-moved : (text : List ℕ) (o : Option Error) → kind (option_map (λ (e : Error). (moved text e.0, e.1)) o) ≡ kind o
+kind-moved text o = grind (arith, common_steps)
+
+single-error : {U : Type 0} (meaning : Element → Result U EscapeError) (mode : Mode) (text : List ℕ) → IsUtf8 text
+    → ((e : Element) → result_err (meaning e) ≡ error_of mode e)
+    → kind (single_left text mode (unix (chars text))) ≡
+    result_err (without_range (single_of meaning (chars (unix text))))
+single-error meaning mode text is same =
+    kind-moved text (single_error (reading.place (length (unix text))) mode (unix (chars text)))
+    ∙ (literal-error meaning mode (reading.place (length (unix text))) (unix (chars text)) same
+    ∙ (ap result_err (sym (literal_read meaning (unix (chars text))))
+    ∙ ap (λ (s : List ℕ). result_err (without_range (single_of meaning s))) (sym (chars-unix text is))))
+
+-- a mode without single quotes is read as that of a character
+abbrev pub alone_mode : Mode → Mode
+alone_mode Byte = Byte
+alone_mode mode = Char
+
+pub error_found : (mode picked : Mode) (text : List ℕ) (found : Option Error) → IsUtf8 text → picked ≡ alone_mode mode
+    → found ≡ single_left text picked (unix (chars text)) → option_map (λ (e : Error). e.1) found ≡ char_error mode text
+error_found Byte picked text found is pick f =
+    ap kind (f ∙ ap (λ (m : Mode). single_left text m (unix (chars text))) pick)
+    ∙ single-error byte_of Byte text is (λ e. refl)
+error_found mode picked text found is pick f =
+    ap kind (f ∙ ap (λ (m : Mode). single_left text m (unix (chars text))) pick)
+    ∙ single-error char_of Char text is (λ e. refl)

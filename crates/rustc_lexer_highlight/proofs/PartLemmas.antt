@@ -1,0 +1,112 @@
+-- A part of a text between its marks: what it says, and the calls that write it.
+use Rattle.std.proofs.Common.{◌≡◌, ℕ, zero, suc, ◌%◌, ◌==◌, Bool, true, false, List, [], ◌∷◌, ◌++◌, length, take, drop}
+use Rattle.std.proofs.Common.{refl, sym, ap, subst, ◌∙◌, arith, append_assoc, not, take-append-drop, ◌-◌, append-nil}
+use Rattle.std.proofs.Common.{true≢false}
+use Rattle.std.specs.{Prelude.{decimal}, Fmt.{digit_glyph, digits, digits_onto, WritesInCalls}}
+use Rattle.std.proofs.lemmas.{Bool.{ne_eqb}, List.Concat.{flat_map-append}, Grind.{common_steps}}
+use Rattle.rustc_literal_escaper.specs.declared.error.EscapeError.{EscapeError}
+use Rattle.rustc_lexer_highlight.specs.declared.{class.Class.{Class}, errors.TokenError.{TokenError}, format.{Format.{Format, TheVariants.{Html}}}}
+use Rattle.rustc_lexer_highlight.specs.{Escape.{escaped, escaped_byte, untagged, untagged_from}, TokenError.{sentence}}
+use Rattle.rustc_literal_escaper.specs.Numbers.{error_sentence}
+use Rattle.rustc_lexer_highlight.specs.Mark.{class_open, class_close, error_open, error_close}
+use Rattle.rustc_lexer_highlight.specs.Part.{Part, Own, Close, error_parts, first_line, own, shown, with_marks, without_marks, written}
+use Rattle.rustc_lexer_highlight.proofs.{CallLemmas.{no_calls, one_call, writes_both}, EscapeLemmas.{untagged_escaped}}
+
+pub without_error : (error : TokenError) (class : Class) (text : List ℕ) → without_marks (error_parts error class text) ≡
+    text
+without_error error class text = grind (arith, common_steps, append-nil, take-append-drop)
+
+-- ---- no mark of a page shows anything
+
+-- digits stand inside of a tag
+no_end : (n : ℕ) → digit_glyph false (n % 10) ≡ 62 → ⊥
+no_end n = grind (arith, common_steps)
+
+in_digit : (d : ℕ) (acc rest : List ℕ) → (d ≡ 62 → ⊥) → untagged_from true (acc ++ rest) ≡ untagged_from true rest
+    → untagged_from true ((d ∷ acc) ++ rest) ≡ untagged_from true rest
+in_digit d acc rest other at = ap (λ (x : Bool). untagged_from (not x) (acc ++ rest)) (ne_eqb d 62 other) ∙ at
+
+in_digits : (k n : ℕ) (acc rest : List ℕ) → untagged_from true (acc ++ rest) ≡ untagged_from true rest
+    → untagged_from true (digits_onto k 10 false n acc ++ rest) ≡ untagged_from true rest
+in_digits zero n acc rest at = at
+in_digits (suc k) n acc rest at = grind (arith, common_steps, in_digit, no_end, in_digits k)
+
+in_decimal : (n : ℕ) (rest : List ℕ) → untagged_from true (decimal n ++ rest) ≡ untagged_from true rest
+unfolding digits
+in_decimal n rest = in_digits 64 n [] rest refl
+
+in_error : (error : EscapeError) (rest : List ℕ) → untagged_from true (error_sentence error ++ rest) ≡
+    untagged_from true rest
+in_error error rest = grind (arith, common_steps)
+
+-- a sentence stands inside of a tag
+in_sentence : (error : TokenError) (rest : List ℕ) → untagged_from true (sentence error ++ rest) ≡ untagged_from true rest
+unfolding sentence
+in_sentence error rest = grind (arith, common_steps, append_assoc, in_decimal, in_error)
+
+class_open_unseen : (class : Class) (rest : List ℕ) → untagged_from false (class_open Html class ++ rest) ≡
+    untagged_from false rest
+class_open_unseen class rest = grind (arith, common_steps)
+
+class_close_unseen : (class : Class) (rest : List ℕ) → untagged_from false (class_close Html class ++ rest) ≡
+    untagged_from false rest
+class_close_unseen class rest = grind (arith, common_steps)
+
+-- outside of tags, a part shows what it is without its marks
+shows_part : (part : Part) (rest : List ℕ) → untagged_from false (written Html part ++ rest) ≡
+    escaped (own part) ++ untagged_from false rest
+shows_part part rest =
+    grind (arith, common_steps, append_assoc, class_open_unseen, untagged_escaped, class_close_unseen, in_sentence)
+
+-- and so do some parts: a page shows the text with entities
+pub shows : (ps : List Part) → untagged (with_marks Html ps) ≡ escaped (without_marks ps)
+shows [] = refl
+shows (p ∷ ps) = shows_part p (with_marks Html ps)
+    ∙ (ap (λ xs. escaped (own p) ++ xs) (shows ps) ∙ sym (flat_map-append escaped_byte (own p) (without_marks ps)))
+
+-- ---- the calls that write it
+
+with_marks-append : (format : Format) (ps qs : List Part) → with_marks format (ps ++ qs) ≡
+    with_marks format ps ++ with_marks format qs
+with_marks-append format [] qs = refl
+with_marks-append format (p ∷ ps) qs = ap (λ xs. written format p ++ xs) (with_marks-append format ps qs)
+    ∙ sym (append_assoc (written format p) (with_marks format ps) (with_marks format qs))
+
+module _ {W : Type 0} (took : W → List ℕ → W → Type 0) where
+  -- some parts, and then others
+  pub writes_parts : (format : Format) (ps qs : List Part) (w0 w1 w2 : W)
+      → WritesInCalls took w0 (with_marks format ps) w1 → WritesInCalls took w1 (with_marks format qs) w2
+      → WritesInCalls took w0 (with_marks format (ps ++ qs)) w2
+  writes_parts format ps qs w0 w1 w2 first more =
+      subst (λ (bs : List ℕ). WritesInCalls took w0 bs w2) (sym (with_marks-append format ps qs))
+      (writes_both took w0 w1 w2 _ _ first more)
+
+  -- a part of the text between the marks of its class
+  pub writes_in_class : (format : Format) (class : Class) (text : List ℕ) (w0 w1 w2 w3 : W) (before after : List ℕ)
+      → (length text == 0) ≡ false → before ≡ class_open format class → after ≡ class_close format class
+      → took w0 before w1 → WritesInCalls took w1 (shown format class text) w2 → took w2 after w3
+      → WritesInCalls took w0 (with_marks format (Own class text ∷ [])) w3
+  writes_in_class format class [] w0 w1 w2 w3 before after some opens closes a b d = absurd (true≢false some)
+  writes_in_class format class (x ∷ xs) w0 w1 w2 w3 before after some opens closes a b d =
+      let open_call = subst (λ (bs : List ℕ). took w0 bs w1) opens a in
+      let close_call = subst (λ (bs : List ℕ). took w2 bs w3) closes d in
+      writes_both took w0 w3 w3 _ _ (
+      writes_both took w0 w1 w3 _ _ (one_call took w0 w1 _ open_call) (
+      writes_both took w1 w2 w3 _ _ b (one_call took w2 w3 _ close_call))) (no_calls took w3)
+
+  -- a token with an error between its marks
+  pub writes_error : (format : Format) (error : TokenError) (class : Class) (text line rest : List ℕ) (n : ℕ)
+      (w0 w1 w2 w3 w4 : W) → n ≡ first_line text → line ≡ take (n - 0) text → rest ≡ drop n text
+      → WritesInCalls took w0 (error_open format error) w1
+      → WritesInCalls took w1 (with_marks format (Own class line ∷ [])) w2
+      → WritesInCalls took w2 (error_close format error) w3
+      → WritesInCalls took w3 (with_marks format (Own class rest ∷ [])) w4
+      → WritesInCalls took w0 (with_marks format (error_parts error class text)) w4
+  writes_error format error class text line rest n w0 w1 w2 w3 w4 is front past a b d e =
+      let all : n - 0 ≡ n = omega arith in
+      let is_line : line ≡ take (first_line text) text = front ∙ ap (λ (k : ℕ). take k text) (all ∙ is) in
+      let is_rest : rest ≡ drop (first_line text) text = past ∙ ap (λ (k : ℕ). drop k text) is in
+      let whole = writes_both took w0 w1 w4 _ _ a (
+      writes_parts format (Own class line ∷ []) (Close error ∷ Own class rest ∷ []) w1 w2 w4 b
+      (writes_both took w2 w3 w4 _ _ d e)) in
+      rw (sym is_line, sym is_rest) whole

@@ -1,0 +1,162 @@
+-- A text as it is written for a terminal: it has no control characters except layout; the calls that write it.
+use Rattle.std.proofs.Common.{◌≡◌, ℕ, zero, suc, ◌+◌, ◌<◌, ◌≤◌, ◌==◌, Bool, true, false, true≢false, ◌&&◌, ◌||◌, not}
+use Rattle.std.proofs.Common.{inl, inr, List, [], ◌∷◌, ◌++◌, length, take, drop, get_or, refl, sym, ap, subst, ◌∙◌}
+use Rattle.std.proofs.Common.{arith, length-append, length-drop, take-append-drop, Some, None, IsCharBoundary}
+use Rattle.std.specs.{Char.{encode_utf8, is_control}, Fmt.{WritesInCalls}, List.{list_all, list_any}}
+use Rattle.std.specs.Str.{IsUtf8, chars, encode_utf8_all}
+use Rattle.std.proofs.lemmas.Bool.{cases_Bool, cases_lt, false_from_ne_true, Decides.{nat_tests}}
+use Rattle.std.proofs.lemmas.Grind.{common_steps}
+use Rattle.std.proofs.lemmas.List.{get_or-append-add, get_or-take, length-take}
+use Rattle.std.proofs.lemmas.Str.{encode_ascii, IsUtf8-drop, IsUtf8-past_char, IsUtf8-take, chars-append}
+use Rattle.std.proofs.lemmas.Str.{chars_past_char, encodes-append, encodes-chars, length-encode, len_utf8_bounds}
+use Rattle.memchr.specs.Find.{IsFirstByte}
+use Rattle.rustc_lexer_highlight.specs.declared.class.Class.{Class}
+use Rattle.rustc_lexer_highlight.specs.Screen.{at_line_end, is_layout, is_replaceable, is_shown, may_begin_replaceable, seen, seen_char}
+use Rattle.rustc_lexer_highlight.specs.Screen.{symbol}
+use Rattle.rustc_lexer_highlight.proofs.CallLemmas.{one_call, writes_both}
+
+far : (c : ℕ) → 160 ≤ c → is_shown c ≡ true
+far c high = grind (arith, common_steps, nat_tests)
+
+symbol_shown : (c : ℕ) → is_shown (symbol c) ≡ true
+symbol_shown c = grind (arith, common_steps, nat_tests, far)
+
+-- by whether a character is a control character, a tab, a newline, a carriage return, and at the end of a line
+kept : (k t n r e : Bool) → (k && not (t || n || (r && e))) ≡ false → (not k || t || n || r) ≡ true
+kept k t n r e w5 = grind (arith, common_steps)
+
+one_shown : (class : Class) (c : ℕ) (cs : List ℕ) → is_shown (seen_char class c cs) ≡ true
+one_shown class c cs = elim (cases_Bool (is_control c && not (is_layout class c cs))) [
+  | inl obeyed ↦ rw obeyed (symbol_shown c)
+  | inr other ↦ rw other (kept (is_control c) (c == 9) (c == 10) (c == 13) (at_line_end class cs) other)
+]
+
+pub all_shown : (class : Class) (cs : List ℕ) → list_all is_shown (seen class cs) ≡ true
+all_shown class [] = refl
+all_shown class (c ∷ cs) = rw (one_shown class c cs) (all_shown class cs)
+
+pub ruleset byte_tests = (nat_tests)
+
+-- ---- a text with no replaceable character
+
+irreplaceable_char : (class : Class) (c : ℕ) (cs : List ℕ) → is_replaceable c ≡ false → seen_char class c cs ≡ c
+irreplaceable_char class c cs other = grind (arith, common_steps, nat_tests)
+
+-- it is written as it is
+seen-append : (class : Class) (cs ds : List ℕ) → list_any is_replaceable cs ≡ false
+    → seen class (cs ++ ds) ≡ cs ++ seen class ds
+seen-append class [] ds none = refl
+seen-append class (c ∷ cs) ds none = grind (arith, common_steps, irreplaceable_char, seen-append class cs ds)
+
+seen_same : (class : Class) (cs : List ℕ) → list_any is_replaceable cs ≡ false → seen class cs ≡ cs
+seen_same class [] none = refl
+seen_same class (c ∷ cs) none = grind (arith, common_steps, irreplaceable_char, seen_same class cs)
+
+low : (c : ℕ) → is_replaceable c ≡ true → c < 160
+low c is = grind (arith, common_steps, nat_tests)
+
+wide_byte : (c : ℕ) (bs : List ℕ) → 128 ≤ c → c < 160 → get_or (encode_utf8 c ++ bs) 0 0 ≡ 194
+unfolding encode_utf8
+wide_byte c bs wide small = grind (arith, common_steps, nat_tests)
+
+-- the first byte of a character
+first_byte : (c : ℕ) (bs : List ℕ) → is_replaceable c ≡ true
+    → may_begin_replaceable (get_or (encode_utf8 c ++ bs) 0 0) ≡ true
+first_byte c bs is = elim (cases_lt c 128) [
+  | inl ascii ↦ rw (encode_ascii c ascii) (grind (arith, common_steps, nat_tests))
+  | inr wide ↦ let small = low c is in grind (arith, common_steps, nat_tests, wide_byte)
+]
+
+irreplaceable : (cs : List ℕ)
+    → ((k : ℕ) → k < length (encode_utf8_all cs) → may_begin_replaceable (get_or (encode_utf8_all cs) k 0) ≡ true → ⊥)
+    → list_any is_replaceable cs ≡ false
+irreplaceable [] none = refl
+irreplaceable (c ∷ cs) none =
+    let long = len_utf8_bounds c in
+    let own = length-encode c in
+    let all = length-append (encode_utf8 c) (encode_utf8_all cs) in
+    let clear : is_replaceable c ≡ false =
+    false_from_ne_true (is_replaceable c) (λ is. none 0 (omega arith) (first_byte c (encode_utf8_all cs) is)) in
+    rw clear (irreplaceable cs
+    (λ k less set. none (length (encode_utf8 c) + k) (omega arith)
+    (rw (get_or-append-add (encode_utf8 c) (encode_utf8_all cs) k 0) set)))
+
+irreplaceable_text : (bs : List ℕ) → IsUtf8 bs
+    → ((k : ℕ) → k < length bs → may_begin_replaceable (get_or bs k 0) ≡ true → ⊥)
+    → list_any is_replaceable (chars bs) ≡ false
+irreplaceable_text bs utf8 none = irreplaceable (chars bs) (rw (encodes-chars bs utf8) none)
+
+-- a text may be cut before the first byte of a replaceable character, and has none before it
+pub may_cut : (bs : List ℕ) (n : ℕ) → IsFirstByte may_begin_replaceable bs (Some n) → IsCharBoundary bs n
+may_cut bs n found = let high = found.0.high in
+    (omega arith, λ low wide. grind (arith, common_steps, nat_tests, found.1))
+
+pub front_irreplaceable : (bs : List ℕ) (n : ℕ) → IsUtf8 bs → IsFirstByte may_begin_replaceable bs (Some n)
+    → list_any is_replaceable (chars (take n bs)) ≡ false
+front_irreplaceable bs n utf8 found =
+    let high = found.0.high in
+    let long = length-take n bs in
+    irreplaceable_text (take n bs) (IsUtf8-take bs n utf8 (may_cut bs n found))
+    (λ k less set. found.0.before k (omega arith) (omega arith)
+    (subst (λ (b : ℕ). may_begin_replaceable b ≡ true) (get_or-take n bs k 0 (omega arith)) set))
+
+-- the text before it, its character, and the text after that
+pub splits : (text front rest past : List ℕ) (c n : ℕ) → IsUtf8 text → IsFirstByte may_begin_replaceable text (Some n)
+    → front ≡ take n text → rest ≡ drop n text
+    → chars rest ≡ c ∷ chars past → length past < length rest
+    → (list_any is_replaceable (chars front) ≡ false) × (chars text ≡ chars front ++ (c ∷ chars past))
+    × (length past < length text)
+splits text front rest past c n utf8 found is_front is_rest reads less =
+    let long = ap length is_rest ∙ length-drop n text in
+    let cut : chars text ≡ chars (take n text) ++ chars (drop n text) = ap chars (sym (take-append-drop n text))
+    ∙ chars-append (take n text) (drop n text) (IsUtf8-take text n utf8 (may_cut text n found)) in (
+      ap (λ (xs : List ℕ). list_any is_replaceable (chars xs)) is_front ∙ front_irreplaceable text n utf8 found,
+      rw (is_front, ← reads, is_rest) cut,
+      omega arith,
+    )
+
+pub some_left : (text rest : List ℕ) (n : ℕ) → IsUtf8 rest → IsFirstByte may_begin_replaceable text (Some n)
+    → rest ≡ drop n text → chars rest ≡ [] → ⊥
+some_left text rest n utf8 found is none =
+    let high = found.0.high in
+    let empty : [] ≡ rest = sym (ap encode_utf8_all none) ∙ encodes-chars rest utf8 in
+    let long = ap length is ∙ length-drop n text in
+    let short = ap length empty in
+    omega arith
+
+pub none_replaceable : (bs text : List ℕ) → bs ≡ text → IsUtf8 text → IsFirstByte may_begin_replaceable bs None
+    → list_any is_replaceable (chars text) ≡ false
+none_replaceable bs text same utf8 none =
+    irreplaceable_text text utf8
+    (λ k less set. subst (λ (xs : List ℕ). IsFirstByte may_begin_replaceable xs None) same none k
+    (omega arith) less set)
+
+module _ {W : Type 0} (took : W → List ℕ → W → Type 0) where
+  -- the text before a replaceable character, the character, and then the rest
+  pub writes_stretch : (class : Class) (w0 w1 w2 w : W) (c shown : ℕ) (bs front rest : List ℕ) → IsUtf8 front
+      → list_any is_replaceable (chars front) ≡ false
+      → chars bs ≡ chars front ++ (c ∷ chars rest) → shown ≡ seen_char class c (chars rest)
+      → took w0 front w1 → took w1 (encode_utf8 shown) w2
+      → WritesInCalls took w2 (encode_utf8_all (seen class (chars rest))) w
+      → WritesInCalls took w0 (encode_utf8_all (seen class (chars bs))) w
+  writes_stretch class w0 w1 w2 w c shown bs front rest utf8 none reads is a b more =
+      let split : encode_utf8_all (seen class (chars bs)) ≡
+      front ++ (encode_utf8 shown ++ encode_utf8_all (seen class (chars rest))) =
+      ap (λ (cs : List ℕ). encode_utf8_all (seen class cs)) reads
+      ∙ ap encode_utf8_all (seen-append class (chars front) (c ∷ chars rest) none)
+      ∙ encodes-append (chars front) (seen class (c ∷ chars rest))
+      ∙ rw (encodes-chars front utf8, is) refl in
+      subst (λ (xs : List ℕ). WritesInCalls took w0 xs w) (sym split)
+      (writes_both took w0 w1 w _ _ (one_call took w0 w1 front a)
+      (writes_both took w1 w2 w _ _ (one_call took w1 w2 _ b) more))
+
+  pub writes_irreplaceable : (class : Class) (w v : W) (bs : List ℕ) → IsUtf8 bs → list_any is_replaceable (chars bs) ≡
+      false → took w bs v → WritesInCalls took w (encode_utf8_all (seen class (chars bs))) v
+  writes_irreplaceable class w v bs utf8 none call =
+      let same : encode_utf8_all (seen class (chars bs)) ≡ bs = ap encode_utf8_all (seen_same class (chars bs) none)
+      ∙ encodes-chars bs utf8 in
+      rw same (one_call took w v bs call)
+
+pub ruleset seen_lemmas = (IsUtf8-past_char)
+
+pub ruleset first_lemmas = (chars_past_char, length-encode, len_utf8_bounds, length-append)

@@ -1,0 +1,57 @@
+-- A text with its shebang line and its tokens highlighted.
+use Rattle.std.specs.Prelude.{ℕ, ◌==◌, if◌then◌else◌, slice_index, List, [], ◌∷◌, ◌++◌, take, drop, Option, Some, None}
+use Rattle.std.specs.Str.{chars}
+use Rattle.rustc_lexer.specs.declared.edition.Edition.{Edition}
+use Rattle.rustc_lexer.specs.declared.token.Token.{Token}
+use Rattle.rustc_lexer.specs.declared.token.TokenKind.{TokenKind}
+use Rattle.rustc_lexer.specs.Document.{document_tokens, byte_order_mark_len, tokens_start}
+use Rattle.rustc_lexer_highlight.specs.declared.class.Class.{Class}
+use Rattle.rustc_lexer_highlight.specs.declared.class.Class.TheVariants.{Comment, Plain}
+use Rattle.rustc_lexer_highlight.specs.declared.errors.TokenError.{TokenError}
+use Rattle.rustc_lexer_highlight.specs.declared.format.Format.{Format}
+use Rattle.rustc_literal_escaper.specs.declared.mode.Mode.{Mode}
+use Rattle.rustc_lexer_highlight.specs.Class.{class_of}
+use Rattle.rustc_lexer_highlight.specs.TokenError.{token_error}
+use Rattle.rustc_lexer_highlight.specs.Answers.{stretches_of}
+use Rattle.rustc_lexer_highlight.specs.Literal.{closed_mode, parts_from}
+use Rattle.rustc_lexer_highlight.specs.Part.{Part, Own, error_parts, with_marks}
+
+-- the parts of a literal that is closed
+abbrev pub literal_parts : Mode → List ℕ → List Part
+literal_parts mode text = parts_from 0 text (stretches_of mode text)
+
+-- the parts of a token: of one with an error, of a literal that is closed, or of one that has a
+-- single class
+abbrev pub parts_by : Option TokenError → Option Mode → Class → List ℕ → List Part
+parts_by (Some error) mode class text = error_parts error class text
+parts_by None (Some mode) class text = literal_parts mode text
+parts_by None None class text = Own class text ∷ []
+
+abbrev pub token_parts : Edition → TokenKind → List ℕ → List Part
+token_parts edition kind text =
+    parts_by (token_error kind text) (closed_mode kind) (class_of kind text edition) text
+
+abbrev pub parts : Edition → List ℕ → List Token → List Part
+parts edition text [] = []
+parts edition text (token ∷ tokens) =
+    token_parts edition token.kind (take token.len text)
+    ++ parts edition (drop token.len text) tokens
+
+-- the parts of the text before the first token: a byte order mark, and a shebang line as a comment
+abbrev pub start_parts : List ℕ → List Part
+start_parts start =
+    Own Plain (take (byte_order_mark_len start) start) ∷ Own Comment (drop (byte_order_mark_len start) start) ∷ []
+
+-- the parts of a document in an edition
+abbrev pub document_parts : Edition → List ℕ → List Part
+document_parts edition text =
+    start_parts (take (tokens_start text) text)
+    ++ parts edition (drop (tokens_start text) text) (document_tokens edition text)
+
+-- the tokens of a text in an edition, each between its marks, as they are written
+abbrev pub marked_tokens : Format → Edition → List ℕ → List Token → List ℕ
+marked_tokens format edition text tokens = with_marks format (parts edition text tokens)
+
+-- the same for a whole text
+abbrev pub highlighted : Format → Edition → List ℕ → List ℕ
+highlighted format edition text = with_marks format (document_parts edition text)

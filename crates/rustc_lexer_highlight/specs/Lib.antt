@@ -1,0 +1,17 @@
+pub mod Answers
+pub mod Class
+pub mod Escape
+pub mod TokenError
+pub mod Frontmatter
+pub mod FrontmatterEnd
+pub mod Keyword
+pub mod LineEnds
+pub mod Literal
+pub mod LiteralMarks
+pub mod Mark
+pub mod Highlighted
+pub mod Part
+pub mod Screen
+pub mod TextError
+pub mod laws
+pub mod model

@@ -1,0 +1,222 @@
+-- A literal that is closed. Between its quotes are pieces: elements, and line ends that are
+-- skipped. A piece that is an escape or wrong is a stretch of the literal, and everything else is
+-- plain. `w` is the text of a piece, and `next` all of the text after it up to the closing quote.
+use Rattle.std.specs.Prelude.{◌≡◌, ◌+◌, ◌-◌, ◌==◌, ℕ, length, take, drop, codes, not, nat_lt, Bool, true, false}
+use Rattle.std.specs.Prelude.{if◌then◌else◌, List, [], ◌∷◌, ◌++◌, Option, Some, None, nat_eq}
+use Rattle.std.specs.Char.{is_whitespace}
+use Rattle.std.specs.List.{between, list_all, list_any, position_or_len, starts_with, suffix_len}
+use Rattle.std.specs.Option.{option_and_then, option_map}
+use Rattle.std.specs.Result.{result_err}
+use Rattle.std.specs.Str.{byte, chars}
+use Rattle.std.specs.declared.ops.Range.{Range}
+use Rattle.rustc_lexer.specs.Classes.{Chars, Utf8, bytes, next_is}
+use Rattle.rustc_lexer.specs.declared.token.LiteralKind.{LiteralKind}
+use Rattle.rustc_lexer.specs.declared.token.LiteralKind.TheVariants.{Char as CharToken, Byte as ByteToken}
+use Rattle.rustc_lexer.specs.declared.token.LiteralKind.TheVariants.{Str as StrToken, ByteStr as ByteStrToken}
+use Rattle.rustc_lexer.specs.declared.token.LiteralKind.TheVariants.{CStr as CStrToken, RawStr as RawStrToken}
+use Rattle.rustc_lexer.specs.declared.token.LiteralKind.TheVariants.{RawByteStr as RawByteStrToken}
+use Rattle.rustc_lexer.specs.declared.token.LiteralKind.TheVariants.{RawCStr as RawCStrToken}
+use Rattle.rustc_lexer.specs.declared.token.TokenKind.{TokenKind}
+use Rattle.rustc_lexer.specs.declared.token.TokenKind.TheVariants.{Literal}
+use Rattle.rustc_literal_escaper.specs.declared.element.Element.{Element}
+use Rattle.rustc_literal_escaper.specs.declared.element.Element.TheVariants.{Plain}
+use Rattle.rustc_literal_escaper.specs.declared.error.EscapeError.{EscapeError}
+use Rattle.rustc_literal_escaper.specs.declared.error.EscapeError.TheVariants.{MultipleSkippedLinesWarning}
+use Rattle.rustc_literal_escaper.specs.declared.error.EscapeError.TheVariants.{UnskippedWhitespaceWarning}
+use Rattle.rustc_literal_escaper.specs.declared.mode.Mode.{Mode}
+use Rattle.rustc_literal_escaper.specs.declared.mode.Mode.TheVariants.{Char, Byte, Str, RawStr, ByteStr, RawByteStr}
+use Rattle.rustc_literal_escaper.specs.declared.mode.Mode.TheVariants.{CStr, RawCStr}
+use Rattle.rustc_literal_escaper.specs.Answers.{byte_literal, char_literal}
+use Rattle.rustc_literal_escaper.specs.Grammar.{IsElementBefore, IsRawElement, is_newline, is_passed_over}
+use Rattle.rustc_literal_escaper.specs.Meaning.{error_of, is_raw, is_single}
+use Rattle.rustc_lexer_highlight.specs.declared.class.Class.TheVariants.{Text, Escape as EscapeClass}
+use Rattle.rustc_lexer_highlight.specs.declared.errors.TokenError.TheVariants.{InLiteral}
+use Rattle.rustc_lexer_highlight.specs.declared.literal.Look.{Look}
+use Rattle.rustc_lexer_highlight.specs.declared.literal.Look.TheVariants.{Escape, Wrong}
+use Rattle.rustc_lexer_highlight.specs.LineEnds.{place, unix}
+use Rattle.rustc_lexer_highlight.specs.Part.{Part, Own, error_parts}
+
+-- the mode of a literal that is closed. Numbers have none
+abbrev pub literal_mode : LiteralKind → Option Mode
+literal_mode (CharToken true) = Some Char
+literal_mode (ByteToken true) = Some Byte
+literal_mode (StrToken true) = Some Str
+literal_mode (ByteStrToken true) = Some ByteStr
+literal_mode (CStrToken true) = Some CStr
+literal_mode (RawStrToken (Some n_hashes)) = Some RawStr
+literal_mode (RawByteStrToken (Some n_hashes)) = Some RawByteStr
+literal_mode (RawCStrToken (Some n_hashes)) = Some RawCStr
+literal_mode kind = None
+
+abbrev pub closed_mode : TokenKind → Option Mode
+closed_mode (Literal kind suffix_start) = literal_mode kind
+closed_mode kind = None
+
+-- ---- between the quotes
+
+abbrev pub delimiter : Mode → ℕ
+delimiter mode = if is_single mode then byte "'" else byte "\""
+
+-- the offset of the first byte with this value, or the length of the text if there is none
+unfoldable pub first_offset : ℕ → Utf8 → ℕ
+first_offset b text = position_or_len (λ x. x == b) text
+
+-- the offset of the last byte with this value, or 0 if there is none
+unfoldable pub last_offset : ℕ → Utf8 → ℕ
+last_offset b text = length text - suffix_len (λ x. not (x == b)) text - 1
+
+-- where the text between the first quote and the last one begins and ends, by the offsets of the
+-- quotes
+abbrev pub between_places : ℕ → ℕ → Option (ℕ × ℕ)
+between_places first last = if nat_lt first last then Some (first + 1, last) else None
+
+abbrev pub contents_places : Mode → Utf8 → Option (ℕ × ℕ)
+contents_places mode text =
+    between_places (first_offset (delimiter mode) text) (last_offset (delimiter mode) text)
+
+-- the range between the quotes of a literal that is closed, with its mode
+abbrev pub contents_in : Mode → Utf8 → Option (Mode × Range ℕ)
+contents_in mode text =
+    option_map (λ (places : ℕ × ℕ). (mode, record { start = places.0; end = places.1 }))
+    (contents_places mode text)
+
+abbrev pub contents : TokenKind → Utf8 → Option (Mode × Range ℕ)
+contents kind text = option_and_then (λ (mode : Mode). contents_in mode text) (closed_mode kind)
+
+-- ---- the pieces between the quotes
+
+abbrev pub is_plain : Element → Bool
+is_plain (Plain c) = true
+is_plain element = false
+
+-- how an element looks: wrong, plain (None), or an escape
+pub data Looks (mode : Mode) (element : Element) : Option Look → Type 0 where
+  wrong : {error : EscapeError}
+      → error_of mode element ≡ Some error
+      → Looks mode element (Some (Wrong error))
+  plain : error_of mode element ≡ None
+      → is_plain element ≡ true
+      → Looks mode element None
+  escape : error_of mode element ≡ None
+      → is_plain element ≡ false
+      → Looks mode element (Some Escape)
+
+-- w is an element, or a skipped line end with a warning; and how it looks
+pub data IsPieceBefore (mode : Mode) (next : Chars)
+    : (raw : Bool) → Option Look → Chars → Type 0 where
+  element : {element : Element} {look : Option Look} {w : Chars}
+      → IsElementBefore (codes "\"") next element w
+      → (w ≡ codes "\\\n" → ⊥)
+      → Looks mode element look
+      → IsPieceBefore mode next false look w
+  raw_element : {element : Element} {look : Option Look} {c : ℕ}
+      → IsRawElement element c
+      → Looks mode element look
+      → IsPieceBefore mode next true look (c ∷ [])
+  -- a backslash at the end of a line, if the white space that is skipped has more line ends
+  lines : (space : Chars)
+      → list_all is_passed_over space ≡ true
+      → list_any is_newline space ≡ true
+      → next_is is_passed_over next ≡ false
+      → IsPieceBefore mode next false (Some (Wrong MultipleSkippedLinesWarning))
+      (codes "\\\n" ++ space)
+  -- or else with the first character of white space that is not skipped, if such a one follows
+  white_space : (space : Chars) (c : ℕ)
+      → list_all is_passed_over space ≡ true
+      → list_any is_newline space ≡ false
+      → is_whitespace c ≡ true
+      → is_passed_over c ≡ false
+      → IsPieceBefore mode next false (Some (Wrong UnskippedWhitespaceWarning))
+      (codes "\\\n" ++ (space ++ c ∷ []))
+
+-- line ends without a warning, one right after another, each with the white space that is skipped
+-- after it
+pub data AreSkippedBefore (next : Chars) : (raw : Bool) → Chars → Type 0 where
+  none : {raw : Bool} → AreSkippedBefore next raw []
+  more : {w : Chars} (space : Chars)
+      → list_all is_passed_over space ≡ true
+      → list_any is_newline space ≡ false
+      → next_is is_whitespace (w ++ next) ≡ false
+      → AreSkippedBefore next false w
+      → AreSkippedBefore next false (codes "\\\n" ++ (space ++ w))
+
+abbrev pub Piece : Type 0
+Piece = Chars × Option Look
+
+-- these are one piece, an escape
+abbrev pub skipped : Chars → List Piece
+skipped [] = []
+skipped (c ∷ w) = (c ∷ w, Some Escape) ∷ []
+
+-- the pieces of the text between double quotes
+pub data ArePieces (mode : Mode) (raw : Bool) : Chars → List Piece → Type 0 where
+  last : {gap : Chars} → AreSkippedBefore [] raw gap → ArePieces mode raw gap (skipped gap)
+  more : {gap w next : Chars} {look : Option Look} {pieces : List Piece}
+      → AreSkippedBefore (w ++ next) raw gap
+      → IsPieceBefore mode next raw look w
+      → ArePieces mode raw next pieces
+      → ArePieces mode raw (gap ++ (w ++ next)) (skipped gap ++ (w, look) ∷ pieces)
+
+-- ---- the stretches, each with its places in the literal
+
+pub record Stretch : Type 0 where
+  pub start : ℕ
+  pub end : ℕ
+  pub look : Look
+
+abbrev pub stretch : ℕ → ℕ → Option Look → List Stretch
+stretch start end None = []
+stretch start end (Some look) = record { start = start; end = end; look = look } ∷ []
+
+-- the stretches of pieces, the first of which begins at the offset `from`. A plain one has none
+abbrev pub stretches_at : ℕ → List Piece → List Stretch
+stretches_at from [] = []
+stretches_at from (piece ∷ pieces) =
+    stretch from (from + bytes piece.0) piece.1 ++ stretches_at (from + bytes piece.0) pieces
+
+-- the stretches of the text between double quotes, which begins at this offset
+pub data AreStretches (mode : Mode) (begin : ℕ) (text : Chars) : List Stretch → Type 0 where
+  made : {pieces : List Piece}
+      → ArePieces mode (is_raw mode) text pieces
+      → AreStretches mode begin text (stretches_at begin pieces)
+
+-- a stretch of these contents with newlines for CR LF is this one of the literal, if the contents
+-- begin at the offset `begin` of it
+abbrev pub moved_stretch : ℕ → Utf8 → Stretch → Stretch
+moved_stretch begin contents s = record {
+  start = begin + place contents s.start;
+  end = begin + place contents s.end;
+  look = s.look;
+}
+
+-- what is wrong between single quotes; CR LF is a newline
+abbrev pub char_error : Mode → Utf8 → Option EscapeError
+char_error Byte contents = result_err (byte_literal (chars (unix contents)))
+char_error mode contents = result_err (char_literal (chars (unix contents)))
+
+abbrev pub char_look : Option EscapeError → Utf8 → Option Look
+char_look (Some error) contents = Some (Wrong error)
+char_look None contents = if starts_with nat_eq contents (codes "\\") then Some Escape else None
+
+-- between single quotes everything is one stretch: an error, an escape, or plain
+abbrev pub single_stretches : Mode → ℕ → ℕ → Utf8 → List Stretch
+single_stretches mode begin close text =
+    let contents = between begin close text in
+    stretch begin close (char_look (char_error mode contents) contents)
+
+-- ---- the parts
+
+abbrev pub look_parts : Look → Utf8 → List Part
+look_parts Escape text = Own EscapeClass text ∷ []
+look_parts (Wrong error) text = error_parts (InLiteral error) Text text
+
+-- the parts of the rest of a literal from the offset `at` on: its stretches, and the plain text
+-- around them
+abbrev pub parts_from : ℕ → Utf8 → List Stretch → List Part
+parts_from at left [] = Own Text left ∷ []
+parts_from at left (s ∷ ss) =
+    let plain = take (s.start - at) left in
+    let rest = drop (s.start - at) left in
+    Own Text plain
+    ∷ (look_parts s.look (take (s.end - s.start) rest)
+    ++ parts_from s.end (drop (s.end - s.start) rest) ss)

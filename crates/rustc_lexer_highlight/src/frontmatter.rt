@@ -1,0 +1,131 @@
+//! How the first line of a frontmatter ends, and how its last line does. Its line ends may be CR LF.
+ghost use Rattle.std.specs.Prelude.{◌≡◌, ◌≤◌, ◌<◌, ◌^◌, ℕ, Bool, codes, length};
+ghost use Rattle.std.specs.List.{prefix_len};
+ghost use Rattle.std.specs.Str.{chars};
+ghost use Rattle.rustc_lexer.specs.Classes.{Fits, begins, is_horizontal_whitespace};
+ghost use Rattle.rustc_lexer_highlight.specs.Frontmatter as spec;
+
+use crate::errors::TokenError;
+use crate::screen::split_first;
+use memchr::memrchr;
+use rustc_lexer::{is_id_continue, is_id_start};
+
+/// Returns what is wrong with the end of a frontmatter that begins with its dashes. Returns `None` if a line of as many
+/// dashes closes it.
+#[tactic(auto, using(crate::proofs::FrontmatterLemmas::ends_found, crate::proofs::FrontmatterLemmas::ends_none, std::proofs::lemmas::Grind::common_steps))]
+pub fn end_error(text: &str) -> Option<TokenError>
+    requires fits { Fits text.now }
+    ensures { result ≡ spec.end_error text.now }
+{
+    let bytes = text.as_bytes();
+    let Some(newline) = memrchr(b'\n', bytes) else {
+        return Some(TokenError::UnclosedFrontmatter);
+    };
+    closing_error(run_of(b"-", bytes), &bytes[newline + 1..])
+}
+
+/// Returns what is wrong with a line that should close a frontmatter with so many dashes, or `None` if nothing is.
+#[tactic(auto, using(std::proofs::lemmas::Grind::common_steps))]
+fn closing_error(opening: usize, line: &[u8]) -> Option<TokenError>
+    requires opening { opening < 2 ^ 32 }
+    requires line { Fits line.now }
+    ensures { result ≡ spec.closing_error opening line.now }
+{
+    let blanks = run_of(b"\t ", line);
+    let rest = &line[blanks..];
+    let dashes = run_of(b"-", rest);
+    let tail = &rest[dashes..];
+    if dashes < 3 {
+        Some(TokenError::UnclosedFrontmatter)
+    } else if blanks > 0 {
+        Some(TokenError::WhitespaceBeforeFrontmatterClose)
+    } else if dashes != opening {
+        Some(TokenError::FrontmatterCloseMismatch {
+            opening: opening as u32,
+            closing: dashes as u32,
+        })
+    } else if is_end(&tail[run_of(b"\t ", tail)..]) {
+        None
+    } else {
+        Some(TokenError::ExtraAfterFrontmatterClose)
+    }
+}
+
+/// Returns whether nothing is left of a line but perhaps the carriage return of its end.
+#[tactic(auto, unfolding(crate::specs::Frontmatter::is_end))]
+fn is_end(rest: &[u8]) -> bool
+    ensures { result ≡ spec.is_end rest.now }
+{
+    rest.is_empty() || rest.len() == 1 && rest[0] == b'\r'
+}
+
+/// Returns how many of these bytes come first.
+#[tactic(auto, using(crate::proofs::FrontmatterLemmas::run_lemmas, std::proofs::lemmas::Grind::common_steps))]
+pub fn run_of(these: &[u8], bytes: &[u8]) -> usize
+    ensures value { result ≡ prefix_len (spec.is_of these.now) bytes.now }
+    ensures inside { result ≤ length bytes.now }
+{
+    let mut count = 0;
+    'run: while count < bytes.len() {
+        if !these.contains(&bytes[count]) {
+            return count;
+        }
+        count += 1;
+    }
+    count
+}
+
+/// Returns whether CR LF ends the first line of a frontmatter, right after its dashes and its label.
+pub fn has_crlf(text: &str) -> bool
+    ensures { result ≡ spec.has_crlf (chars text.now) }
+{
+    let name = skip(skip(text, |c| c == '-'), is_blank);
+    let rest = skip(skip_infostring(name), is_blank);
+    begins_crlf(rest)
+}
+
+/// Returns the text after an infostring, if there is one at the front, or else the whole text.
+fn skip_infostring(text: &str) -> &str
+    ensures { chars result.now ≡ spec.past_infostring (chars text.now) }
+{
+    match split_first(text) {
+        Some((first, rest)) if is_id_start(first) => {
+            skip(rest, |c| is_id_continue(c) || c == '-' || c == '.')
+        }
+        _ => text,
+    }
+}
+
+/// Returns whether the character is a tab or a space.
+fn is_blank(c: char) -> bool
+    ensures { result ≡ is_horizontal_whitespace c }
+{
+    c == '\t' || c == ' '
+}
+
+/// Returns the text after the characters at the front that pass the test.
+#[tactic(auto, using(crate::proofs::FrontmatterLemmas::skip_on, crate::proofs::FrontmatterLemmas::skip_ends, crate::proofs::FrontmatterLemmas::skip_all, crate::proofs::ScreenLemmas::seen_lemmas, std::proofs::lemmas::Grind::common_steps))]
+fn skip<F: Fn(char) -> bool>(text: &str, test: F) -> &str
+    requires callable { F.IsAlwaysCallable test }
+    ensures { (class : ℕ → Bool) → ((c : ℕ) (b : Bool) → F.post test c b → b ≡ class c)
+        → chars result.now ≡ spec.past_run class (chars text.now) }
+{
+    let mut left = text;
+    'chars: while let Some((c, rest)) = split_first(left) {
+        if !test(c) {
+            return left;
+        }
+        left = rest;
+    }
+    left
+}
+
+/// Returns whether a text begins with CR LF.
+fn begins_crlf(text: &str) -> bool
+    ensures { result ≡ begins (codes "\r\n") (chars text.now) }
+{
+    match split_first(text) {
+        Some(('\r', rest)) => matches!(split_first(rest), Some(('\n', _))),
+        _ => false,
+    }
+}

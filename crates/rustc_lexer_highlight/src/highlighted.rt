@@ -1,0 +1,111 @@
+//! Writes a text between marks, with its shebang line and its tokens, for a terminal or as the inside of a page.
+ghost use Rattle.std.specs.Prelude.{◌≡◌, OnOk, take};
+ghost use Rattle.std.specs.Fmt.{WritesInCalls};
+ghost use Rattle.rustc_lexer.specs.Classes.{Fits};
+ghost use Rattle.rustc_lexer.specs.LanguageText.{part};
+ghost use Rattle.rustc_lexer.specs.Tokens.{tokens_of};
+ghost use Rattle.rustc_lexer_highlight.specs.Escape.{unescaped, untagged};
+ghost use Rattle.rustc_lexer_highlight.specs.Highlighted.{document_parts, highlighted, marked_tokens, start_parts, token_parts};
+ghost use Rattle.rustc_lexer_highlight.specs.Part.{with_marks, without_marks};
+
+use crate::class::{Class, class_of};
+use crate::errors::token_error;
+use crate::format::Format;
+use crate::literal::{mode_of, write_literal};
+use crate::part::{write_in_class, write_with_error};
+use rustc_lexer::{Edition, TokenKind, byte_order_mark_len, tokenize_document, tokenize_in};
+use std::fmt;
+
+/// Writes a document with marks: the class of each token as a colour, and a message at each token that has an error.
+///
+/// A byte order mark, U+FEFF, at the start is written as it is, and a shebang line as a comment. Without the marks, the
+/// output is the text, with symbols such as `␛` in place of control characters other than tabs and line ends, unless the
+/// format is `Raw`. In a page, the text is what is outside of tags, with its entities decoded.
+#[tactic(auto, using(crate::proofs::HighlightedLemmas::document_is, crate::proofs::HighlightedLemmas::page_is))]
+pub fn write_highlighted<W: fmt::Write>(
+    format: Format,
+    edition: Edition,
+    text: &str,
+    output: &mut W,
+) -> fmt::Result
+    requires fits { Fits text.now }
+    ensures written { OnOk result (WritesInCalls W.write_str_gives output.old
+        (highlighted format edition text.now) output.new) }
+    ensures text { without_marks (document_parts edition text.now) ≡ text.now }
+    ensures page { unescaped (untagged (highlighted Format.Html edition text.now)) ≡ text.now }
+{
+    let tokens = tokenize_document(text, edition);
+    let mut start = text.len() - tokens.as_str().len();
+    write_start(format, &text[..start], output)?;
+    for token in tokens {
+        let end = start + token.len as usize;
+        write_token(format, edition, token.kind, &text[start..end], output)?;
+        start = end;
+    }
+    Ok(())
+}
+
+/// Writes the text before the first token: a byte order mark, and a shebang line as a comment.
+#[tactic(auto, using(crate::proofs::HighlightedLemmas::writes_start))]
+fn write_start<W: fmt::Write>(format: Format, start: &str, output: &mut W) -> fmt::Result
+    ensures { OnOk result (WritesInCalls W.write_str_gives output.old
+        (with_marks format (start_parts start.now)) output.new) }
+{
+    let mark = byte_order_mark_len(start);
+    write_in_class(format, Class::Plain, &start[..mark], output)?;
+    write_in_class(format, Class::Comment, &start[mark..], output)
+}
+
+/// Writes the first `count` tokens of a text in an edition, each between its marks, or all tokens if it has fewer.
+/// The text is a part of a document: no frontmatter is allowed in front, and a shebang line is read as tokens.
+///
+/// So the visible part of a long text can be written without the rest.
+pub fn write_first_tokens<W: fmt::Write>(
+    format: Format,
+    edition: Edition,
+    count: usize,
+    text: &str,
+    output: &mut W,
+) -> fmt::Result
+    requires fits { Fits text.now }
+    ensures { OnOk result (WritesInCalls W.write_str_gives output.old
+        (marked_tokens format edition text.now
+        (take count (tokens_of (part edition) text.now))) output.new) }
+{
+    let mut tokens = tokenize_in(text, edition);
+    let mut start = 0;
+    let mut left = count;
+    while left > 0 {
+        let Some(token) = tokens.next() else {
+            break;
+        };
+        let end = start + token.len as usize;
+        write_token(format, edition, token.kind, &text[start..end], output)?;
+        start = end;
+        left -= 1;
+    }
+    Ok(())
+}
+
+/// Writes a token between its marks. If the token has an error, its first line is also between the marks of the
+/// error. In a literal without an error of its own, each escape and each stretch that is wrong has marks around it.
+fn write_token<W: fmt::Write>(
+    format: Format,
+    edition: Edition,
+    kind: TokenKind,
+    text: &str,
+    output: &mut W,
+) -> fmt::Result
+    requires fits { Fits text.now }
+    ensures { OnOk result (WritesInCalls W.write_str_gives output.old
+        (with_marks format (token_parts edition kind text.now)) output.new) }
+{
+    let class = class_of(kind, text, edition);
+    if let Some(error) = token_error(kind, text) {
+        return write_with_error(format, error, class, text, output);
+    }
+    match mode_of(kind) {
+        None => write_in_class(format, class, text, output),
+        Some(mode) => write_literal(format, mode, text, output),
+    }
+}

@@ -1,0 +1,79 @@
+//! Writes a part of a text between the marks of its class and of its error.
+ghost use Rattle.std.specs.Prelude.{◌≡◌, ◌∷◌, [], OnOk};
+ghost use Rattle.std.specs.Fmt.{WritesInCalls};
+ghost use Rattle.std.specs.Str.{IsCharBoundary};
+ghost use Rattle.rustc_lexer_highlight.specs.Part.{Own, error_parts, first_line, shown, with_marks};
+
+use crate::class::Class;
+use crate::errors::TokenError;
+use crate::escape::write_escaped;
+use crate::format::{Format, class_close, class_open, close_error, open_error};
+use crate::screen::write_seen;
+use memchr::memchr2;
+use std::fmt;
+
+/// Writes a part with an error: its first line between the marks of the error, and all of it between those of its
+/// class.
+#[tactic(auto, using(crate::proofs::PartLemmas::writes_error, std::proofs::lemmas::Result::on_ok_weaker, std::proofs::lemmas::Grind::common_steps))]
+pub fn write_with_error<W: fmt::Write>(
+    format: Format,
+    error: TokenError,
+    class: Class,
+    text: &str,
+    output: &mut W,
+) -> fmt::Result
+    ensures { OnOk result (WritesInCalls W.write_str_gives output.old
+        (with_marks format (error_parts error class text.now)) output.new) }
+{
+    let end = first_line(text);
+    open_error(format, error, output)?;
+    write_in_class(format, class, &text[..end], output)?;
+    close_error(format, error, output)?;
+    write_in_class(format, class, &text[end..], output)
+}
+
+/// Returns how many bytes come before the first newline or carriage return.
+#[tactic(auto, using(crate::proofs::PlaceLemmas::first_found, crate::proofs::PlaceLemmas::first_none))]
+fn first_line(text: &str) -> usize
+    ensures value { result ≡ first_line text.now }
+    ensures bounded { IsCharBoundary text.now result }
+{
+    memchr2(b'\n', b'\r', text.as_bytes()).unwrap_or(text.len())
+}
+
+/// Writes a part of the text between the marks of its class. Writes nothing if the part is empty.
+#[tactic(auto, using(crate::proofs::CallLemmas::on_ok, crate::proofs::PartLemmas::writes_in_class, std::proofs::lemmas::Grind::common_steps))]
+pub fn write_in_class<W: fmt::Write>(
+    format: Format,
+    class: Class,
+    text: &str,
+    output: &mut W,
+) -> fmt::Result
+    ensures { OnOk result (WritesInCalls W.write_str_gives output.old
+        (with_marks format (Own class text.now ∷ [])) output.new) }
+{
+    if text.is_empty() {
+        return Ok(());
+    }
+    output.write_str(class_open(format, class))?;
+    write_shown(format, class, text, output)?;
+    output.write_str(class_close(format, class))
+}
+
+/// Writes a part of the text: in a page with entities, elsewhere with symbols for control characters or raw.
+#[tactic(auto, using(crate::proofs::CallLemmas::tried_call))]
+fn write_shown<W: fmt::Write>(
+    format: Format,
+    class: Class,
+    text: &str,
+    output: &mut W,
+) -> fmt::Result
+    ensures { OnOk result
+        (WritesInCalls W.write_str_gives output.old (shown format class text.now) output.new) }
+{
+    match format {
+        Format::Html => write_escaped(text, output),
+        Format::Colours | Format::NoColours => write_seen(class, text, output),
+        Format::Raw => output.write_str(text),
+    }
+}

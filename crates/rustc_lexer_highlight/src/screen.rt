@@ -1,0 +1,103 @@
+//! Writes a text for a terminal, which would obey its control characters.
+ghost use Rattle.std.specs.Prelude.{◌≡◌, ◌∷◌, ◌++◌, ◌<◌, [], true, false, length, MatchOption, OnOk};
+ghost use Rattle.std.specs.Char.{encode_utf8};
+ghost use Rattle.std.specs.Fmt.{WritesInCalls};
+ghost use Rattle.std.specs.List.{list_all, list_any};
+ghost use Rattle.std.specs.Str.{IsUtf8, chars, encode_utf8_all};
+ghost use Rattle.memchr.specs.Find.{IsFirstByte};
+ghost use Rattle.rustc_lexer_highlight.specs.Screen.{at_line_end, is_replaceable, is_shown, may_begin_replaceable, seen, seen_char, symbol};
+
+use crate::class::Class;
+use std::fmt;
+
+/// Writes a text of a class with symbols for its control characters, except tabs and line ends.
+#[tactic(auto, using(crate::proofs::ScreenLemmas::all_shown, crate::proofs::ScreenLemmas::writes_irreplaceable, std::proofs::lemmas::Grind::common_steps))]
+pub fn write_seen<W: fmt::Write>(class: Class, text: &str, output: &mut W) -> fmt::Result
+    ensures written { OnOk result (WritesInCalls W.write_str_gives output.old
+        (encode_utf8_all (seen class (chars text.now))) output.new) }
+    ensures quiet { list_all is_shown (seen class (chars text.now)) ≡ true }
+{
+    let mut rest = text;
+    while let Some((front, c, past)) = split_replaceable(rest) {
+        output.write_str(front)?;
+        output.write_char(seen_char(class, c, past))?;
+        rest = past;
+    }
+    output.write_str(rest)
+}
+
+/// Returns the first character that may be a control character other than a tab and a newline, between the text before
+/// it and the text after it. Returns `None` if there is no such character.
+#[inline(always)]
+#[tactic(auto, using(crate::proofs::ScreenLemmas::may_cut, crate::proofs::ScreenLemmas::none_replaceable, std::proofs::lemmas::Grind::common_steps))]
+fn split_replaceable(text: &str) -> Option<(&str, char, &str)>
+    ensures { MatchOption result (list_any is_replaceable (chars text.now) ≡ false)
+        (λ r. (list_any is_replaceable (chars r.0.now) ≡ false)
+        × (chars text.now ≡ chars r.0.now ++ (r.1 ∷ chars r.2.now))
+        × (length r.2.now < length text.now) × IsUtf8 r.0.now × IsUtf8 r.2.now) }
+{
+    let at = first_replaceable(text.as_bytes())?;
+    let (c, past) = split_first(&text[at..])?;
+    Some((&text[..at], c, past))
+}
+
+/// Returns the offset of the first byte that may begin a control character other than a tab and a newline.
+fn first_replaceable(text: &[u8]) -> Option<usize>
+    ensures { IsFirstByte may_begin_replaceable text.now result }
+{
+    text.iter().position(|byte| may_begin_replaceable(*byte))
+}
+
+/// Returns whether a byte may begin a control character other than a tab and a newline.
+#[tactic(auto, using(crate::proofs::ScreenLemmas::byte_tests, std::proofs::lemmas::Grind::common_steps))]
+fn may_begin_replaceable(byte: u8) -> bool
+    ensures { result ≡ may_begin_replaceable byte }
+{
+    // The first test decides for most bytes.
+    (byte < b' ' || byte > b'~') && matches!(byte, 0..=8 | 11..=31 | 127 | 0xC2)
+}
+
+/// Returns the first character and the text after it, or `None` if the text is empty.
+#[tactic(auto, using(crate::proofs::ScreenLemmas::first_lemmas, std::proofs::lemmas::Grind::common_steps))]
+pub fn split_first(rest: &str) -> Option<(char, &str)>
+    ensures { MatchOption result (chars rest.now ≡ [])
+        (λ r. (chars rest.now ≡ r.0 ∷ chars r.1.now) × (rest.now ≡ encode_utf8 r.0 ++ r.1.now)
+        × (length r.1.now < length rest.now)) }
+{
+    let mut chars = rest.chars();
+    let first = chars.next()?;
+    Some((first, chars.as_str()))
+}
+
+/// Returns a character as it is written if `rest` follows it in its fragment: itself or a symbol.
+fn seen_char(class: Class, c: char, rest: &str) -> char
+    ensures { result ≡ seen_char class c (chars rest.now) }
+{
+    match c {
+        '\t' | '\n' => c,
+        '\r' if at_line_end(class, rest) => c,
+        _ if c.is_control() => symbol(c),
+        _ => c,
+    }
+}
+
+/// Returns whether a line ends before the rest of a fragment.
+fn at_line_end(class: Class, rest: &str) -> bool
+    ensures { result ≡ at_line_end class (chars rest.now) }
+{
+    match split_first(rest) {
+        Some((c, _)) => c == '\n',
+        None => matches!(class, Class::Comment | Class::Doc),
+    }
+}
+
+/// Returns the symbol of a control character.
+fn symbol(c: char) -> char
+    ensures { result ≡ symbol c }
+{
+    match c as u32 {
+        code if code < 32 => char::from_u32(0x2400 + code).unwrap_or(c),
+        127 => '\u{2421}',
+        _ => '\u{fffd}',
+    }
+}

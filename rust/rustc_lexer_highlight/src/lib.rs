@@ -1,0 +1,178 @@
+//! Writes Rust source with its tokens highlighted: with HTML tags, with terminal colours, or only with messages about
+//! malformed tokens.
+//!
+//! ```
+//! use rustc_lexer_highlight::{Edition, Format, write_highlighted};
+//!
+//! let mut page = String::new();
+//! write_highlighted(Format::Html, Edition::E2024, "let x = 'a", &mut page).unwrap();
+//! assert_eq!(
+//!     page,
+//!     "<span class=\"keyword\">let</span> x = \
+//!      <span class=\"lifetime\">'a</span>"
+//! );
+//! ```
+//!
+//! To display tokens in another way, call [`class_of`], [`token_error`], [`keyword_kind`] and [`literal_contents`] for
+//! each token.
+//!
+//! The crate does not allocate and does not need `std`.
+//!
+//! The modules in `generated` are generated from a verified source in Rattle, which is Rust with contracts, by deleting
+//! the contracts. The rest is hand-written. `docs/GENERATED.md` in the repository lists the guarantees and the trusted
+//! computing base.
+
+#![no_std]
+#![deny(missing_docs)]
+#![warn(
+    clippy::missing_errors_doc,
+    clippy::missing_panics_doc,
+    clippy::must_use_candidate
+)]
+#![forbid(unsafe_code)]
+
+/// The proved source without its contracts, generated from `crates/rustc_lexer_highlight`.
+///
+/// Only for packages that are generated in the same way, like `highlight` and the C library: these functions do not
+/// check their preconditions, and those callers are proved to meet them. The functions can change with the source.
+/// Other callers use the functions at the crate's root.
+// Only contracts use some of its imports and variables.
+#[allow(missing_docs, unused_imports, unused_variables, dead_code)]
+// The prover needs a `while let` for a loop over the rest of an iterator, and two comparisons for a range.
+#[allow(clippy::manual_range_contains, clippy::while_let_on_iterator)]
+#[allow(
+    clippy::missing_errors_doc,
+    clippy::missing_panics_doc,
+    clippy::must_use_candidate
+)]
+#[doc(hidden)]
+pub mod generated;
+
+#[doc(inline)]
+pub use generated::{
+    Class, EscapeErrorsInFile, Format, KeywordKind, TokenError, class_of, keyword_kind,
+    literal_contents,
+};
+pub use rustc_lexer::Edition;
+
+use core::fmt;
+use rustc_lexer::TokenKind;
+
+/// Returns the text, or panics if it is too long.
+#[track_caller]
+fn fitting(text: &str) -> &str {
+    assert!(
+        rustc_lexer::fits(text),
+        "the text has more than u32::MAX bytes"
+    );
+    text
+}
+
+/// Returns the error of a token with this kind and text, or `None` if it has none.
+///
+/// If a token has two errors, one of them is returned. Errors at the end of a frontmatter depend on its text only, so
+/// the kind alone does not show whether a token is valid.
+///
+/// # Examples
+///
+/// ```
+/// use rustc_lexer_highlight::{Edition, TokenError, token_error};
+///
+/// let text = "---\nname\n";
+/// let token = rustc_lexer::tokenize_document(text, Edition::E2024).next().unwrap();
+/// let error = token_error(token.kind, text).unwrap();
+/// assert_eq!(error, TokenError::UnclosedFrontmatter);
+/// assert_eq!(
+///     error.to_string(),
+///     "nothing closes this frontmatter: a line of as many dashes would"
+/// );
+/// ```
+///
+/// # Panics
+///
+/// Panics if the text has more than `u32::MAX` bytes.
+#[must_use]
+#[track_caller]
+pub fn token_error(kind: TokenKind, text: &str) -> Option<TokenError> {
+    generated::token_error(kind, fitting(text))
+}
+
+/// Writes a whole file in an edition, each token between its marks.
+///
+/// A shebang line is highlighted as a comment. The file can start with a frontmatter, and with a byte order mark, which is
+/// written as it is.
+///
+/// In HTML, U+0000 and carriage returns are written as entities. In the other formats except [`Format::Raw`], control
+/// characters other than tabs and line ends are written as symbols like `␛`, since a terminal would obey them.
+///
+/// # Examples
+///
+/// ```
+/// use rustc_lexer_highlight::{Edition, Format, write_highlighted};
+///
+/// let mut page = String::new();
+/// write_highlighted(Format::Html, Edition::E2024, "#!/bin/sh\nfn", &mut page).unwrap();
+/// assert_eq!(
+///     page,
+///     "<span class=\"comment\">#!/bin/sh</span>\n<span class=\"keyword\">fn</span>"
+/// );
+/// ```
+///
+/// # Panics
+///
+/// Panics if the text has more than `u32::MAX` bytes.
+///
+/// # Errors
+///
+/// Returns the error of the output, which then contains a prefix of the highlighted text.
+#[doc(alias = "highlight")]
+#[track_caller]
+pub fn write_highlighted<W: fmt::Write>(
+    format: Format,
+    edition: Edition,
+    text: &str,
+    output: &mut W,
+) -> fmt::Result {
+    generated::write_highlighted(format, edition, fitting(text), output)
+}
+
+/// Writes the first `count` tokens of a text in an edition, or all tokens if it has fewer, each between its marks.
+///
+/// The text is lexed as a fragment of a file: a frontmatter or a shebang line is lexed as other tokens. A token depends
+/// on nothing before it and on at most two characters after it, so this can write the visible fragment of a long text.
+///
+/// # Examples
+///
+/// ```
+/// use rustc_lexer_highlight::{Edition, Format, write_first_tokens};
+///
+/// let mut seen = String::new();
+/// write_first_tokens(Format::Html, Edition::E2024, 2, "a < b", &mut seen).unwrap();
+/// assert_eq!(seen, "a ");
+/// write_first_tokens(Format::Html, Edition::E2024, 9, "< b", &mut seen).unwrap();
+/// assert_eq!(seen, "a &lt; b");
+/// ```
+///
+/// # Panics
+///
+/// Panics if the text has more than `u32::MAX` bytes.
+///
+/// # Errors
+///
+/// Returns the error of the output, which then contains a prefix of the highlighted text.
+#[doc(alias = "highlight")]
+#[track_caller]
+pub fn write_first_tokens<W: fmt::Write>(
+    format: Format,
+    edition: Edition,
+    count: usize,
+    text: &str,
+    output: &mut W,
+) -> fmt::Result {
+    generated::write_first_tokens(format, edition, count, fitting(text), output)
+}
+
+// The program of the README.
+#[cfg(doctest)]
+#[doc = include_str!("../README.md")]
+mod readme {}

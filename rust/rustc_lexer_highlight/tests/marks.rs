@@ -1,0 +1,228 @@
+//! The hand-written calls: their output in each format and edition, and a writer that fails.
+
+use core::fmt;
+use rustc_lexer::{FrontmatterAllowed, tokenize};
+use rustc_lexer_highlight::{
+    Edition, Format, literal_contents, write_first_tokens, write_highlighted,
+};
+use rustc_literal_escaper::Mode;
+
+const NEWEST: Edition = Edition::NEWEST;
+
+/// Returns the output for the first tokens of a text.
+fn first(format: Format, edition: Edition, count: usize, text: &str) -> String {
+    let mut written = String::new();
+    write_first_tokens(format, edition, count, text, &mut written).unwrap();
+    written
+}
+
+/// Returns the output for a whole text.
+fn whole(format: Format, edition: Edition, text: &str) -> String {
+    let mut written = String::new();
+    write_highlighted(format, edition, text, &mut written).unwrap();
+    written
+}
+
+#[test]
+fn formats() {
+    let text = "let \u{b7}";
+    let page = "<span class=\"keyword\">let</span> <mark title=\"no token begins with this character\">\u{b7}</mark>";
+    let colours = "\x1b[35mlet\x1b[0m \x1b[4;31m\u{b7}\x1b[0;31m [<- no token begins with this character]\x1b[0m";
+    let plain = "let \u{b7} [<- no token begins with this character]";
+    for (format, wanted) in [
+        (Format::Html, page),
+        (Format::Colours, colours),
+        (Format::NoColours, plain),
+    ] {
+        assert_eq!(whole(format, NEWEST, text), wanted);
+        assert_eq!(first(format, NEWEST, 3, text), wanted);
+    }
+    let text = "// \x1b";
+    assert_eq!(first(Format::Raw, NEWEST, 1, text), text);
+    assert_eq!(first(Format::NoColours, NEWEST, 1, text), "// \u{241b}");
+}
+
+#[test]
+fn contents_of_literals() {
+    for (text, wanted) in [
+        (r"'a'", Some((Mode::Char, "a"))),
+        (r"b'\''", Some((Mode::Byte, r"\'"))),
+        (r#""""#, Some((Mode::Str, ""))),
+        (r#""\"é"s"#, Some((Mode::Str, r#"\"é"#))),
+        (r#"b"'""#, Some((Mode::ByteStr, "'"))),
+        (r#"c"a""#, Some((Mode::CStr, "a"))),
+        (r##"r#"a"b"#"##, Some((Mode::RawStr, r#"a"b"#))),
+        (r#"br"\""#, Some((Mode::RawByteStr, r"\"))),
+        (r###"cr##""##"###, Some((Mode::RawCStr, ""))),
+        (r#""a"#, None),
+        (r##"r#"a""##, None),
+        ("1", None),
+        ("'a", None),
+        ("a", None),
+    ] {
+        let kind = tokenize(text, FrontmatterAllowed::No).next().unwrap().kind;
+        let found = literal_contents(kind, text).map(|(mode, range)| (mode, &text[range]));
+        assert_eq!(found, wanted, "of {text}");
+    }
+}
+
+/// Ranges are in bytes.
+#[test]
+fn ranges_of_contents() {
+    for (text, wanted) in [
+        ("'a'", 1..2),
+        ("b'a'x", 2..3),
+        ("\"é\"", 1..3),
+        ("b\"\"", 2..2),
+        ("cr##\"a\"#\"##", 5..8),
+        ("br\"a\"", 3..4),
+    ] {
+        let kind = tokenize(text, FrontmatterAllowed::No).next().unwrap().kind;
+        assert_eq!(literal_contents(kind, text).unwrap().1, wanted, "of {text}");
+    }
+}
+
+#[test]
+fn a_fragment_has_no_shebang_line() {
+    let text = "#!/a\nb";
+    let highlighted = "<span class=\"comment\">#!/a</span>\nb";
+    assert_eq!(whole(Format::Html, NEWEST, text), highlighted);
+    for count in [9, usize::MAX] {
+        assert_eq!(first(Format::Html, NEWEST, count, text), text);
+    }
+}
+
+#[test]
+fn the_first_tokens() {
+    for (count, wanted) in [
+        (0, ""),
+        (1, "a"),
+        (2, "a+"),
+        (3, "a+1"),
+        (4, "a+1"),
+        (5, "a+1"),
+        (usize::MAX, "a+1"),
+        #[cfg(target_pointer_width = "64")]
+        (1 << 32, "a+1"),
+    ] {
+        let written = first(Format::NoColours, NEWEST, count, "a+1");
+        assert_eq!(written, wanted, "{count} tokens");
+    }
+    let many = ";".repeat(70_000);
+    for count in [69_999, 70_000, 80_000] {
+        let written = first(Format::NoColours, NEWEST, count, &many);
+        assert!(written == many[..count.min(70_000)], "{count} tokens");
+    }
+    assert!(whole(Format::Html, NEWEST, &many) == many);
+    let mark = "\u{feff} [<- no token begins with this character]";
+    assert_eq!(first(Format::NoColours, NEWEST, 1, "\u{feff}a"), mark);
+}
+
+#[test]
+fn editions() {
+    let lifetime =
+        "<mark title=\"no lifetime has this prefix\"><span class=\"lifetime\">'a</span></mark>#b";
+    assert_eq!(first(Format::Html, Edition::E2021, 3, "'a#b"), lifetime);
+    let older = "<span class=\"lifetime\">'a</span>#b";
+    assert_eq!(first(Format::Html, Edition::E2018, 3, "'a#b"), older);
+    assert_eq!(whole(Format::Html, Edition::E2021, "'a#b"), lifetime);
+    assert_eq!(whole(Format::Html, Edition::E2018, "'a#b"), older);
+    assert_eq!(first(Format::Colours, Edition::E2015, 1, "dyn A"), "dyn");
+    let keyword = "\x1b[35mdyn\x1b[0m";
+    assert_eq!(first(Format::Colours, Edition::E2018, 1, "dyn A"), keyword);
+    for &edition in Edition::ALL {
+        let keyword = "\x1b[35mfn\x1b[0m";
+        assert_eq!(
+            first(Format::Colours, edition, 1, "fn"),
+            keyword,
+            "in {edition}"
+        );
+        assert_eq!(
+            whole(Format::Colours, edition, "fn"),
+            keyword,
+            "in {edition}"
+        );
+    }
+}
+
+/// A carriage return before a newline is part of the line ending.
+#[test]
+fn literals_of_several_lines() {
+    let bare = "[<- a carriage return cannot stand here itself: it is written as \\r]";
+    let raw = "[<- a raw string cannot hold a carriage return]";
+    let lines = "[<- more than one line end is skipped here]";
+    let end = "[<- this character cannot stand here itself: it is written as an escape]";
+    let digit = "[<- this is no hexadecimal digit: \\x takes two of them]";
+    let byte = "[<- this character is not in ASCII, and so is no byte]";
+    for (text, wanted) in [
+        ("\"a\r\nb\"", "\"a\r\nb\"".to_owned()),
+        ("\"a\\\r\n  b\"", "\"a\\\r\n  b\"".to_owned()),
+        ("\"a\\\r\n\r\nb\"", format!("\"a\\ {lines}\r\n\r\nb\"")),
+        ("\"a\r\r\nb\"", format!("\"a {bare}␍\r\nb\"")),
+        ("'\r\n'", format!("' {end}\r\n'")),
+        ("\"\\x\r\n\"", format!("\"\\x {digit}\r\n\"")),
+        ("b\"é\r\n\"", format!("b\"é {byte}\r\n\"")),
+        ("r\"\\\r\n\"", "r\"\\\r\n\"".to_owned()),
+        ("r\"\r\r\n\"", format!("r\" {raw}␍\r\n\"")),
+    ] {
+        assert_eq!(whole(Format::NoColours, NEWEST, text), wanted);
+    }
+    for (text, wanted) in [
+        (
+            "\"a\\\r\n  b\"",
+            "\"a</span><span class=\"escape\">\\&#13;\n  </span>",
+        ),
+        ("'\r\n'", "</mark><span class=\"text\">&#13;\n</span>"),
+        ("\"\\x\r\n\"", "</mark><span class=\"text\">&#13;\n</span>"),
+    ] {
+        let highlighted = whole(Format::Html, NEWEST, text);
+        assert!(highlighted.contains(wanted), "{highlighted}");
+    }
+}
+
+/// Only a whole text can start with a frontmatter: in a fragment its dashes are symbols.
+#[test]
+fn only_a_document_has_a_frontmatter() {
+    let text = "---\na\n---\nfn";
+    let highlighted = whole(Format::Html, NEWEST, text);
+    let (front, rest) = highlighted.split_once(">---\na\n---</span>\n").unwrap();
+    assert!(front.starts_with("<span") && rest.starts_with("<span"));
+    assert_eq!(first(Format::Html, NEWEST, 3, text), "---");
+}
+
+/// A writer that fails after this many calls.
+struct Few(usize);
+
+impl fmt::Write for Few {
+    fn write_str(&mut self, _: &str) -> fmt::Result {
+        self.0 = self.0.checked_sub(1).ok_or(fmt::Error)?;
+        Ok(())
+    }
+}
+
+#[test]
+fn errors_of_the_writer() {
+    let takes = |calls, count| {
+        write_first_tokens(Format::Html, NEWEST, count, "a+1", &mut Few(calls)).is_ok()
+    };
+    assert!(takes(0, 0) && !takes(0, 1) && takes(3, 1) && !takes(3, 2));
+    let highlighted =
+        |calls, text| write_highlighted(Format::Html, NEWEST, text, &mut Few(calls)).is_ok();
+    assert!(
+        highlighted(0, "")
+            && !highlighted(0, "a+1")
+            && !highlighted(3, "a+1")
+            && highlighted(99, "a+1")
+    );
+    assert!(
+        !highlighted(0, "#!/a") && highlighted(99, "#!/a"),
+        "a shebang line"
+    );
+}
+
+/// A format can be a key of a map.
+#[test]
+fn a_format_is_a_key() {
+    fn is_key<T: Copy + Eq + std::hash::Hash>() {}
+    is_key::<Format>();
+}
