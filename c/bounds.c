@@ -1,5 +1,5 @@
-/* Breaks two rules of the header, with a library that has debug assertions: an impossible length is shortened, and a
- * null pointer with length 1 panics, which aborts. */
+/* Violates two preconditions of the header, with a library that has debug assertions. An impossible length is
+ * shortened, and a null pointer with length 1 panics, which aborts. */
 #include <stdio.h>
 
 #include "rustc_lexer.h"

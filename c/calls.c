@@ -1,6 +1,6 @@
-/* Tests edge cases of the library: texts that are not UTF-8, empty texts, null pointers, buffers for no or one token, a
- * batch that ends before a frontmatter, invalid positions; the numbers of kinds and the bytes of structs; units of
- * literals; highlighting. Prints the first failed check and exits with 1. */
+/* Tests edge cases of the library: texts that are not UTF-8, empty texts, null pointers, buffers for zero tokens or
+ * one, a batch that ends before a frontmatter, and invalid positions. Also tests the numbers of kinds, the bytes of
+ * structs, the units of literals, and highlighting. Prints the first failed check and exits with 1. */
 #include "checks.h"
 
 static void check_bad_texts(void) {
@@ -93,7 +93,7 @@ static void check_null(void) {
     CHECK(!rustc_lexer_is_ident_unchecked(NULL, 0));
 }
 
-/* The bytes of structs, all of which are written. */
+/* Every byte of a struct is written. */
 static void check_records(void) {
     static const struct {
         const char *text;
@@ -181,8 +181,8 @@ static void check_places(batch_call *tokens) {
     CHECK(call(tokens, text, 3, &last, BUFFER_LEN, &count) == RUSTC_LEXER_BAD_PLACE);
 }
 
-/* A frontmatter, a prefix and a raw lifetime that are reserved since 2021, and two hashes that are reserved since
- * 2024. A call that fails changes nothing, and BAD_PLACE comes before BAD_EDITION. */
+/* Lexes a frontmatter, a prefix and a raw lifetime that are reserved since 2021, and two hashes that are reserved since
+ * 2024. A call that fails changes nothing, and BAD_PLACE has priority over BAD_EDITION. */
 static void check_editions(void) {
     static const struct {
         uint32_t edition;
@@ -218,19 +218,19 @@ static void check_editions(void) {
     }
 }
 
-/* The token of each byte of a text that starts at byte 10 of a file, searched from each token boundary; numbers that
- * are not a boundary; and a text at the maximum offset. */
+/* Searches the token of each byte of a text that starts at byte 10 of a file, from each token boundary. Also searches
+ * from numbers that are not a boundary, and in a text at the maximum offset. */
 static void check_offsets(void) {
     static const size_t starts[] = {10, 12, 13, 14, 15, 18}, count = 5;
-    static const size_t numbers[] = {0, 0, 1, 2, 3, 4, 4, 4};
+    static const size_t indices[] = {0, 0, 1, 2, 3, 4, 4, 4};
     static const size_t outside[] = {0, 9, 18, 19, SIZE_MAX};
-    size_t number = 0, start = SIZE_MAX - 1;
+    size_t index = 0, start = SIZE_MAX - 1;
     CHECK(is_lexed(rustc_lexer_tokens, "ab + c\xc3\xa9", 8, 0, count));
     for (size_t near = 0; near <= count; near++) {
         for (size_t at = 0; at < 8; at++) {
             size_t here = near, from = starts[near];
             CHECK(rustc_lexer_token_start_at(whole, count, 10 + at, &here, &from));
-            CHECK(here == numbers[at] && from == starts[here]);
+            CHECK(here == indices[at] && from == starts[here]);
         }
         for (size_t i = 0; i < sizeof outside / sizeof outside[0]; i++) {
             size_t here = near, from = starts[near];
@@ -238,14 +238,14 @@ static void check_offsets(void) {
             CHECK(here == near && from == starts[near]);
         }
     }
-    CHECK(rustc_lexer_token_start_at(whole, count, SIZE_MAX, &number, &start) && number == 0 && start == SIZE_MAX - 1);
+    CHECK(rustc_lexer_token_start_at(whole, count, SIZE_MAX, &index, &start) && index == 0 && start == SIZE_MAX - 1);
     for (size_t wrong = 0; wrong < 40; wrong++) {
         size_t here = wrong % 8 == 7 ? SIZE_MAX : wrong % 8, from = SIZE_MAX / 4 * (wrong / 8);
         bool is = rustc_lexer_token_start_at(whole, count, 12, &here, &from);
         CHECK(is ? here < count && from <= 12 : here == (wrong % 8 == 7 ? SIZE_MAX : wrong % 8));
     }
-    number = start = 0;
-    CHECK(!rustc_lexer_token_start_at(NULL, 0, 0, &number, &start) && number == 0 && start == 0);
+    index = start = 0;
+    CHECK(!rustc_lexer_token_start_at(NULL, 0, 0, &index, &start) && index == 0 && start == 0);
 }
 
 static void check_others(void) {
@@ -281,15 +281,17 @@ static void check_others(void) {
         const char *text;
         size_t at;
         uint32_t edition, is;
-    } seams[] = {{"a+b", 1, 2024, 1}, {"ab", 1, 2024, 0}, {"0..2", 1, 2021, 1}, {"0..2", 2, 2021, 0},
+    } cases[] = {{"a+b", 1, 2024, 1}, {"ab", 1, 2024, 0}, {"0..2", 1, 2021, 1}, {"0..2", 2, 2021, 0},
                  {"z\"a\"", 1, 2018, 1}, {"z\"a\"", 1, 2021, 0}, {"k#a", 2, 2015, 0}, {"// a\nb", 4, 2015, 1}};
-    for (size_t i = 0; i < sizeof seams / sizeof seams[0]; i++) {
-        const uint8_t *text = (const uint8_t *)seams[i].text;
-        CHECK(rustc_lexer_is_token_boundary(text, strlen(seams[i].text), seams[i].at, seams[i].edition, &is) == RUSTC_LEXER_OK);
-        CHECK(is == seams[i].is);
+    for (size_t i = 0; i < sizeof cases / sizeof cases[0]; i++) {
+        const uint8_t *text = (const uint8_t *)cases[i].text;
+        CHECK(rustc_lexer_is_token_boundary(text, strlen(cases[i].text), cases[i].at, cases[i].edition, &is) ==
+              RUSTC_LEXER_OK);
+        CHECK(is == cases[i].is);
     }
     is = 9;
-    CHECK(rustc_lexer_is_token_boundary((const uint8_t *)"\xc3\xa9", 2, 1, 2024, &is) == RUSTC_LEXER_BAD_PLACE && is == 0);
+    CHECK(rustc_lexer_is_token_boundary((const uint8_t *)"\xc3\xa9", 2, 1, 2024, &is) == RUSTC_LEXER_BAD_PLACE &&
+          is == 0);
     is = 9;
     CHECK(rustc_lexer_is_token_boundary((const uint8_t *)"ab", 2, 3, 2024, &is) == RUSTC_LEXER_BAD_PLACE && is == 0);
     is = 9;
@@ -329,8 +331,8 @@ static void check_literals(batch_call *tokens) {
 }
 
 /* Returns whether a token of `whole` has these bytes after its kind. */
-static bool has_fields(size_t number, const uint8_t fields[3]) {
-    return memcmp((const unsigned char *)&whole[number] + 1, fields, 3) == 0;
+static bool has_fields(size_t index, const uint8_t fields[3]) {
+    return memcmp((const unsigned char *)&whole[index] + 1, fields, 3) == 0;
 }
 
 /* Tokens with fields among tokens without fields. */
@@ -349,7 +351,7 @@ static bool is_unit(struct rustc_lexer_unit unit, size_t start, size_t end, uint
     return unit.start == start && unit.end == end && unit.kind == kind && unit.value == value;
 }
 
-/* A skipped line end with two warnings, and the units after it. */
+/* An escaped newline with two warnings, and the units after it. */
 static const uint8_t warned[] = "\\\n\n\xc2\xa0x";
 
 static void check_units(unescape_call *unescape) {
@@ -418,7 +420,8 @@ static bool is_marked_as(const char *text, uint32_t format, uint32_t edition, si
     uint8_t bytes[200];
     size_t written = 99, len = strlen(wanted);
     memset(bytes, 0xAA, sizeof bytes);
-    if (rustc_lexer_write_highlighted((const uint8_t *)text, strlen(text), format, edition, count, bytes, len, &written) !=
+    if (rustc_lexer_write_highlighted((const uint8_t *)text, strlen(text), format, edition, count, bytes, len,
+                                      &written) !=
         RUSTC_LEXER_OK)
         return false;
     return written == len && memcmp(bytes, wanted, len) == 0 && bytes[len] == 0xAA;
@@ -442,12 +445,14 @@ static void check_marks(void) {
     memset(bytes, 0xAA, sizeof bytes);
     CHECK(rustc_lexer_write_highlighted(text, 2, 1, 2024, 9, bytes, 5, &written) == RUSTC_LEXER_OK && written == 5);
     CHECK(memcmp(bytes, "a&lt;\xaa\xaa\xaa", 8) == 0);
-    /* one byte too small: nothing is written past the buffer */
+    /* one byte too small: nothing is written after the buffer */
     memset(bytes, 0xAA, sizeof bytes);
-    CHECK(rustc_lexer_write_highlighted(text, 2, 1, 2024, 9, bytes, 4, &written) == RUSTC_LEXER_SMALL_BUFFER && written == 0);
+    CHECK(rustc_lexer_write_highlighted(text, 2, 1, 2024, 9, bytes, 4, &written) == RUSTC_LEXER_SMALL_BUFFER &&
+          written == 0);
     CHECK(memcmp(bytes + 4, "\xaa\xaa\xaa\xaa", 4) == 0);
     written = 99;
-    CHECK(rustc_lexer_write_highlighted(text, 2, 1, 2024, 9, NULL, 0, &written) == RUSTC_LEXER_SMALL_BUFFER && written == 0);
+    CHECK(rustc_lexer_write_highlighted(text, 2, 1, 2024, 9, NULL, 0, &written) == RUSTC_LEXER_SMALL_BUFFER &&
+          written == 0);
     CHECK(rustc_lexer_write_highlighted(NULL, 0, 1, 2024, 9, NULL, 0, &written) == RUSTC_LEXER_OK && written == 0);
 
     /* errors, in their order; the buffer is unchanged */
@@ -464,13 +469,13 @@ static void check_marks(void) {
     for (size_t i = 0; i < sizeof invalid / sizeof invalid[0]; i++) {
         written = 99;
         memset(bytes, 0xAA, sizeof bytes);
-        CHECK(rustc_lexer_write_highlighted((const uint8_t *)invalid[i].text, 1, invalid[i].format, invalid[i].edition, 1, bytes, 8,
-                                &written) == invalid[i].status);
+        CHECK(rustc_lexer_write_highlighted((const uint8_t *)invalid[i].text, 1, invalid[i].format, invalid[i].edition,
+                                            1, bytes, 8, &written) == invalid[i].status);
         CHECK(written == 0 && memcmp(bytes, "\xaa\xaa\xaa\xaa\xaa\xaa\xaa\xaa", 8) == 0);
     }
 }
 
-/* If several statuses apply, the first of these is returned, as the header says. */
+/* The header guarantees that, if several statuses apply, the first of these is returned. */
 static const uint32_t order[] = {
     RUSTC_LEXER_TOO_LONG,     RUSTC_LEXER_NOT_UTF8,    RUSTC_LEXER_BAD_PLACE,
     RUSTC_LEXER_NOT_RAW,      RUSTC_LEXER_BAD_MODE,    RUSTC_LEXER_BAD_EDITION,
@@ -484,7 +489,7 @@ static bool is_before(uint32_t one, uint32_t other) {
     return order[at] == one;
 }
 
-/* Checks that a call to which two statuses apply returned this one. */
+/* If two statuses apply to a call, it returns the one with priority. */
 static void check_order(void) {
     const uint8_t *bad = (const uint8_t *)"\xff", *good = (const uint8_t *)"a";
     struct rustc_lexer_place past = {9, 0};
@@ -513,17 +518,22 @@ static void check_order(void) {
         {rustc_lexer_relex(good, 1, NULL, 0, &edit, 0, &begin, buffer, 1, &count), RUSTC_LEXER_BAD_EDITION,
          RUSTC_LEXER_BAD_EDIT},
         {rustc_lexer_body_edit(bad, 1, &edit, &head, &made, &is), RUSTC_LEXER_NOT_UTF8, RUSTC_LEXER_BAD_EDIT},
-        {rustc_lexer_write_highlighted(bad, 1, 1, 0, 1, NULL, 0, &count), RUSTC_LEXER_NOT_UTF8, RUSTC_LEXER_BAD_EDITION},
-        {rustc_lexer_write_highlighted(bad, 1, 0, 2024, 1, NULL, 0, &count), RUSTC_LEXER_NOT_UTF8, RUSTC_LEXER_BAD_FORMAT},
-        {rustc_lexer_write_highlighted(good, 1, 0, 0, 1, bytes, 8, &count), RUSTC_LEXER_BAD_EDITION, RUSTC_LEXER_BAD_FORMAT},
-        {rustc_lexer_write_highlighted(good, 1, 1, 0, 1, NULL, 0, &count), RUSTC_LEXER_BAD_EDITION, RUSTC_LEXER_SMALL_BUFFER},
-        {rustc_lexer_write_highlighted(good, 1, 0, 2024, 1, NULL, 0, &count), RUSTC_LEXER_BAD_FORMAT, RUSTC_LEXER_SMALL_BUFFER},
+        {rustc_lexer_write_highlighted(bad, 1, 1, 0, 1, NULL, 0, &count), RUSTC_LEXER_NOT_UTF8,
+         RUSTC_LEXER_BAD_EDITION},
+        {rustc_lexer_write_highlighted(bad, 1, 0, 2024, 1, NULL, 0, &count), RUSTC_LEXER_NOT_UTF8,
+         RUSTC_LEXER_BAD_FORMAT},
+        {rustc_lexer_write_highlighted(good, 1, 0, 0, 1, bytes, 8, &count), RUSTC_LEXER_BAD_EDITION,
+         RUSTC_LEXER_BAD_FORMAT},
+        {rustc_lexer_write_highlighted(good, 1, 1, 0, 1, NULL, 0, &count), RUSTC_LEXER_BAD_EDITION,
+         RUSTC_LEXER_SMALL_BUFFER},
+        {rustc_lexer_write_highlighted(good, 1, 0, 2024, 1, NULL, 0, &count), RUSTC_LEXER_BAD_FORMAT,
+         RUSTC_LEXER_SMALL_BUFFER},
     };
     for (size_t i = 0; i < sizeof rows / sizeof rows[0]; i++)
         CHECK(rows[i][0] == rows[i][is_before(rows[i][1], rows[i][2]) ? 1 : 2]);
 }
 
-/* Large buffers: if a length were truncated, the calls would report a small buffer, or that nothing follows. */
+/* The length of large buffers. If it were truncated, calls would return SMALL_BUFFER, or find no more tokens. */
 #define MANY 70000
 
 static uint8_t many[MANY + 1];
@@ -538,12 +548,13 @@ static void check_many(batch_call *tokens, unescape_call *unescape) {
     CHECK(tokens(many, MANY, &place, many_tokens, MANY, &count) == RUSTC_LEXER_OK && count == MANY);
     for (size_t i = 0; i < MANY; i++)
         CHECK(many_tokens[i].kind == RUSTC_LEXER_SEMI && many_tokens[i].len == 1);
-    CHECK(rustc_lexer_write_highlighted(many, MANY, RUSTC_LEXER_FORMAT_HTML, 2024, MANY, bytes, MANY, &count) == RUSTC_LEXER_OK);
+    CHECK(rustc_lexer_write_highlighted(many, MANY, RUSTC_LEXER_FORMAT_HTML, 2024, MANY, bytes, MANY, &count) ==
+          RUSTC_LEXER_OK);
     CHECK(count == MANY && memcmp(bytes, many, MANY) == 0);
     CHECK(unescape(many, MANY, RUSTC_LEXER_STR, 0, many_units, MANY, &count) == RUSTC_LEXER_OK && count == MANY);
     CHECK(is_unit(many_units[MANY - 1], MANY - 1, MANY, RUSTC_LEXER_UNIT_CHAR, ';'));
 
-    /* a byte at the end, which keeps all tokens except those next to it; and a full re-lex */
+    /* a byte appended at the end, which keeps all tokens except the last ones; and a full re-lex */
     struct rustc_lexer_edit edit = {MANY, MANY, MANY + 1}, all = {0, 0, MANY};
     struct rustc_lexer_relexing relexing = {0};
     many[MANY] = 0xff;
@@ -561,7 +572,7 @@ static void check_many(batch_call *tokens, unescape_call *unescape) {
     CHECK(count == MANY && many_units[MANY - 1].end == MANY);
 }
 
-/* The class and the error of the first token of a text, and its length. */
+/* Checks the class, the error and the length of the first token of a text. */
 static void check_token(const char *text, size_t len, uint32_t class_wanted, uint32_t error_wanted) {
     const uint8_t *bytes = (const uint8_t *)text;
     struct rustc_lexer_token token = rustc_lexer_first_token_unchecked(bytes, strlen(text), 1);

@@ -1,5 +1,5 @@
-/* Compares relexed texts and documents with a full re-lex: edits at the ends, invalid edits, editions, and random
- * edits; spliced lists. Prints the first failed check and exits with 1. */
+/* Compares relexed texts and documents with a full re-lex, for edits at the ends, in all editions, and random edits.
+ * Also tests invalid edits and spliced lists. Prints the first failed check and exits with 1. */
 #include "checks.h"
 
 typedef uint32_t relex_call(const uint8_t *, size_t, const struct rustc_lexer_token *, size_t,
@@ -82,8 +82,8 @@ static void check_edits(relex_call *relex) {
     }
 }
 
-/* Inserts 300 symbols between two, with buffers of several sizes. Tokens less than two characters before them are lexed
- * again. A call after the last token writes none. */
+/* Inserts 300 symbols between two others, with buffers of several sizes. Tokens that end less than two characters
+ * before them are lexed again. A call after the last token writes nothing. */
 static void check_long_edit(relex_call *relex) {
     static const size_t lens[] = {40, 64, 300, 301, 400};
     static const struct rustc_lexer_edit edit = {1, 1, 301};
@@ -130,10 +130,10 @@ static void check_editions(relex_call *relex) {
     CHECK(held.relexing.stage == RUSTC_LEXER_STAGE_BEGIN && held.relexing.at == 0);
 }
 
-/* Edits that cannot have resulted in a text of five bytes, of which the second and third are one character. */
+/* Edits that cannot have resulted in a text of five bytes whose second and third byte are one character. */
 static const struct rustc_lexer_edit bad[] = {{3, 2, 3}, {3, 3, 1}, {2, 3, 3}, {1, 1, 2}, {0, 0, 6}, {9, 9, 9}};
 
-/* Impossible edits, numbers that no call wrote, and old tokens of no text. */
+/* Tests impossible edits, numbers that no call wrote, and old tokens that no text has. */
 static void check_bad_edits(relex_call *relex) {
     static const uint8_t text[] = "a\xc3\xa9 b";
     static const uint32_t lens[] = {0, 1, 2, 3, 5, 0x7fffffff, UINT32_MAX};
@@ -160,9 +160,9 @@ static void check_bad_edits(relex_call *relex) {
         CHECK(count == 3 && begun.lexed == 3 && begun.at == 5 && begun.stage == RUSTC_LEXER_STAGE_DONE);
     }
     for (size_t i = 0; i < 7 * 7 * 7 * 7; i++) {
-        size_t number = i;
-        for (size_t k = 0; k < 4; k++, number /= 7)
-            old[k].len = lens[number % 7];
+        size_t digits = i;
+        for (size_t k = 0; k < 4; k++, digits /= 7)
+            old[k].len = lens[digits % 7];
         for (size_t near = 0; near < 8; near++) {
             struct rustc_lexer_relexing relexing = {near, near * near * near * 1000003, 0, 0, 0, 0, 0};
             size_t calls = 0;
@@ -175,8 +175,8 @@ static void check_bad_edits(relex_call *relex) {
     }
 }
 
-/* Lists of tokens of 1, 2, .. bytes in a buffer for eight, into which tokens of 11, 12, .. bytes are spliced: more, as
- * many and fewer than are removed, until the buffer is full. A call that fails changes nothing. */
+/* Splices tokens of 11, 12, .. bytes into lists of tokens of 1, 2, .. bytes, in a buffer for eight tokens: more than
+ * are removed, equally many and fewer, until the buffer is full. A call that fails changes nothing. */
 static void check_splices(void) {
     static const struct {
         size_t count, front, back, lexed;
@@ -261,8 +261,9 @@ static size_t characters(const char *text, size_t start, size_t stop) {
     return count;
 }
 
-/* Returns whether the counts of an edit are those of docs/RELEXING.md: old tokens that end two characters before the
- * edit are kept, and lexing ends at the first old token boundary after the edit at which a new token ends. */
+/* Returns whether an edit has the counts that docs/RELEXING.md defines. Old tokens that end at least two characters
+ * before the edit are kept, and lexing ends at the first old token boundary after the edit at which a new token ends.
+ * */
 static bool has_counts(const struct held *old, const struct held *held, size_t start, size_t stop, size_t inserted) {
     size_t before[MOST + 1], now[MOST + 1], front = 0;
     fill_bounds(old, before);
@@ -270,14 +271,14 @@ static bool has_counts(const struct held *old, const struct held *held, size_t s
     while (front < old->count && before[front + 1] <= start && characters(old->text, before[front + 1], start) >= 2)
         front++;
     for (size_t met = front; met <= held->count; met++)
-        for (size_t number = 0; now[met] >= start + inserted && number <= old->count; number++)
-            if (before[number] + inserted == now[met] + stop - start)
+        for (size_t index = 0; now[met] >= start + inserted && index <= old->count; index++)
+            if (before[index] + inserted == now[met] + stop - start)
                 return held->relexing.kept_front == front && held->relexing.lexed == met - front &&
-                       held->relexing.kept_back == old->count - number;
+                       held->relexing.kept_back == old->count - index;
     return false;
 }
 
-/* 10,000 edits of one text, each compared with a full re-lex. */
+/* Applies 10,000 edits to a text, and compares each result with a full re-lex. */
 static void check_random_edits(relex_call *relex, uint32_t edition) {
     static const char *const bits[] = {
         "a",    "r",  "br", "c",  "1",   "0x", "e",  ".",      "_",   " ",   "\n",       "\xc3\xa9",
@@ -361,7 +362,8 @@ static void edit_document(body_edit_call *body_edit, struct document *document, 
     CHECK(is_document(document));
 }
 
-/* A head that is kept, a head that an edit after it changes, and a shebang line that a `[` after it removes. */
+/* Tests a head that is kept, a head that changes by an edit after it, and a shebang line that turns into an attribute
+ * because of a `[` after it. */
 static void check_heads(body_edit_call *body_edit) {
     static struct document document;
     memset(&document, 0, sizeof document);
@@ -377,7 +379,7 @@ static void check_heads(body_edit_call *body_edit) {
     edit_document(body_edit, &document, 0, document.len, "#!\na = b");
     edit_document(body_edit, &document, 3, 3, "[");
     CHECK(document.head.tokens_start == 0 && document.head.body == 0 && document.head_kept == 0);
-    /* a byte order mark before a shebang line and a frontmatter, and before neither */
+    /* a byte order mark, with and without a shebang line and a frontmatter after it */
     edit_document(body_edit, &document, 0, document.len, "\xef\xbb\xbf#!/bin/sh\n---\n---\nb - c");
     CHECK(document.head.tokens_start == 12 && document.head.count == 2 && document.head.body == 20);
     edit_document(body_edit, &document, 23, 24, "+");
@@ -400,7 +402,7 @@ static void check_bad_heads(body_edit_call *body_edit) {
         CHECK(memcmp(&head, &before, sizeof head) == 0);
         CHECK(made.start == 10 && made.old_end == 11 && made.new_end == 12);
     }
-    /* the call accepts any head, and rustc_lexer_relex accepts its edit of the body */
+    /* any head is accepted, and rustc_lexer_relex accepts the resulting edit of the body */
     for (size_t i = 0; i < 10000; i++) {
         struct rustc_lexer_head head;
         struct rustc_lexer_edit edit = {(uint32_t)below(&random, 2), (uint32_t)below(&random, 9), 4}, made;
@@ -418,7 +420,7 @@ static void check_bad_heads(body_edit_call *body_edit) {
     }
 }
 
-/* 10,000 edits of a document, each compared with a full re-lex. */
+/* Applies 10,000 edits to a document, and compares each result with a full re-lex. */
 static void check_random_documents(body_edit_call *body_edit) {
     static const char *const bits[] = {
         "#!", "[", "/", "-", "--", "---", "\n---\n", "\n", " ", "cargo", "use ", "//!", "#![", "\"", "\xc3\xa9", "/*",

@@ -30,7 +30,7 @@ int main(void) {
         CHECK(is_up_to_date(&held));
     }
 
-    /* a text of MOST bytes fits, and a longer one does not: if an edit replaces the whole text, and in the middle */
+    /* a text of MOST bytes fits, a longer one does not; the edit replaces the whole text, or is in the middle */
     static char symbols[MOST + 2];
     for (size_t i = 0; i <= MOST; i++)
         symbols[i] = ";,:"[i % 3];

@@ -1,13 +1,13 @@
-/* Prints the tokens of a text from standard input as lexdump does: a line for each token, with its start, length,
- * kind and fields. With `listing front`, the text can start with a frontmatter. `listing shebang` prints the length
- * of the shebang line. */
+/* Prints the tokens of a text from standard input like lexdump: a line for each token, with its start, length, kind and
+ * fields. With `listing front`, the text can start with a frontmatter. `listing shebang` prints the length of the
+ * shebang line. */
 #include <stdio.h>
 #include <stdlib.h>
 #include <string.h>
 
 #include "rustc_lexer.h"
 
-/* The number of tokens that one call can write; tests override it. */
+/* The number of tokens per call; tests override it. */
 #ifndef BUFFER_LEN
 #define BUFFER_LEN 1024
 #endif
@@ -122,7 +122,7 @@ static uint32_t print_shebang(const uint8_t *text, size_t len) {
     return status;
 }
 
-/* The exit statuses are those of lexdump. */
+/* The exit statuses are the same as for lexdump. */
 int main(int count, char **words) {
     const char *job = count == 2 ? words[1] : "";
     bool shebang = strcmp(job, "shebang") == 0, front = strcmp(job, "front") == 0;

@@ -4,7 +4,7 @@
  *
  *     odd_places ROUNDS FILE..
  *
- * Each round uses random parts of the files. */
+ * Each round uses random fragments of the files. */
 #define _DEFAULT_SOURCE
 #include <sys/mman.h>
 #include <unistd.h>
@@ -110,12 +110,12 @@ static void lex(batch_call *tokens, const uint8_t *text, size_t len, uint32_t al
 /* Checks the token at an offset: it starts at or before the byte, and ends after it. */
 static void find_token(const struct rustc_lexer_token *tokens, size_t count, size_t len, enum placement placement) {
     size_t none = 0, found, from, offset = below(len + 2);
-    struct block number = copy_of(&none, sizeof none, placement), start = copy_of(&none, sizeof none, placement);
-    CHECK(rustc_lexer_token_start_at(tokens, count, offset, number.bytes, start.bytes) == (offset < len));
-    memcpy(&found, number.bytes, sizeof found);
+    struct block index = copy_of(&none, sizeof none, placement), start = copy_of(&none, sizeof none, placement);
+    CHECK(rustc_lexer_token_start_at(tokens, count, offset, index.bytes, start.bytes) == (offset < len));
+    memcpy(&found, index.bytes, sizeof found);
     memcpy(&from, start.bytes, sizeof from);
     CHECK(offset < len ? found < count && from <= offset && offset - from < tokens[found].len : found == 0);
-    release(number);
+    release(index);
     release(start);
 }
 
@@ -205,7 +205,7 @@ static uint32_t call_all(const uint8_t *text, size_t len, enum placement placeme
     return status;
 }
 
-/* The value and the errors of a literal of each kind: small buffers have the same contents as a large one. */
+/* Writes the value and the errors of a literal of each kind. Small buffers get the same units as a large one. */
 static void check_literal(const uint8_t *text, size_t len, enum placement placement) {
     static struct rustc_lexer_unit whole[MOST];
     struct block count = block_of(sizeof(size_t), placement);
@@ -230,7 +230,7 @@ static void check_literal(const uint8_t *text, size_t len, enum placement placem
     release(count);
 }
 
-/* A literal of random fragments. */
+/* Checks a literal that is joined from random fragments. */
 static void check_parts(void) {
     static const char *const parts[] = {
         "\\n", "\\0", "\\'", "\\q", "\\", "\\x41", "\\xff", "\\xg", "\\x4", "\\u{1F600}", "\\u{41}", "\\u{0}",
@@ -252,7 +252,7 @@ static void check_parts(void) {
     }
 }
 
-/* The class and the error of the first token of a text, and of a token with random fields. */
+/* Checks the class and the error of the first token of a text, and of a token with random fields. */
 static void check_classes(const uint8_t *text, size_t len, enum placement placement) {
     struct block token = block_of(sizeof(struct rustc_lexer_token), placement);
     struct block number = block_of(sizeof(uint32_t), placement);
@@ -285,8 +285,8 @@ static void check_marks(const uint8_t *text, size_t len, enum placement placemen
     release(count);
 }
 
-/* A text of 2 to the power of 32 bytes and one more, which the system maps without touching them: it is too long,
- * and its length is not truncated. */
+/* Maps 2 to the power of 32 bytes and one more, without touching them. The text is too long, and its length is not
+ * truncated. */
 static void check_too_long(void) {
 #if SIZE_MAX > UINT32_MAX
     size_t len = (size_t)UINT32_MAX + 2;
@@ -307,7 +307,7 @@ static void check_too_long(void) {
 #endif
 }
 
-/* All functions on a text. */
+/* Calls all functions with a text. */
 static void check_text(const uint8_t *bytes, size_t len) {
     static const size_t buffers[] = {1, 2, 3, 5, 8, 31, MOST};
     batch_call *const calls[] = {rustc_lexer_tokens, rustc_lexer_tokens_unchecked, tokens_in_newest,
@@ -339,7 +339,7 @@ static size_t boundary(const uint8_t *bytes, size_t len, size_t at) {
     return at;
 }
 
-/* A random edit: if the result is valid, the relexed tokens equal a full re-lex. */
+/* Applies a random edit. If the result is valid, the relexed tokens equal a full re-lex. */
 static void check_edit(const uint8_t *bytes, size_t len, const uint8_t *insert, size_t insert_len) {
     static struct list list, whole;
     uint8_t after[2 * MOST];

@@ -1,5 +1,5 @@
 /* A lexer for Rust: the interface of the static and shared library rustc_lexer_c. The library is generated from a
- * proved source; its README says what is claimed. Rattle, which proves the source, can also build it for x86-64
+ * proved source; its README describes what is proved. Rattle, which proves the source, can also build it for x86-64
  * Linux, with the same functions and results.
  *
  * A text is passed as a pointer to its bytes and a length. It needs no terminating zero, and can contain zeros. No
@@ -9,8 +9,9 @@
  *   - No pointer is null, unless its length is 0.
  *   - `text` points to `len` readable bytes, which nothing writes during the call.
  *   - Each pointer that is not const points to memory that is writable, aligned for its type, and not used by
- *     anything else during the call: `buffer` to `buffer_len` tokens, units or bytes, the others to one value. The
- *     memory can be uninitialized, except for `place`, `head` and `relexing`, and where a comment says so.
+ *     anything else during the call: `buffer` to `buffer_len` tokens, units or bytes, and any other pointer to one
+ *     value. The memory can be uninitialized, except for `place`, `head` and `relexing`, and for values that a comment
+ *     requires before the call.
  *   - `old` points to `old_len` tokens, `tokens` to `tokens_len` and `lexed` to `lexed_len`; `edit` and `token` point
  *     to one value. These pointers are aligned for their types, and nothing writes the values during the call.
  *   - For functions with `_unchecked` in their name: the text is UTF-8.
@@ -35,14 +36,14 @@ extern "C" {
  * BAD_EDITION, BAD_EDIT, BAD_FORMAT, SMALL_BUFFER. */
 enum {
     RUSTC_LEXER_OK = 0,
-    RUSTC_LEXER_NOT_UTF8 = 1,  /* the text is not UTF-8 */
-    RUSTC_LEXER_TOO_LONG = 2,  /* the text is longer than 4294967295 bytes */
-    RUSTC_LEXER_BAD_PLACE = 3, /* the position is past the end of the text, or inside a character */
-    RUSTC_LEXER_NOT_RAW = 4,   /* character number prefix_len of the text, counted from 1, is not an r */
+    RUSTC_LEXER_NOT_UTF8 = 1,    /* the text is not UTF-8 */
+    RUSTC_LEXER_TOO_LONG = 2,    /* the text is longer than 4294967295 bytes */
+    RUSTC_LEXER_BAD_PLACE = 3,   /* the position is after the end of the text, or inside a character */
+    RUSTC_LEXER_NOT_RAW = 4,     /* character number prefix_len of the text, counted from 1, is not an r */
     RUSTC_LEXER_BAD_EDITION = 5, /* no edition of Rust has this year */
-    RUSTC_LEXER_BAD_EDIT = 6,  /* the edit cannot have resulted in the text, or relexing cannot continue */
-    RUSTC_LEXER_BAD_MODE = 7,  /* the mode is not one of RUSTC_LEXER_CHAR to RUSTC_LEXER_RAW_C_STR */
-    RUSTC_LEXER_BAD_FORMAT = 8, /* the format is not one of RUSTC_LEXER_FORMAT_.. */
+    RUSTC_LEXER_BAD_EDIT = 6,    /* the edit cannot have resulted in the text, or relexing cannot continue */
+    RUSTC_LEXER_BAD_MODE = 7,    /* the mode is not one of RUSTC_LEXER_CHAR to RUSTC_LEXER_RAW_C_STR */
+    RUSTC_LEXER_BAD_FORMAT = 8,  /* the format is not one of RUSTC_LEXER_FORMAT_.. */
     RUSTC_LEXER_SMALL_BUFFER = 9 /* the buffer is too small for the output */
 };
 
@@ -166,8 +167,8 @@ struct rustc_lexer_place {
     uint32_t frontmatter_allowed; /* whether a frontmatter is allowed there: 0 for no, any other number for yes */
 };
 
-/* An applied edit, as offsets in bytes. It replaced the bytes from `start` up to `old_end` of the old text with those
- * from `start` up to `new_end` of the current text. */
+/* An applied edit, as offsets in bytes. It replaced the bytes from `start` up to `old_end` of the old text with the
+ * bytes from `start` up to `new_end` of the current text. */
 struct rustc_lexer_edit {
     uint32_t start;
     uint32_t old_end;
@@ -194,7 +195,7 @@ enum {
 struct rustc_lexer_relexing {
     size_t kept_front;   /* the number of old tokens kept at the front; for STAGE_BEGIN see rustc_lexer_relex */
     size_t front_offset; /* the offset at which they end */
-    size_t lexed;        /* the number of tokens that all calls have written */
+    size_t lexed;        /* the number of tokens that all calls together have written */
     size_t kept_back;    /* at STAGE_DONE: the number of old tokens kept at the back */
     size_t back_offset;  /* at STAGE_DONE: the offset in the old text at which they start */
     size_t at;           /* the offset in the current text at which the written tokens end; at STAGE_DONE the tokens
@@ -274,15 +275,15 @@ struct rustc_lexer_unit {
 
 /* Classes of tokens, for syntax highlighting. */
 enum {
-    RUSTC_LEXER_CLASS_PLAIN = 1, /* whitespace, a symbol, or a name of no other class */
-    RUSTC_LEXER_CLASS_COMMENT = 2, /* a comment that is not a doc comment */
-    RUSTC_LEXER_CLASS_DOC = 3, /* a doc comment, or a frontmatter */
-    RUSTC_LEXER_CLASS_KEYWORD = 4, /* a strict keyword of the edition */
+    RUSTC_LEXER_CLASS_PLAIN = 1,     /* whitespace, a symbol, or a name of no other class */
+    RUSTC_LEXER_CLASS_COMMENT = 2,   /* a comment that is not a doc comment */
+    RUSTC_LEXER_CLASS_DOC = 3,       /* a doc comment, or a frontmatter */
+    RUSTC_LEXER_CLASS_KEYWORD = 4,   /* a strict keyword of the edition */
     RUSTC_LEXER_CLASS_TYPE_NAME = 5, /* a name that starts with an ASCII capital letter */
-    RUSTC_LEXER_CLASS_TEXT = 6, /* a string, a character or a byte */
-    RUSTC_LEXER_CLASS_ESCAPE = 7, /* an escape in one of these; no token has this class */
-    RUSTC_LEXER_CLASS_NUMBER = 8, /* a number */
-    RUSTC_LEXER_CLASS_LIFETIME = 9 /* a lifetime or a label */
+    RUSTC_LEXER_CLASS_TEXT = 6,      /* a string, a character or a byte */
+    RUSTC_LEXER_CLASS_ESCAPE = 7,    /* an escape in a string, a character or a byte; no token has this class */
+    RUSTC_LEXER_CLASS_NUMBER = 8,    /* a number */
+    RUSTC_LEXER_CLASS_LIFETIME = 9   /* a lifetime or a label */
 };
 
 /* Errors of tokens. */
@@ -318,18 +319,18 @@ enum {
     RUSTC_LEXER_TOKEN_ERROR_BARE_CARRIAGE_RETURN_IN_FRONTMATTER = 29, /* bare CR in a frontmatter */
     RUSTC_LEXER_TOKEN_ERROR_TOO_MANY_DASHES = 30, /* a frontmatter has more than 255 dashes on each side */
     RUSTC_LEXER_TOKEN_ERROR_TEXT_DIRECTION_CODEPOINT = 31 /* a comment or a literal contains a character that
-                                                           changes the text direction */
+                                                             changes the text direction */
 };
 
-/* Formats of marks. */
+/* Formats of highlighted text. */
 enum {
     RUSTC_LEXER_FORMAT_HTML = 1,      /* HTML tags, and entities in the text */
     RUSTC_LEXER_FORMAT_COLOURS = 2,   /* escape sequences of terminals; control characters are shown as symbols */
     RUSTC_LEXER_FORMAT_NO_COLOURS = 3 /* only error messages, and these symbols */
 };
 
-/* Returns RUSTC_LEXER_OK if the text is UTF-8 and has at most 4294967295 bytes, otherwise RUSTC_LEXER_TOO_LONG or
- * RUSTC_LEXER_NOT_UTF8, as other functions do for this text. */
+/* Returns RUSTC_LEXER_OK if the text is UTF-8 and has at most 4294967295 bytes. Otherwise it returns
+ * RUSTC_LEXER_TOO_LONG or RUSTC_LEXER_NOT_UTF8, like any other function with this text. */
 uint32_t rustc_lexer_check(const uint8_t *text, size_t len);
 
 /* Writes the tokens from a position on, as many as fit into the buffer, and their number into `count`. Moves the
@@ -342,12 +343,12 @@ uint32_t rustc_lexer_check(const uint8_t *text, size_t len);
 uint32_t rustc_lexer_tokens(const uint8_t *text, size_t len, struct rustc_lexer_place *place,
                             struct rustc_lexer_token *buffer, size_t buffer_len, size_t *count);
 
-/* Does what rustc_lexer_tokens does, without checking that the text is UTF-8. If it is not, the behaviour is
- * undefined; rustc_lexer_check checks it. The length and the position are checked.
+/* Like rustc_lexer_tokens, but does not check that the text is UTF-8. If it is not, the behaviour is undefined;
+ * rustc_lexer_check checks it. The length and the position are checked.
  *
- * This holds for every function with `_unchecked` in its name. If there is a function without that word, both return
- * the same, except that rustc_lexer_is_ident_unchecked returns the result directly. Their time depends on the bytes
- * that they read, not on the length of the text. */
+ * This holds for every function with `_unchecked` in its name. If there is a function without that suffix, both return
+ * the same, except that rustc_lexer_is_ident_unchecked returns the result directly. The time of an unchecked function
+ * depends on the bytes that it reads, not on the length of the text. */
 uint32_t rustc_lexer_tokens_unchecked(const uint8_t *text, size_t len, struct rustc_lexer_place *place,
                                       struct rustc_lexer_token *buffer, size_t buffer_len, size_t *count);
 
@@ -384,14 +385,14 @@ struct rustc_lexer_token rustc_lexer_first_token_unchecked(const uint8_t *text, 
  * edition, or if the two numbers at _BEGIN are not a token boundary, the result has no meaning. The call is still
  * safe: it stays in bounds, it terminates, and `kept_front` and `kept_back` together are at most `old_len`.
  *
- * The edition is a year, as in rustc_lexer_tokens_in. No frontmatter is allowed: the tokens are those that
- * rustc_lexer_tokens_in writes from {0, 0}.
+ * The edition is a year, as in rustc_lexer_tokens_in. No frontmatter is allowed: the tokens of a text are the tokens
+ * that rustc_lexer_tokens_in writes from {0, 0}.
  *
  * If the status is not 0, `buffer` and `relexing` are unchanged, and `count` is 0. RUSTC_LEXER_BAD_EDIT means one of
  * these:
  *   - `start` is greater than `old_end` or `new_end`;
- *   - `start` or `new_end` is past the end of the text or inside a character;
- *   - at a later stage, `at` is past the end of the text or inside a character, `lexed` is greater than `at`,
+ *   - `start` or `new_end` is after the end of the text or inside a character;
+ *   - at a later stage, `at` is after the end of the text or inside a character, `lexed` is greater than `at`,
  *     `kept_front` and `kept_back` together are greater than `old_len`, or `back_offset` is 2 to the power of 63 or
  *     more.
  * Numbers that a call wrote for this text are never rejected. A stage greater than _DONE counts as _MORE.
@@ -402,8 +403,8 @@ uint32_t rustc_lexer_relex(const uint8_t *text, size_t len, const struct rustc_l
                            struct rustc_lexer_relexing *relexing, struct rustc_lexer_token *buffer, size_t buffer_len,
                            size_t *count);
 
-/* Does what rustc_lexer_relex does, without checking that the text is UTF-8. A text stays UTF-8 if an edit replaces
- * whole characters with UTF-8. */
+/* Like rustc_lexer_relex, but does not check that the text is UTF-8. A text stays UTF-8 if an edit replaces whole
+ * characters with UTF-8. */
 uint32_t rustc_lexer_relex_unchecked(const uint8_t *text, size_t len, const struct rustc_lexer_token *old,
                                      size_t old_len, const struct rustc_lexer_edit *edit, uint32_t edition,
                                      struct rustc_lexer_relexing *relexing, struct rustc_lexer_token *buffer,
@@ -424,11 +425,11 @@ uint32_t rustc_lexer_splice(struct rustc_lexer_token *buffer, size_t buffer_len,
  * of the body, into `body_edit`, and 1 into `head_kept` if all tokens of the head are kept, otherwise 0. The tokens
  * of the document are
  *
- *     the `count` tokens of `head`, and those of the body, which is `text` from byte `body` on.
+ *     the `count` tokens of `head`, and the tokens of the body, which is `text` from byte `body` on.
  *
- * Update the tokens of the body with rustc_lexer_relex: pass the new body as the text, `body_edit`, and all old
- * tokens except those of the old head. `head_kept` is 1 if the edit is after the head, and the shebang line and the
- * tokens of the head are unchanged. Otherwise no token is kept at the front of the body, and `kept_front` is 0.
+ * Update the tokens of the body with rustc_lexer_relex: pass the new body as the text, `body_edit`, and the old tokens
+ * of the body. `head_kept` is 1 if the edit is after the head, and the shebang line and the tokens of the head are
+ * unchanged. Otherwise no token is kept at the front of the body, and `kept_front` is 0.
  *
  * If `head` is not the head of the text before the edit, the result has no meaning, but the call is safe. To lex a
  * whole document, pass zeros and the edit {0, 0, len}.
@@ -450,16 +451,16 @@ uint32_t rustc_lexer_body_edit_unchecked(const uint8_t *text, size_t len, const 
 uint32_t rustc_lexer_strip_shebang(const uint8_t *text, size_t len, size_t *line_len);
 uint32_t rustc_lexer_strip_shebang_unchecked(const uint8_t *text, size_t len, size_t *line_len);
 
-/* Writes the byte offset up to which the tokens are final, whatever is appended to the text: the end of the last token
- * that at least two characters follow, or 0 if there is none. No frontmatter is allowed.
+/* Writes the byte offset up to which the tokens are final, whatever is appended to the text. It is the end of the last
+ * token that is followed by at least two characters, or 0 if there is none. No frontmatter is allowed.
  *
  * Each call lexes the text from its start. While a long text arrives, pass only the text after the offset of the
  * previous call, without an incomplete character at its end. */
 uint32_t rustc_lexer_settled(const uint8_t *text, size_t len, size_t *end);
 uint32_t rustc_lexer_settled_unchecked(const uint8_t *text, size_t len, size_t *end);
 
-/* Finds the token that contains the byte at `offset` in a list of adjacent tokens. Writes its index into `number`,
- * and the offset at which it starts into `start`. Returns whether there is such a token. If there is none, both are
+/* Finds the token that contains the byte at `offset` in a list of adjacent tokens. Writes its index into `index`, and
+ * the offset at which it starts into `start`. Returns whether there is such a token. If there is none, both are
  * unchanged.
  *
  * Before the call, both are the index and the offset of a token boundary, at which the search starts: 0 and the start
@@ -469,13 +470,13 @@ uint32_t rustc_lexer_settled_unchecked(const uint8_t *text, size_t len, size_t *
  * Only the lengths of `tokens` are read. If the two numbers are not a token boundary, the result has no meaning, but
  * the call is safe. */
 bool rustc_lexer_token_start_at(const struct rustc_lexer_token *tokens, size_t tokens_len, size_t offset,
-                                size_t *number, size_t *start);
+                                size_t *index, size_t *start);
 
-/* Writes 1 if the tokens of the text are those of the text before byte `at`, followed by those of the text after it,
+/* Writes 1 if the text has the tokens of the part before byte `at`, followed by the tokens of the part after it,
  * otherwise 0. A program that prints tokens can use this to decide whether it must print a space between two tokens.
  * The edition is a year, as in rustc_lexer_tokens_in. No frontmatter is allowed.
  *
- * The text before `at` can be shortened at its start: it can start at the end of any token that is followed by at
+ * The part before `at` can be shortened at its start: it can start at the end of any token that is followed by at
  * least two characters of this part. For example, its last two tokens are enough. */
 uint32_t rustc_lexer_is_token_boundary(const uint8_t *text, size_t len, size_t at, uint32_t edition, uint32_t *is);
 
@@ -516,25 +517,26 @@ uint32_t rustc_lexer_unescape_unchecked(const uint8_t *text, size_t len, uint32_
                                         struct rustc_lexer_unit *buffer, size_t buffer_len, size_t *count);
 
 /* Writes the errors and warnings of a literal, in order, as many as fit into the buffer, and their number into
- * `count`. Skips the first `passed`. The arguments are those of rustc_lexer_unescape, which is much slower. CR LF is
- * one newline. Between single quotes there is at most one error, whose range starts at 0 and ends after the character
- * that causes it. If the status is not 0, `buffer` is unchanged, and `count` is 0. */
+ * `count`. Skips the first `passed`. The arguments are the same as for rustc_lexer_unescape, which is much slower.
+ * CR LF is one newline. Between single quotes there is at most one error, whose range starts at 0 and ends after the
+ * character that causes it. If the status is not 0, `buffer` is unchanged, and `count` is 0. */
 uint32_t rustc_lexer_literal_errors(const uint8_t *text, size_t len, uint32_t mode, size_t passed,
                                     struct rustc_lexer_unit *buffer, size_t buffer_len, size_t *count);
 uint32_t rustc_lexer_literal_errors_unchecked(const uint8_t *text, size_t len, uint32_t mode, size_t passed,
                                               struct rustc_lexer_unit *buffer, size_t buffer_len, size_t *count);
 
-/* Writes the class of a token, RUSTC_LEXER_CLASS_.., into `number`. The text is that of the token. The edition is a
+/* Writes the class of a token, RUSTC_LEXER_CLASS_.., into `number`. `text` is the text of the token. The edition is a
  * year, as in rustc_lexer_tokens_in. */
 uint32_t rustc_lexer_class(const uint8_t *text, size_t len, const struct rustc_lexer_token *token, uint32_t edition,
                            uint32_t *number);
 
-/* Writes the error of a token, RUSTC_LEXER_TOKEN_ERROR_.., into `number`, or 0 if there is none. The text is that of the
- * token. For errors between the quotes of a terminated literal, call rustc_lexer_literal_errors.
+/* Writes the error of a token, RUSTC_LEXER_TOKEN_ERROR_.., into `number`, or 0 if there is none. `text` is the text of
+ * the token. For errors between the quotes of a terminated literal, call rustc_lexer_literal_errors.
  *
  * CR LF is a newline. So is a CR that ends a doc comment or a closing fence at the end of a text, which rustc
  * rejects. For '\ before CR LF, the error is an unterminated character, where rustc reports an unknown escape. */
-uint32_t rustc_lexer_token_error(const uint8_t *text, size_t len, const struct rustc_lexer_token *token, uint32_t *number);
+uint32_t rustc_lexer_token_error(const uint8_t *text, size_t len, const struct rustc_lexer_token *token,
+                                 uint32_t *number);
 
 /* Writes the first `count` tokens of the text, or all if it has fewer, with highlighting into the buffer, and the
  * number of bytes into `written`. The highlighting shows the class of each token, a message if it is malformed, and
@@ -546,9 +548,9 @@ uint32_t rustc_lexer_token_error(const uint8_t *text, size_t len, const struct r
  * of a text, from the start of a token to two characters after the last visible token.
  *
  * If the status is RUSTC_LEXER_SMALL_BUFFER, the contents of the buffer are unspecified: call again with a larger
- * one. If it is any other status except 0, the buffer is unchanged. In both cases `written` is 0. */
+ * one. With any other status except 0 the buffer is unchanged. In both cases `written` is 0. */
 uint32_t rustc_lexer_write_highlighted(const uint8_t *text, size_t len, uint32_t format, uint32_t edition, size_t count,
-                           uint8_t *buffer, size_t buffer_len, size_t *written);
+                                       uint8_t *buffer, size_t buffer_len, size_t *written);
 
 /* Writes 1 if the text is an identifier, otherwise 0. */
 uint32_t rustc_lexer_is_ident(const uint8_t *text, size_t len, uint32_t *is);

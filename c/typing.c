@@ -1,10 +1,10 @@
-/* Updates the tokens of a document: applies one edit, and prints the tokens that were lexed again. */
+/* Updates the tokens of a document: applies an edit, and prints the new tokens. */
 #include <stdio.h>
 #include <string.h>
 
 #include "rustc_lexer.h"
 
-/* The maximum length of the text, and so of its tokens. */
+/* The maximum length of the text in bytes, and so the maximum number of tokens. */
 #define MOST 1000
 
 struct held {
@@ -16,7 +16,7 @@ struct held {
     struct rustc_lexer_relexing relexing;
 };
 
-/* Replaces the bytes from `start` up to `stop` by `insert`, in the text and then in the tokens. */
+/* Replaces the bytes from `start` up to `stop` with `insert`, and updates the tokens. */
 static uint32_t edit_held(struct held *held, uint32_t start, uint32_t stop, const char *insert) {
     struct rustc_lexer_edit edit = {start, stop, start + (uint32_t)strlen(insert)}, body_edit;
     if (held->len - stop + edit.new_end > MOST)

@@ -192,7 +192,7 @@ const checks = {
       pieceOf({ start, end }),
       ...groups.map((group) => group.map((token) => `${token.words[0]} ${pieceOf(token)}`).join('\n')),
     ]);
-    wantedRows.unshift(['Place', 'Text', ...years.map(String)]);
+    wantedRows.unshift(['Position', 'Text', ...years.map(String)]);
     wantedRows.concat(rows).forEach((_, number) => {
       const [row, wantedRow] = [rows[number], wantedRows[number]].map((cells) => JSON.stringify(cells));
       expect(row === wantedRow, `row ${number} of the differences is ${row}, not ${wantedRow}`);

@@ -1,7 +1,7 @@
 """Parses the heads of functions and blocks, and the exports of a library, in the proved sources.
 
-`tests/proof/specification` and `tools/promises` use it to find the public functions. A head in an unknown form raises `Unread`,
-so no function is overlooked.
+`tests/proof/specification` and `tools/promises` use it to find the public functions. A head in an unknown form raises
+`Unread`, so no function is overlooked.
 """
 import re
 

@@ -1,4 +1,4 @@
-//! The name that a program asks the shared library by: it has the number of the interface.
+//! Sets the name of the shared library that programs refer to, which contains the ABI number.
 
 fn main() {
     println!("cargo::rerun-if-changed=../../c/rustc_lexer.h");

@@ -10,7 +10,7 @@ use anyhow::{Result, bail};
 use rustc_lexer::{FrontmatterAllowed, fits, tokenize};
 use std::io::Read;
 
-/// How many tokens a file has.
+/// Returns the number of tokens of a file.
 fn count_tokens(text: &str) -> usize
     requires fits { Fits text.now }
     ensures { result ≡ length (tokens_of (source newest) text.now) }

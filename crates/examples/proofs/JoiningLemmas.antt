@@ -1,4 +1,4 @@
--- The tokens of the text that pieces make.
+-- The tokens of a text that is joined from pieces.
 use Rattle.std.proofs.Common.{◌≡◌, List, [], ◌∷◌, ◌++◌, subst, sym}
 use Rattle.rustc_lexer.specs.{Answers.{first_in}, Classes.{Utf8}}
 use Rattle.rustc_lexer.specs.Joined as step

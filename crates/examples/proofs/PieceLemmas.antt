@@ -1,17 +1,17 @@
--- How the pieces of a text are written, one after another.
+-- Lemmas about writing pieces, one after another.
 use Rattle.std.proofs.{lemmas.Grind.{common_steps}, Common.{◌≡◌, List, ◌∷◌, ◌++◌, ℕ, ap, arith}}
 use Rattle.std.specs.Fmt.{WritesInCalls}
 use Rattle.rustc_lexer.specs.LexedText.{Placed}
 use Rattle.examples.specs.Repaint.{close_style, open_style, styled}
 
 module _ {W : Type 0} (took : W → List ℕ → W → Type 0) where
-  -- one more call before the others
+  -- A call, followed by the calls that write the rest, writes both.
   writes_then : (w v u : W) (bs rest : List ℕ) → took w bs v → WritesInCalls took v rest u
       → WritesInCalls took w (bs ++ rest) u
   writes_then w v u bs rest call others =
       record { parts = bs ∷ others.parts; calls = (v, call, others.calls); whole = ap (λ xs. bs ++ xs) others.whole }
 
-  -- a piece in its style, and then those that are left
+  -- Writing a piece in its style, and then the remaining pieces, writes all of them.
   pub writes_piece : (w0 w1 w2 w3 w : W) (left others : List Placed) (piece : Placed) (before text after : List ℕ)
       → left ≡ piece ∷ others → before ≡ open_style piece.token.kind → text ≡ piece.text
       → after ≡ close_style piece.token.kind

@@ -1,10 +1,10 @@
--- What is shown of a text after an edit.
+-- The shown pieces of a text after an edit.
 use Rattle.std.proofs.Common.{◌≡◌, ℕ, zero, suc, ◌+◌, ◌-◌, ◌<◌, ◌≤◌, true, List, [], ◌∷◌, ◌++◌, length, map, take, drop}
 use Rattle.std.proofs.Common.{refl, sym, ap, subst, ◌∙◌, arith, drop-drop, take-take, take-append-drop, length-take-le}
 use Rattle.std.proofs.Common.{IsUtf8, Result, Ok, Err, IfOk, OnOk}
 use Rattle.std.proofs.lemmas.{Grind.{common_steps}, List.{drop-take}}
 use Rattle.rustc_lexer.specs.declared.{relex.relexing.{Change.{Change}, Relexed.{Relexed}}, token.Token.{Token}}
-use Rattle.rustc_lexer.specs.{Tokens.{bound, tokens_by}, Edits.{IsEdit, IsMeeting, IsRelexed, apply, part_by}}
+use Rattle.rustc_lexer.specs.{Tokens.{bound, tokens_by}, Edits.{IsEdit, IsMeeting, IsRelexed, apply, fragment_by}}
 use Rattle.rustc_lexer.specs.{LexedText.{Placed, pieces_from}, Relexing.{IsEditOf}, model.Relexing.{kept_front}}
 use Rattle.rustc_lexer.specs.{Locality.{has_two, IsGrammar}, Classes.{IsText}}
 use Rattle.rustc_lexer.proofs.lemmas.edits.FrontAndBack.{edited, has_two-before, bound-take, met_rest, same_rest}
@@ -14,7 +14,7 @@ use Rattle.examples.specs.Repaint.{changed, moved, shown_after}
 
 -- ---- the pieces of two texts
 
--- pieces are those of the text up to a place that they do not pass
+-- Pieces that end before an offset are the same in the text up to that offset.
 pieces-within : (text : List ℕ) (whole start : ℕ) (ts : List Token) → start + bound ts (length ts) ≤ whole
     → pieces_from (take whole text) start ts ≡ pieces_from text start ts
 pieces-within text whole start [] few = refl
@@ -24,7 +24,7 @@ pieces-within text whole start (t ∷ ts) few =
     ∙ (ap (drop start) (take-take (start + t.len) whole text (omega arith)) ∙ drop-take start t.len text) in
     rw (own, pieces-within text whole (start + t.len) ts (omega arith)) refl
 
--- the pieces of a rest that stands at another place
+-- If the rest of a text moves to another offset, its pieces move with it.
 pieces-moved : (added removed : ℕ) (text other : List ℕ) (from to : ℕ) (ts : List Token)
     → drop from text ≡ drop to other → to ≡ from + added - removed → removed ≤ from + added
     → pieces_from other to ts ≡ map (moved added removed) (pieces_from text from ts)
@@ -34,7 +34,7 @@ pieces-moved added removed text other from to (t ∷ ts) same at fits =
     ∙ (ap (drop t.len) same ∙ drop-drop t.len to other) in
     cc (pieces-moved added removed text other (from + t.len) (to + t.len) ts next (omega arith) (omega arith))
 
--- a list is what stands before a number, so many more, and the rest
+-- A list consists of its first k elements, the next n elements, and the rest.
 in_three : (k n : ℕ) (ps : List Placed) → ps ≡ take k ps ++ (take n (drop k ps) ++ drop (k + n) ps)
 in_three k n ps = cc (take-append-drop k ps, take-append-drop n (drop k ps), drop-drop n k ps)
 
@@ -93,7 +93,7 @@ module _ {first : List ℕ → Token} (law : IsGrammar first) (text : List ℕ) 
       )
 
   back_shown : (met back : ℕ)
-      (at : IsMeeting (part_by first text) (part_by first new_text) stop (start + length insert) met back)
+      (at : IsMeeting (fragment_by first text) (fragment_by first new_text) stop (start + length insert) met back)
       → drop met to_show ≡ map (moved (length insert) (stop - start)) (drop at.old_number shown)
   back_shown met back at =
       let i : ℕ = at.old_number in
@@ -114,8 +114,8 @@ module _ {first : List ℕ → Token} (law : IsGrammar first) (text : List ℕ) 
         drop-pieces text 0 i old,
       )
 
-  -- with what is painted, what was shown is what is to be shown
-  pub enough : (r : Relexed) → IsRelexed (part_by first) text start stop insert r
+  -- After the changed pieces are painted, the shown pieces are the pieces of the new text.
+  pub enough : (r : Relexed) → IsRelexed (fragment_by first) text start stop insert r
       → to_show ≡ shown_after r (length insert) (stop - start) shown (changed r to_show)
   enough r is =
       let at = is.meeting in
@@ -129,7 +129,7 @@ module _ {first : List ℕ → Token} (law : IsGrammar first) (text : List ℕ) 
   pub enough_for : {E : Type 0} (result : Result Relexed E) (bytes : List ℕ) (tokens held : List Token)
       → held ≡ tokens_by first text → tokens ≡ tokens_by first bytes
       → OnOk result (bytes ≡ apply text start stop insert)
-      → IfOk result (IsRelexed (part_by first) text start stop insert)
+      → IfOk result (IsRelexed (fragment_by first) text start stop insert)
       → IfOk result (λ r. pieces_from bytes 0 tokens ≡ shown_after r (length insert) (stop - start)
       (pieces_from text 0 held) (changed r (pieces_from bytes 0 tokens)))
   enough_for (Err e) bytes tokens held h t b r = tt

@@ -1,4 +1,4 @@
--- Pieces that are written one after another.
+-- A text that is joined from pieces, and its tokens.
 use Rattle.std.specs.Prelude.{List, [], ◌∷◌, ◌++◌, codes}
 use Rattle.rustc_lexer.specs.Classes.{Utf8}
 use Rattle.rustc_lexer.specs.Joined.{IsJoined}
@@ -7,7 +7,7 @@ use Rattle.rustc_lexer.specs.Tokens.{tokens_of}
 use Rattle.rustc_lexer.specs.declared.edition.Edition.{Edition}
 use Rattle.rustc_lexer.specs.declared.token.Token.{Token}
 
--- the text that the pieces make, each appended to what those before it made
+-- Holds if the text results from appending the pieces in order, by the rule of `IsJoined`.
 pub data AreJoined (edition : Edition) : List Utf8 → Utf8 → Type 0 where
   none : AreJoined edition [] []
   more : {pieces : List Utf8} {text piece new : Utf8}
@@ -15,13 +15,13 @@ pub data AreJoined (edition : Edition) : List Utf8 → Utf8 → Type 0 where
       → IsJoined edition text piece new
       → AreJoined edition (pieces ++ piece ∷ []) new
 
--- the tokens of a separator: none, a space or a newline
+-- Holds if these are the tokens of a separator: none, a space or a newline.
 pub data AreSeparator (edition : Edition) : List Token → Type 0 where
   nothing : AreSeparator edition []
   space : AreSeparator edition (tokens_of (part edition) (codes " "))
   newline : AreSeparator edition (tokens_of (part edition) (codes "\n"))
 
--- the tokens are those of the pieces, in order, but for separators, which come before pieces
+-- Holds if these are the tokens of the pieces, in order, with the tokens of a separator before each piece.
 pub data AreTokensOf (edition : Edition) : List Utf8 → List Token → Type 0 where
   none : AreTokensOf edition [] []
   more : {pieces : List Utf8} {tokens separator : List Token} (piece : Utf8)

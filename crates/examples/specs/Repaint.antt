@@ -1,4 +1,4 @@
--- What is shown of a text that is kept with its tokens, and what an edit makes of it.
+-- The shown pieces of a lexed text, and how an edit changes them.
 use Rattle.std.specs.Prelude.{ℕ, ◌+◌, ◌-◌, List, [], ◌∷◌, ◌++◌, codes, length, map, take, drop}
 use Rattle.rustc_lexer.specs.declared.token.TokenKind.{TokenKind}
 use Rattle.rustc_lexer.specs.declared.token.TokenKind.TheVariants.{LineComment, BlockComment, Literal, Lifetime}
@@ -6,24 +6,23 @@ use Rattle.rustc_lexer.specs.declared.token.TokenKind.TheVariants.{RawLifetime, 
 use Rattle.rustc_lexer.specs.declared.relex.relexing.Relexed.{Relexed}
 use Rattle.rustc_lexer.specs.LexedText.{Placed}
 
--- the pieces of the new text that were lexed
+-- The changed pieces of a new text are the pieces that were lexed.
 abbrev pub changed : Relexed → List Placed → List Placed
 changed relexed pieces = take relexed.lexed (drop relexed.kept_front pieces)
 
--- a piece behind an edit
+-- A piece after an edit moves by as many bytes as the text grew or shrank.
 abbrev pub moved : ℕ → ℕ → Placed → Placed
 moved added removed piece =
     record { start = piece.start + added - removed; token = piece.token; text = piece.text }
 
--- what is shown after an edit: what was shown in front stays, then comes what is painted, and what
--- was shown at the back stands as much further on as the text grew
+-- After an edit, the shown pieces are the pieces kept at the front, then the painted ones, then the pieces kept at the
+-- back, moved by as many bytes as the text grew or shrank.
 abbrev pub shown_after : Relexed → ℕ → ℕ → List Placed → List Placed → List Placed
 shown_after relexed added removed shown painted =
     take relexed.kept_front shown
     ++ (painted ++ map (moved added removed) (drop (length shown - relexed.kept_back) shown))
 
--- what is written before a token of a kind, which sets the style of a terminal; nothing where the
--- token is left plain
+-- This escape sequence before a token sets the terminal style of its kind; it is empty if the kind has no style.
 abbrev pub open_style : TokenKind → List ℕ
 open_style (LineComment doc_style) = 27 ∷ codes "[2m"
 open_style (BlockComment doc_style terminated) = 27 ∷ codes "[2m"
@@ -34,7 +33,7 @@ open_style UnknownPrefixLifetime = 27 ∷ codes "[35m"
 open_style Unknown = 27 ∷ codes "[31m"
 open_style kind = []
 
--- what is written after it, which sets the style back
+-- If an escape sequence set a style, this one after the token resets it.
 abbrev pub close_after : List ℕ → List ℕ
 close_after [] = []
 close_after (b ∷ bs) = 27 ∷ codes "[0m"
@@ -42,7 +41,7 @@ close_after (b ∷ bs) = 27 ∷ codes "[0m"
 abbrev pub close_style : TokenKind → List ℕ
 close_style kind = close_after (open_style kind)
 
--- each piece of a text in its style
+-- Pieces are written one after another, each in the style of its kind.
 abbrev pub styled : List Placed → List ℕ
 styled [] = []
 styled (piece ∷ pieces) =

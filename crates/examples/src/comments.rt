@@ -7,7 +7,7 @@ ghost use Rattle.examples.specs.Comments.{is_skipped, past_comments};
 
 use rustc_lexer::{Cursor, FrontmatterAllowed, TokenKind};
 
-/// Returns the text from its first token that is neither white space nor a comment.
+/// Returns the text from its first token that is neither whitespace nor a comment.
 pub fn skip_comments(text: &str) -> &str
     requires fits { Fits text.now }
     ensures { result.now ≡ past_comments text.now (tokens_of (part newest) text.now) }
@@ -22,7 +22,7 @@ pub fn skip_comments(text: &str) -> &str
     }
 }
 
-/// Returns whether a token is white space or a comment.
+/// Returns whether a token is whitespace or a comment.
 fn is_skipped(kind: TokenKind) -> bool
     ensures { result ≡ is_skipped kind }
 {

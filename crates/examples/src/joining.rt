@@ -1,4 +1,4 @@
-//! Writes pieces so that lexing gives their tokens back.
+//! Joins pieces so that they lex back to the same tokens.
 ghost use Rattle.std.specs.Prelude.{IfOk, map};
 ghost use Rattle.std.specs.String.{string_bytes};
 ghost use Rattle.examples.specs.Joining.{AreJoined, AreTokensOf};
@@ -8,8 +8,8 @@ ghost use Rattle.rustc_lexer.specs.Tokens.{tokens_of};
 use rustc_lexer::{Edition, JoinError, JoinedText};
 use std::alloc::Global;
 
-/// Returns the text that the pieces make, or why one of them cannot follow those before it. Without the separators, the
-/// tokens of the text are those of the pieces, in order.
+/// Joins the pieces, or returns an error if a piece cannot follow the text before it. Apart from separators, the text
+/// has the tokens of the pieces, in order.
 pub fn join(alloc: Global, edition: Edition, pieces: &[&str]) -> Result<String, JoinError>
     ensures tokens { IfOk result
         (λ text. AreTokensOf edition (map (λ p. p.now) pieces.now)

@@ -1,4 +1,4 @@
-//! Proved callers of `rustc_lexer`: the documents and that crate's examples quote them.
+//! Proved callers of `rustc_lexer`, which its documentation quotes.
 #![tactic(auto)]
 
 pub mod comments;

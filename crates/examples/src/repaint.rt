@@ -9,9 +9,9 @@ use rustc_lexer::{LexedText, Relexed, Stepper, TokenKind};
 use std::alloc::AllocError;
 use std::fmt;
 
-/// Makes an edit, which has to be accepted. Then only the tokens that [`repaint`] paints have to be painted
-/// again: those before them stay, and those after them move by as many bytes as the text grew or shrank. `Err`
-/// means that an allocation failed, and then nothing has changed.
+/// Applies an edit, which must be accepted. Afterwards only the tokens that [`repaint`] paints have to be painted
+/// again: tokens before them stay, and tokens after them move by as many bytes as the text grew or shrank. `Err` means
+/// that an allocation failed, and then nothing has changed.
 pub fn edit_shown<S: Stepper>(
     lexed: &mut LexedText<S>,
     start: usize,
@@ -30,12 +30,12 @@ pub fn edit_shown<S: Stepper>(
         new ≡ shown_after relexed (length insert.now) (stop - start)
         (pieces_from lexed.old.text 0 lexed.old.tokens) (changed relexed new)) }
 {
-    // So the tokens are those of the text.
+    // This makes the prover use that these are the tokens of the text.
     prove!(lexed.tokens().len() <= lexed.text().len());
     lexed.edit(start, stop, insert)
 }
 
-/// Writes the tokens that an edit changed, in the styles of a terminal by their kinds.
+/// Writes the tokens that an edit changed, each in the terminal style of its kind.
 pub fn repaint<S: Stepper, W: fmt::Write>(
     lexed: &LexedText<S>,
     relexed: Relexed,
@@ -56,7 +56,7 @@ pub fn repaint<S: Stepper, W: fmt::Write>(
     Ok(())
 }
 
-/// Returns what is written before a token: the terminal's sequence for its style, or nothing if it has none.
+/// Returns the terminal's escape sequence for the style of a kind, or an empty string if it has none.
 fn opening(kind: TokenKind) -> &'static str
     ensures { result.now ≡ open_style kind }
 {
@@ -70,7 +70,7 @@ fn opening(kind: TokenKind) -> &'static str
     }
 }
 
-/// Returns what is written after a token, which resets the style.
+/// Returns the escape sequence after a token, which resets the style.
 fn closing(kind: TokenKind) -> &'static str
     ensures { result.now ≡ close_style kind }
 {

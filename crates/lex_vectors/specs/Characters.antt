@@ -1,4 +1,4 @@
--- The grammar in which each character is one token.
+-- A grammar whose tokens are single characters.
 use Rattle.std.proofs.Common.{◌≡◌, ℕ, ◌<◌, List, [], ◌∷◌, length, refl, sym, ap, ◌∙◌, subst, arith, chars}
 use Rattle.std.proofs.lemmas.Str.{length-le-encodes}
 use Rattle.std.specs.Str.{IsCharBoundary}
@@ -12,11 +12,11 @@ abbrev pub of_chars : List ℕ → Token
 of_chars [] = record { kind = Eof; len = 0 }
 of_chars (c ∷ cs) = record { kind = Unknown; len = bytes (c ∷ []) }
 
--- the first token of each text
+-- The first token of a text is its first character.
 abbrev pub character : List ℕ → Token
 character text = of_chars (chars text)
 
--- a text is its first character, and the rest
+-- A non-empty text consists of its first character and the rest.
 record Parts (text : List ℕ) : Type 0 where
   c : ℕ
   cs : List ℕ

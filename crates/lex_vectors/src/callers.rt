@@ -3,7 +3,7 @@ use examples::comments::skip_comments;
 use examples::repaint::{edit_shown, repaint};
 use rustc_lexer::{LexedText, Relexed, fits};
 
-/// Texts, and what follows their leading comments.
+/// Texts, and the rest of each after its leading comments.
 static COMMENTS: &[(&str, &str)] = &[("// a\n/* b */ c // d", "c // d"), ("//! a", ""), ("", "")];
 
 #[test]

@@ -1,4 +1,4 @@
-//! Calls of a cursor, one after another, and what they answer.
+//! Sequences of cursor calls, with their results.
 use crate::cursors::Call::{Advance, First, Found, Missing, Rest, Third};
 use crate::rows::Made;
 use crate::tables::kinds::{CHAR, DASH, HASH, INT, LETTER, OPEN_STR, RAW_STR, SPACE, WORD};
@@ -7,7 +7,7 @@ use rustc_lexer::TokenKind::{Eof, Ident, InvalidIdent, Minus, UnknownPrefix, Whi
 use rustc_lexer::{Cursor, FrontmatterAllowed, GuardedStr, TokenKind, fits, tokenize};
 use std::alloc::AllocError;
 
-/// A call of a cursor, and its answer.
+/// A call of a cursor, and its result.
 #[derive(Clone, Copy)]
 enum Call {
     Advance((TokenKind, u32)),
@@ -22,7 +22,7 @@ enum Call {
 
 const END: Call = Advance((Eof, 0));
 
-/// Texts, each with calls. A row ends where there is none.
+/// Texts, each with its calls. The end of a test case has no call.
 macro_rules! calls {
     ($($([$($part:literal $(* $times:literal)?),+])? $($text:literal)? => $($call:expr),+;)*) => {
         &[$(
@@ -36,7 +36,7 @@ macro_rules! calls {
 
 static ROWS: &[Entry<Option<Call>>] = calls! {
     "é-" => First('é'), Third('\0'), Advance(WORD), Rest("-"), Advance(DASH), END, First('\0');
-    // A guarded string at the front, what is left after it, and the next token.
+    // A guarded string at the start, the text after it, and the next token.
     "##\"a" => Found(2, false, 4), Rest(""), END;
     "\"a\"" => Found(0, true, 3), Rest(""), END;
     "##\"a\"###x" => Found(2, true, 7), Rest("#x"), Advance(HASH);
@@ -44,13 +44,13 @@ static ROWS: &[Entry<Option<Call>>] = calls! {
     "##\"é\"##" => Found(2, true, 8), Rest(""), END;
     "\"a\"#" => Found(0, true, 3), Rest("#"), Advance(HASH);
     "#\"a\\\"b\"#" => Found(1, true, 8), Rest(""), END;
-    // A suffix, and what begins none.
+    // A suffix, and characters that start no suffix.
     "#\"a\"é" => Found(1, true, 6), Rest(""), END;
     "#\"a\"#_ u" => Found(1, true, 6), Rest(" u"), Advance(SPACE);
     "#\"a\"1" => Found(1, true, 4), Rest("1"), Advance(literal!(INT, 1));
     "#\"a\"😀" => Found(1, true, 4), Rest("😀"), Advance((InvalidIdent, 4));
     "#\"a\"\"b" => Found(1, true, 4), Rest("\"b"), Advance(literal!(OPEN_STR, 2));
-    // Nothing closes them.
+    // Unterminated, or not a guarded string.
     "#\"" => Found(1, false, 2), Rest(""), END;
     "#\"a#u" => Found(1, false, 5), Rest(""), END;
     "#\"a\\\"" => Found(1, false, 5), Rest(""), END;
@@ -59,20 +59,21 @@ static ROWS: &[Entry<Option<Call>>] = calls! {
     "##x" => Missing, Rest("x"), Advance((Ident, 3)), END;
     "# x" => Missing, Rest(" x"), Advance((Whitespace, 2));
     "x#\"a\"" => Missing, Rest("x#\"a\""), Advance((UnknownPrefix, 1));
-    // The place of a suffix counts what is pending.
+    // The start of a suffix includes the pending bytes.
     "#1u" => Missing, Rest("1u"), Advance(literal!(INT, 2, 3));
     "##'a'x" => Missing, Rest("'a'x"), Advance(literal!(CHAR, 5, 6));
     "#r\"a\"" => Missing, Rest("r\"a\""), Advance(literal!(RAW_STR, 5));
     // Within a text.
     "a ##\"b\"##c d" => Advance(LETTER), Advance(SPACE), Found(2, true, 8), Rest(" d"), Missing, Advance(SPACE),
         Advance(LETTER), Missing, END;
-    // Two bytes are pending, and stay so; then two more at the end of the text, where no token is left to take them.
+    // Two bytes are pending, and remain pending after a second call. At the end, two more are pending, but no token
+    // follows.
     "a##-##" => Advance((UnknownPrefix, 1)), Missing, Missing, Rest("-##"), Advance((Minus, 3)), Missing, Rest(""), Missing, END, END;
     ["#" * 301, "x"] => Missing, Advance((Ident, 302));
     ["#" * 300, "\"abc\"", "#" * 301, "x"] => Found(300, true, 605), Rest("#x");
 };
 
-/// Whether the calls have these answers.
+/// Returns whether the calls have these results.
 fn goes(text: &str, allowed: FrontmatterAllowed, calls: &[Call]) -> bool {
     if !fits(text) {
         return false;

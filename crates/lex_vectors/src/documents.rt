@@ -1,4 +1,4 @@
-//! Document documents that are kept with their tokens.
+//! Incrementally lexed documents.
 use crate::edits::{EditRow, Keeps, is_edited, is_listed, lexed_by};
 use crate::steppers::{Characters, Counting};
 use crate::tables::documents::{FRONTS, HEADS, KEPT, SPACED};
@@ -32,8 +32,8 @@ impl<S: Stepper> Keeps for LexedDocument<S> {
     }
 }
 
-/// Returns whether the row holds for a document in its edition, one edit after another and as a list. The
-/// stepper is called once for each token that is lexed, except for so many tokens of heads.
+/// Returns whether the test case holds for a document in its edition, with the edits one by one and as a list. The
+/// stepper must be called once for each lexed token, except for `heads` tokens of heads.
 pub fn holds(alloc: Global, row: &EditRow, heads: u64) -> Result<bool, AllocError> {
     let text = row.text.as_str();
     if !fits(text) {
@@ -47,7 +47,7 @@ pub fn holds(alloc: Global, row: &EditRow, heads: u64) -> Result<bool, AllocErro
     Ok(is_counted(alloc, row, lexed, false)? && is_counted(alloc, row, lexed, true)?)
 }
 
-/// Returns whether the row holds, and the stepper is called so many times.
+/// Returns whether the test case holds, and the stepper is called `lexed` times.
 fn is_counted(alloc: Global, row: &EditRow, lexed: u64, as_list: bool) -> Result<bool, AllocError> {
     let text = row.text.as_str();
     if !fits(text) {
@@ -82,7 +82,7 @@ fn rows(rt: HostRuntime) -> Result<(), AllocError> {
     Ok(())
 }
 
-/// Returns whether the row holds if each character is one token.
+/// Returns whether the test case holds if each character is one token.
 pub fn holds_by_characters(alloc: Global, row: &EditRow) -> Result<bool, AllocError> {
     let text = row.text.as_str();
     if !fits(text) {

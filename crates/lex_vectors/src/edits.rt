@@ -1,4 +1,4 @@
-//! Edits of a text that is kept with its tokens, one by one and as a list.
+//! Edits of a lexed text, one by one and as a list.
 use crate::documents;
 use crate::rows::Made;
 use crate::steppers::{Characters, Counting};
@@ -9,7 +9,7 @@ use rustc_lexer::{
 };
 use std::alloc::{AllocError, Global};
 
-/// An edit and its counts, or no counts if it is refused.
+/// An edit and its counts, or no counts if it is rejected.
 #[derive(Drop)]
 pub struct Step {
     start: usize,
@@ -47,7 +47,7 @@ impl EditRow {
         }
     }
 
-    /// Adds an entry of a table. Returns whether the row is whole.
+    /// Adds an entry of a table. Returns whether the test case is complete.
     pub fn add(&mut self, entry: &Entry<Role>) -> Result<bool, AllocError> {
         match self.made.add(entry)? {
             Some(Role::Before(edition)) => {
@@ -67,7 +67,7 @@ impl EditRow {
         Ok(false)
     }
 
-    /// What the edits as a list end with.
+    /// Returns the result of the edits as a list.
     fn end(&self) -> Result<(), EditStop> {
         match self.steps.iter().position(|step| step.counts.is_none()) {
             Some(at) => Err(EditStop::Range { at }),
@@ -76,13 +76,13 @@ impl EditRow {
     }
 }
 
-/// A type that keeps a text with its tokens.
+/// An incrementally lexed text.
 pub trait Keeps {
     fn text(&self) -> &str;
 
     fn tokens(&self) -> &[Token];
 
-    /// Makes the edit, or returns `None` if it is not accepted.
+    /// Applies the edit, or returns `None` if it is not accepted.
     fn try_edit(&mut self, edit: Edit<'_>) -> Result<Option<Relexed>, AllocError>;
 
     fn try_edits(&mut self, edits: &[Edit<'_>]) -> Result<(), EditStop>;
@@ -115,12 +115,12 @@ impl<S: Stepper> Keeps for LexedText<S> {
     }
 }
 
-/// Returns whether the text and the tokens are these.
+/// Returns whether the lexed text has this text and these tokens.
 fn is_left<K: Keeps>(lexed: &K, made: &Made) -> bool {
     lexed.text() == made.text.as_str() && lexed.tokens() == made.tokens.as_slice()
 }
 
-/// Makes the edits one by one. Returns whether each is as the row says, and the text and tokens after them.
+/// Applies the edits one by one. Returns whether the counts of each, and the final text and tokens, are as expected.
 pub fn is_edited<K: Keeps>(lexed: &mut K, row: &EditRow) -> Result<bool, AllocError> {
     for step in row.steps.as_slice() {
         if lexed.try_edit(step.edit())? != step.counts {
@@ -130,7 +130,7 @@ pub fn is_edited<K: Keeps>(lexed: &mut K, row: &EditRow) -> Result<bool, AllocEr
     Ok(is_left(lexed, &row.made))
 }
 
-/// Returns whether the edits as a list give the same, and an empty list after them changes nothing.
+/// Returns whether the edits as a list have the same result, and an empty list after them changes nothing.
 pub fn is_listed<K: Keeps>(alloc: Global, kept: &mut K, row: &EditRow) -> Result<bool, AllocError> {
     let mut edits = Vec::new(alloc);
     for step in row.steps.as_slice() {
@@ -140,7 +140,7 @@ pub fn is_listed<K: Keeps>(alloc: Global, kept: &mut K, row: &EditRow) -> Result
     Ok(end == row.end() && is_left(kept, &row.made) && is_kept(kept, &row.made))
 }
 
-/// Returns whether an empty list of edits keeps all of these.
+/// Returns whether an empty list of edits keeps this text and all tokens.
 fn is_kept<K: Keeps>(lexed: &mut K, made: &Made) -> bool {
     let all_kept = Relexed {
         kept_front: made.tokens.len(),
@@ -150,7 +150,7 @@ fn is_kept<K: Keeps>(lexed: &mut K, made: &Made) -> bool {
     lexed.try_edits(&[]) == Ok(()) && lexed.try_each(&[]) == Ok(all_kept) && is_left(lexed, made)
 }
 
-/// Returns how many tokens the edits of the row lex.
+/// Returns how many tokens the edits of the test case lex.
 pub fn lexed_by(row: &EditRow) -> u64 {
     let mut lexed = 0u64;
     for step in row.steps.as_slice() {
@@ -161,7 +161,7 @@ pub fn lexed_by(row: &EditRow) -> u64 {
     lexed
 }
 
-/// Returns whether the row holds for a text in its edition, one edit after another and as a list.
+/// Returns whether the test case holds for a fragment in its edition, with the edits one by one and as a list.
 fn holds(alloc: Global, row: &EditRow) -> Result<bool, AllocError> {
     let text = row.text.as_str();
     if !fits(text) {
@@ -178,7 +178,7 @@ fn holds(alloc: Global, row: &EditRow) -> Result<bool, AllocError> {
     Ok(is_counted(alloc, row, false)? && is_counted(alloc, row, true)?)
 }
 
-/// Returns whether the row holds, and the stepper is called once for each token that is lexed.
+/// Returns whether the test case holds, and the stepper is called once for each lexed token.
 fn is_counted(alloc: Global, row: &EditRow, as_list: bool) -> Result<bool, AllocError> {
     let text = row.text.as_str();
     if !fits(text) {
@@ -194,7 +194,7 @@ fn is_counted(alloc: Global, row: &EditRow, as_list: bool) -> Result<bool, Alloc
     Ok(holds && lexed.stepper().calls == calls)
 }
 
-/// Texts with no head: an edit of one that is kept as a document keeps the same.
+/// Texts without a head: as a document, they have the same counts.
 #[test]
 fn rows(rt: HostRuntime) -> Result<(), AllocError> {
     for (name, entries) in [("SHORT", SHORT), ("LONG", LONG)] {
@@ -209,7 +209,7 @@ fn rows(rt: HostRuntime) -> Result<(), AllocError> {
     Ok(())
 }
 
-/// Returns whether the row holds if each character is one token.
+/// Returns whether the test case holds if each character is one token.
 fn holds_by_characters(alloc: Global, row: &EditRow) -> Result<bool, AllocError> {
     let text = row.text.as_str();
     if !fits(text) {

@@ -1,7 +1,7 @@
 //! The ends of each range of emoji are emoji, and their neighbours are not.
 //!
-//! A field of a lifetime says that it begins with an emoji, whatever else the character is. It is set for a
-//! digit too, and a digit begins a number: so no token shows that a digit is not an emoji.
+//! A lifetime has a field that is true if it starts with an emoji, whatever else that character is. The field is also
+//! true for a digit, and a digit starts a number. So no token shows that a digit is not an emoji.
 use crate::tables::kinds::BAD_LIFETIME;
 use rustc_lexer::{FrontmatterAllowed, TokenKind, fits, is_id_start, tokenize};
 use std::alloc::{AllocError, Global};
@@ -15,7 +15,7 @@ macro_rules! ranges {
     };
 }
 
-/// Those below U+10000.
+/// The ranges below U+10000.
 static NEAR: &[(u32, u32)] = ranges! {
     0xA9, 0xAE, 0x203C, 0x2049, 0x2122, 0x2139, 0x2194..=0x2199, 0x21A9..=0x21AA, 0x231A..=0x231B, 0x2328, 0x23CF,
     0x23E9..=0x23F3, 0x23F8..=0x23FA, 0x24C2, 0x25AA..=0x25AB, 0x25B6, 0x25C0, 0x25FB..=0x25FE, 0x2600..=0x2604,
@@ -29,7 +29,7 @@ static NEAR: &[(u32, u32)] = ranges! {
     0x2B50, 0x2B55, 0x3030, 0x303D, 0x3297, 0x3299,
 };
 
-/// Those from U+10000 on: two tables take the prover less than one.
+/// The ranges from U+10000 on. Two tables are proved faster than one.
 static FAR: &[(u32, u32)] = ranges! {
     0x1F004, 0x1F0CF, 0x1F170..=0x1F171, 0x1F17E..=0x1F17F, 0x1F18E, 0x1F191..=0x1F19A, 0x1F1E6..=0x1F1FF,
     0x1F201..=0x1F202, 0x1F21A, 0x1F22F, 0x1F232..=0x1F23A, 0x1F250..=0x1F251, 0x1F300..=0x1F321, 0x1F324..=0x1F393,
@@ -42,7 +42,7 @@ static FAR: &[(u32, u32)] = ranges! {
     0x1FA80..=0x1FA88, 0x1FA90..=0x1FABD, 0x1FABF..=0x1FAC5, 0x1FACE..=0x1FADB, 0x1FAE0..=0x1FAE8, 0x1FAF0..=0x1FAF8,
 };
 
-/// Returns the kind of the first token of a text with this front and this character after it.
+/// Returns the kind of the first token of `front` followed by this character.
 fn kind_of(alloc: Global, front: &str, c: char) -> Result<Option<TokenKind>, AllocError> {
     let mut text = String::from_str(alloc, front)?;
     text.push(c)?;
@@ -55,7 +55,7 @@ fn kind_of(alloc: Global, front: &str, c: char) -> Result<Option<TokenKind>, All
     }
 }
 
-/// Returns whether the tokens of the character are those of an emoji, or else those of no emoji.
+/// Returns whether the tokens of the character show that it is an emoji, or that it is not, as `emoji` expects.
 fn is_shown(alloc: Global, code: u32, emoji: bool) -> Result<bool, AllocError> {
     let Some(c) = char::from_u32(code) else {
         return Ok(false);

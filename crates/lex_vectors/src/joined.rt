@@ -1,17 +1,17 @@
-//! Texts that are made of pieces.
+//! Texts that are joined from pieces.
 use rustc_lexer::{Edition, JoinError, JoinedText, fits, is_token_boundary};
 
-/// What is done with a text, and what comes of it.
+/// A step of a test case.
 #[derive(Clone, Copy)]
 enum Step {
-    /// It begins anew, in an edition.
+    /// Starts a new text in an edition.
     New(Edition),
     Pushed(&'static str),
     Refused(&'static str),
     Made(&'static str),
 }
 
-/// Rows: an edition, pieces that are pushed, perhaps one that is refused then, and the text that they make.
+/// Test cases: an edition, pieces to push, possibly a piece that is then rejected, and the resulting text.
 macro_rules! joined {
     ($($edition:ident: $($piece:literal),+ $(, !$refused:literal)? => $made:literal;)*) => {
         &[$(
@@ -28,19 +28,19 @@ static ROWS: &[Step] = joined! {
     E2024: "a", "", " ", "b" => "a b";
     E2024: "a", " ", !" b" => "a ";
     E2024: "a", " ", !"\u{2028}" => "a ";
-    // Past a line comment a newline.
+    // A line comment needs a newline after it.
     E2024: "// a", "b" => "// a\nb";
     E2024: "// a", !" b" => "// a";
     E2024: "// a", !"\r\n" => "// a";
     E2024: "// a", "\n", "b" => "// a\nb";
     E2024: "/", "// a" => "/ // a";
-    // A number takes a dot, or does not.
+    // Whether a dot becomes part of a number.
     E2024: "1", ".", "." => "1 ..";
     E2024: "1", "..", "2" => "1..2";
     E2024: "1.", "max" => "1. max";
     E2024: "\"a\"", "s" => "\"a\" s";
     E2024: "r", "\"a\"" => "r \"a\"";
-    // By edition.
+    // The separator can depend on the edition.
     E2021: "#", "\"a\"" => "#\"a\"";
     E2024: "#", "\"a\"" => "# \"a\"";
     E2018: "z", "\"a\"" => "z\"a\"";
@@ -51,7 +51,7 @@ static ROWS: &[Step] = joined! {
     E2018: "k", "#", "a" => "k# a";
     E2021: "k", "#", "a" => "k #a";
     E2024: "'", "/", "'a'" => "'/ 'a'";
-    // Tokens that are open.
+    // Unterminated tokens.
     E2024: "\"a", !"b" => "\"a";
     E2024: "/* a", !"b" => "/* a";
     E2024: "r#\"a", "", !"\"#" => "r#\"a";
@@ -80,13 +80,13 @@ fn rows(rt: HostRuntime) {
     }
 }
 
-/// Whether both parts keep their tokens.
+/// Returns whether the text splits at this offset without changing tokens.
 fn touch(text: &str, at: usize, edition: Edition) -> bool {
     fits(text) && text.is_char_boundary(at) && is_token_boundary(text, at, edition)
 }
 
 #[test]
-fn seams(rt: HostRuntime) {
+fn boundaries(rt: HostRuntime) {
     assert!(rt;
         touch("", 0, Edition::E2015)
             && touch("a+b", 1, Edition::E2024)

@@ -1,4 +1,4 @@
-//! Tests of `rustc_lexer` and `examples` from outside. A crate with tests is proved twice, so those two have none.
+//! Tests of `rustc_lexer` and `examples`. They are a crate of their own, because a crate with tests is proved twice.
 #![tactic(auto)]
 
 #[cfg(test)]

@@ -1,5 +1,5 @@
-//! Checks that each text gives the tokens of its row, by each call. One assertion names all rows that fail: many
-//! assertions would take the prover long.
+//! Checks the tokens of each text in the tables, with each call. One assertion reports all failing test cases, because
+//! many assertions would be slow to prove.
 ghost use Rattle.rustc_lexer.specs.Classes.{Fits};
 
 use crate::tables::all::all;
@@ -11,12 +11,12 @@ use std::alloc::{AllocError, Global};
 use std::fmt::Write;
 use std::test::Fail;
 
-/// A text of a table and its tokens, as they are read entry by entry.
+/// A text of a table and its tokens, built entry by entry.
 #[derive(Drop)]
 pub struct Made {
     pub text: String,
     pub tokens: Vec<Token>,
-    /// The tokens of the part that comes next.
+    /// The tokens of the next part.
     each: Vec<Token>,
     is_whole: bool,
 }
@@ -31,7 +31,7 @@ impl Made {
         }
     }
 
-    /// Adds an entry. Returns what the text is for, if the entry ends it. The next part or token begins a new one.
+    /// Adds an entry. Returns the purpose of the text if the entry ends it. The next part or token starts a new text.
     pub fn add<M: Copy>(&mut self, entry: &Entry<M>) -> Result<Option<M>, AllocError> {
         match *entry {
             Entry::Fragment(part, times) => {
@@ -59,7 +59,7 @@ impl Made {
         }
     }
 
-    /// Adds a part with its tokens so many times.
+    /// Adds a part with its tokens the given number of times.
     fn repeat(&mut self, part: &str, times: u32) -> Result<(), AllocError> {
         for _ in 0..times {
             self.text.push_str(part)?;
@@ -71,7 +71,7 @@ impl Made {
         Ok(())
     }
 
-    /// Returns the number of the first of these calls that gives other tokens than these.
+    /// Returns the index of the first of these calls that returns other tokens.
     fn mismatch(&self, ways: Ways) -> Option<usize> {
         let text = self.text.as_str();
         let wanted = self.tokens.as_slice();
@@ -89,7 +89,7 @@ impl Made {
     }
 }
 
-/// Returns the tokens of the text by the call.
+/// Lexes the text with the call.
 fn lex<'a>(text: &'a str, way: Way) -> Tokens<'a>
     requires { Fits text.now }
 {
@@ -100,7 +100,7 @@ fn lex<'a>(text: &'a str, way: Way) -> Tokens<'a>
     }
 }
 
-/// Collects the rows of the table that fail.
+/// Appends the failing test cases of the table to `mismatches`.
 fn write_mismatches(
     alloc: Global,
     mismatches: &mut String,
@@ -129,10 +129,10 @@ fn rows(rt: HostRuntime) -> Result<(), Fail> {
     Ok(())
 }
 
-/// The size of the longest buffer, longer than each row.
+/// The size of the longest buffer.
 const BUFFER_LEN: usize = 64;
 
-/// Returns whether exactly these tokens come one by one, and nothing is left then.
+/// Returns whether the iterator returns exactly these tokens, and then stays at its end.
 fn gives(tokens: Tokens<'_>, wanted: &[Token]) -> bool {
     let mut tokens = tokens;
     for token in wanted {
@@ -143,7 +143,7 @@ fn gives(tokens: Tokens<'_>, wanted: &[Token]) -> bool {
     tokens.as_str().is_empty() && tokens.next().is_none() && tokens.next().is_none()
 }
 
-/// Returns whether exactly these tokens are written into buffers of the two lengths in turns.
+/// Returns whether `fill` returns exactly these tokens, with buffers of the two lengths in turns.
 fn fills(tokens: Tokens<'_>, lengths: [usize; 2], wanted: &[Token]) -> bool {
     let mut tokens = tokens;
     let mut buffer = [Token {

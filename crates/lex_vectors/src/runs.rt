@@ -1,42 +1,41 @@
-//! Runs of 0 to 100 characters, and searches over as many: each text is made so that the place of its stop is
-//! known.
+//! Runs of 0 to 100 characters, and searches over as many. The offset of the stop is known for each text.
 //!
-//! A byte that begins no character in UTF-8, like 0x80, cannot come first in a text.
+//! A byte that starts no character in UTF-8, such as 0x80, cannot be the first byte of a text.
 use crate::tables::kinds::{HEXADECIMAL, INT, LINE, OPEN_STR, STR};
 use Reach::{PastStop, Suffix, ToEnd, ToStop};
 use rustc_lexer::TokenKind::{Eof, Ident, Literal, Whitespace};
 use rustc_lexer::{Base, FrontmatterAllowed, LiteralKind, Token, TokenKind, fits, tokenize};
 use std::alloc::{AllocError, Global};
 
-/// The most characters of a text between its front and its stop.
+/// The maximum number of characters between the front of a text and its stop.
 const MOST: usize = 100;
 
-/// How far the token with the run goes.
+/// The end of the token that contains the run.
 #[derive(Clone, Copy)]
 enum Reach {
-    /// Up to the stop.
+    /// The start of the stop.
     ToStop,
-    /// Past the stop, which terminates it.
+    /// The end of the stop, which terminates the token.
     PastStop,
-    /// To the end of the text, and what begins at the stop is its suffix.
+    /// The end of the text; the suffix of the token starts at the stop.
     Suffix,
-    /// To the end of the text.
+    /// The end of the text.
     ToEnd,
 }
 
-/// A token with a run in it.
+/// A token that contains a run.
 struct Runs {
-    /// What comes before the run.
+    /// The text before the run.
     front: &'static str,
     /// The characters of the run, repeated.
     members: &'static str,
-    /// The token if the run is empty, and if it is not, except for the place of a suffix.
+    /// The kind if the run is empty, and if it is not, without the start of a suffix.
     kinds: [TokenKind; 2],
-    /// What stops the run, empty for the end of the text, and how far the token then goes.
+    /// Stops of the run, and the end of the token for them. An empty stop is the end of the text.
     stops: &'static [(&'static [&'static str], Reach)],
 }
 
-/// Rows `front, members, kinds: stops => reach, ..;`.
+/// Test cases: `front, members, kinds: stops => reach, ..;`.
 macro_rules! runs {
     ($($front:literal, $members:literal, [$empty:expr, $other:expr]: $($stops:tt => $reach:ident),*;)*) => {
         &[$(Runs {
@@ -48,7 +47,7 @@ macro_rules! runs {
     };
 }
 
-/// What `kinds` has instead of the place of a suffix.
+/// The placeholder in `kinds` for the start of a suffix.
 const ANYWHERE: u32 = 0;
 
 /// A literal with a suffix anywhere.
@@ -66,8 +65,8 @@ const EMPTY_HEXADECIMAL: LiteralKind = LiteralKind::Int {
     empty_int: true,
 };
 
-// The first byte of U+07F6 is 0xDF, which is that of `_` with one bit more, and that of U+1000 is 0xE1, which is that
-// of `a` with one bit more.
+// The first byte of U+07F6, 0xDF, is `_` with one more bit, and the first byte of U+1000, 0xE1, is `a` with one more
+// bit.
 static ALL: &[Runs] = runs! {
     "x", "azAZ09_", [Ident, Ident]:
         ["/", ":", "@", "[", "`", "{", "\x7f", "\u{80}", "\u{7f6}", "\u{10ffff}"] => ToStop,
@@ -89,8 +88,7 @@ static ALL: &[Runs] = runs! {
 };
 
 impl Runs {
-    /// Returns the first stop, and the length of a run before it, for which the token is not the one of the
-    /// table.
+    /// Returns the first stop, with the length of a run before it, whose token differs from the table.
     fn mismatch(&self, alloc: Global) -> Result<Option<(&'static str, usize)>, AllocError> {
         let all = self.members.repeat(alloc, MOST)?;
         for (stops, reach) in self.stops {
@@ -103,7 +101,8 @@ impl Runs {
         Ok(None)
     }
 
-    /// Returns the first length of a run before this stop for which it is not, whatever follows the stop.
+    /// Returns the first length of a run before this stop whose token differs from the table, for any text after the
+    /// stop.
     fn wrong_end(
         &self,
         alloc: Global,
@@ -125,7 +124,7 @@ impl Runs {
         Ok(None)
     }
 
-    /// Returns whether the first token of a front with a run, its stop and what follows is as the table says.
+    /// Returns whether the first token of the front, a run, its stop and more text agrees with the table.
     fn holds(&self, alloc: Global, parts: [&str; 3], reach: Reach) -> Result<bool, AllocError> {
         let [run, stop, tail] = parts;
         let mut text = String::from_str(alloc, self.front)?;
@@ -145,7 +144,7 @@ impl Runs {
     }
 }
 
-/// Returns whether the text begins with this token, taken alone and with a buffer filled.
+/// Returns whether `next` and `fill` return this token first.
 fn begins_with(text: &str, token: (TokenKind, usize, usize)) -> bool {
     if !fits(text) {
         return false;
@@ -158,8 +157,8 @@ fn begins_with(text: &str, token: (TokenKind, usize, usize)) -> bool {
     }
 }
 
-/// Returns the kind of a token without the place of its suffix, that place, which is its end if it can have
-/// none, and its length.
+/// Returns the kind of a token without the start of its suffix, that start (the end of the token if it can have no
+/// suffix), and its length.
 fn split(token: Token) -> (TokenKind, usize, usize) {
     let len = token.len as usize;
     match token.kind {

@@ -1,4 +1,4 @@
-//! Two steppers.
+//! Steppers for tests: one counts its calls, and one has a grammar of its own.
 ghost use Rattle.std.specs.Prelude.{◌≡◌, ◌<◌, length};
 ghost use Rattle.lex_vectors.specs.Characters.{character};
 
@@ -12,7 +12,7 @@ pub struct Counting {
 }
 
 impl Counting {
-    /// One of an edition, which has counted no call.
+    /// Returns a stepper for an edition, with a count of 0.
     pub fn new_in(edition: Edition) -> Counting
         ensures { result.calls ≡ 0 }
     {
@@ -37,7 +37,7 @@ impl Stepper for Counting {
     }
 }
 
-/// Each character is one token.
+/// A stepper whose tokens are single characters.
 #[derive(Drop)]
 pub struct Characters {
     steps: Steps,

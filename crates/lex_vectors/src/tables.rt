@@ -1,5 +1,5 @@
-//! The rows, as data. The tests in plain Rust read these files too, so each uses only the lexer's types and
-//! other tables.
+//! The test vectors. The tests in plain Rust read these files too, so they use only types of the lexer and other
+//! tables.
 pub(crate) mod all;
 pub(crate) mod comments;
 pub(crate) mod documents;

@@ -1,4 +1,4 @@
--- The loops that list tokens.
+-- Lemmas for the loops that list tokens.
 use Rattle.std.proofs.Common.{◌≡◌, ℕ, zero, suc, ◌+◌, ◌-◌, ◌<◌, ◌≤◌, ◌^◌, List, [], ◌∷◌, ◌++◌, length, take, drop, refl}
 use Rattle.std.proofs.Common.{ap, ◌∙◌, arith, append_assoc, length-drop, length-take-le, subst}
 use Rattle.std.proofs.{Math.Nat.{min-le_right}, lemmas.{Grind.{common_steps}, List.{nil_from_length}}}
@@ -10,7 +10,7 @@ use Rattle.rustc_lexer.proofs.lemmas.edits.{Bounds.{bound_mono}, FrontAndBack.{b
 use Rattle.rustc_lexer.proofs.lemmas.edits.ManyTokens.{IsFront, front_of}
 use Rattle.lexdump_run.specs.Listing.{line_text, listing_from}
 
--- the lines of some tokens, and then those of the others
+-- A listing consists of the lines of the first `count` tokens, followed by the lines of the remaining tokens.
 pub listing-split : (start : ℕ) (tokens : List Token) (count : ℕ)
     → listing_from start tokens ≡ listing_from start (take count tokens) ++ listing_from (start + bound tokens count)
     (drop count tokens)
@@ -19,7 +19,7 @@ listing-split start [] (suc count) = refl
 listing-split start (t ∷ ts) (suc count) =
     grind (arith, common_steps, append_assoc, listing-split (start + t.len) ts count)
 
--- a buffer is filled with the first `count` of the tokens of the rest of a text
+-- In this section, a buffer contains the first `count` tokens of the rest of a text.
 module _ (text cut rest : List ℕ) (mode : Mode) (buffer filled : List Token) (count : ℕ) (cut_is : cut ≡ rest)
     (utf8 : IsUtf8 cut) (within : length rest ≤ length text) (fits : length text < 2 ^ 32)
     (fills : IsFilled (λ (t : Token). t) (tokens_of mode rest) buffer filled count) where
@@ -38,7 +38,7 @@ module _ (text cut rest : List ℕ) (mode : Mode) (buffer filled : List Token) (
   pub buffer_fits : length text - length cut + bound (take count filled) (length (take count filled)) < 2 ^ 32
   buffer_fits = grind (arith, common_steps, length-take-le, bound-take, inside)
 
-  -- the lines of the buffer, and then those of what is left past it
+  -- The listing of the rest consists of the lines of the buffer, followed by the lines of the tokens after it.
   pub buffer-split : (later : List Token) (after : List ℕ) → later ≡ drop count left
       → after ≡ drop (bound left count) rest
       → listing_from (length text - length rest) left ≡ listing_from (length text - length cut) (take count filled)
@@ -49,11 +49,11 @@ module _ (text cut rest : List ℕ) (mode : Mode) (buffer filled : List Token) (
       omega (arith, ap length cut_is, ap length f, length-drop (bound left count) rest, inside, within) in
       cc (listing-split (length text - length cut) left count, front.front)
 
--- where no text is left, no token is
+-- If no text is left, no token is left.
 pub none_left : (s : State) → length s.rest ≡ 0 → tokens_left s ≡ []
 none_left s e = ap (tokens_of s.mode) (nil_from_length s.rest e) ∙ tokens-nil s.mode
 
--- the lines of the pieces
+-- Pieces are listed in order, one line each.
 abbrev pub lines : List Placed → List ℕ
 lines [] = []
 lines (p ∷ ps) = line_text p.start p.token ++ lines ps

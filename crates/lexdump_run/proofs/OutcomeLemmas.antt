@@ -1,4 +1,4 @@
--- How a run ends, by what was read and what was listed.
+-- The outcome of a run follows from the outcomes of reading and listing.
 use Rattle.std.proofs.Common.{◌≡◌, ℕ, ◌<◌, ◌^◌, List, [], ◌++◌, length, sym, arith, subst, ap, ◌∙◌, append-nil, Option}
 use Rattle.std.proofs.Common.{Result, Ok, Err}
 use Rattle.std.proofs.lemmas.Grind.{common_steps}
@@ -11,21 +11,21 @@ use Rattle.lexdump_run.specs.{declared.{job.Job.{Job}, output.BlockWriter.{Block
 use Rattle.lexdump_run.specs.Pushed.{held, Lists, Pushes}
 use Rattle.lexdump_run.proofs.PushLemmas.{pushes_both}
 
--- no text was read
+-- If no text was read, the run ends with the error of the input.
 pub ends_unread : (job : Job) (known old : Option (List ℕ)) (fault : Fault) → IsInputFault known fault
     → IfSome known (λ bytes. Ends job bytes old old (Err fault))
 ends_unread job known old fault is = grind (arith, common_steps, keeps_same)
 
--- what holds of a text holds of the bytes that it is
+-- A property of the text is a property of the known bytes, which are the text.
 text_known : (P : List ℕ → Type 0) (known : Option (List ℕ)) (text : List ℕ) → IfSome known (λ bytes. text ≡ bytes)
     → P text → IfSome known P
 text_known P known text w3 w4 = grind (arith, common_steps)
 
--- the bytes that the output took
+-- The output of a writer has these known bytes.
 abbrev pub written : {W : Type 0} → (W → Option (List ℕ)) → BlockWriter W → Option (List ℕ)
 written contents writer = contents writer.output.now.inner
 
--- bytes that were pushed to an empty block, which is then written out
+-- In this section, bytes are pushed to an empty block, which is then written out.
 module _ {W : Type 0} (contents : W → Option (List ℕ)) (start end : BlockWriter W) (none : held start ≡ [])
     (made : List ℕ) where
   pushed_out : (result : Result (Unit {0}) Fault) → Pushes contents start end made result → OnOk result (held end ≡ [])
@@ -43,7 +43,7 @@ module _ {W : Type 0} (contents : W → Option (List ℕ)) (start end : BlockWri
         p.err,
   )
 
-  -- all went out, or where a write failed a beginning
+  -- If the block is finished, all bytes were written, or a prefix of them if a write failed.
   pub finished : (mid : BlockWriter W) (old new : Option (List ℕ)) (result : Result (Unit {0}) Fault)
       → written contents start ≡ old → written contents end ≡ new → Pushes contents start mid made (Ok tt)
       → Pushes contents mid end [] result → OnOk result (held end ≡ [])
@@ -52,7 +52,7 @@ module _ {W : Type 0} (contents : W → Option (List ℕ)) (start end : BlockWri
       rw (← e, ← f) (pushed_out result
       (pushes_both contents start mid end made [] made result (sym (append-nil made)) p q) empty)
 
--- all was listed, and what is held is written at the end
+-- If everything was listed and the held bytes are written at the end, the run has the specified outcome.
 pub ends_listed : {W : Type 0} (contents : W → Option (List ℕ)) (job : Job) (known : Option (List ℕ)) (text : List ℕ)
     (start mid end : BlockWriter W) (old new : Option (List ℕ)) (result : Result (Unit {0}) Fault)
     → IfSome known (λ bytes. text ≡ bytes) → IsUtf8 text → length text < 2 ^ 32 → held start ≡ []

@@ -1,4 +1,4 @@
--- The start and the length of a token, written from the last byte to the first.
+-- Lemmas about the start and the length of a token, which are written from the last byte to the first.
 use Rattle.std.proofs.Common.{◌≡◌, ℕ, ◌+◌, ◌-◌, ◌<◌, ◌≤◌, ◌^◌, List, ◌∷◌, ◌++◌, length, take, drop, ap, ◌∙◌, arith}
 use Rattle.std.proofs.Common.{replicate, take_all, length-drop}
 use Rattle.std.proofs.lemmas.Grind.{common_steps}
@@ -9,7 +9,8 @@ use Rattle.lexdump_run.specs.Listing.{place_text}
 pub short : (n : ℕ) → n < 2 ^ 32 → length (decimal n) ≤ 10
 short n small = length-decimal-le 10 n (omega arith) (omega arith) (omega arith)
 
--- what was written from `from` on is the place, where the length stands from `at` on, and a space before and after it
+-- If the length was written at `at`, with a space before and after it, and the start at `from`, the bytes from `from`
+-- on are the place.
 pub place-written : (start len at from : ℕ) (spaces one two : List ℕ) → spaces ≡ replicate 22 32 → length one ≡ 22
     → 1 ≤ at → at + length (decimal len) ≡ 21 → drop at one ≡ decimal len ++ drop 21 spaces
     → take at one ≡ take at spaces

@@ -1,4 +1,4 @@
--- Bytes that are pushed, one after another.
+-- Lemmas about bytes that are pushed, one after another.
 use Rattle.std.proofs.Common.{◌≡◌, ℕ, List, [], ◌++◌, refl, sym, ap, ◌∙◌, append_assoc, append-nil, subst, Option}
 use Rattle.std.proofs.Common.{Result, Ok, Err, arith}
 use Rattle.std.proofs.lemmas.Grind.{common_steps}
@@ -7,14 +7,14 @@ use Rattle.program_io.proofs.KnownLemmas.{appends-none, appends-more, front_firs
 use Rattle.program_io.specs.{Known.{Went}, declared.fault.Fault.{Fault}}
 use Rattle.lexdump_run.specs.{declared.output.BlockWriter.{BlockWriter}, Pushed.{held, Pushes}}
 
--- bytes are written past a block that holds none
+-- If a block holds no bytes and further bytes are written directly, it still holds none.
 pub went_past : (old new : Option (List ℕ)) (none bytes : List ℕ) (result : Result (Unit {0}) Fault) → none ≡ []
     → OnOk result (Appends old new bytes) → OnOk result (Went old new (none ++ bytes) none)
 went_past old new none bytes (Ok done) e a =
     record { front = bytes; whole = grind (arith, common_steps, append-nil); grew = a }
 went_past old new none bytes (Err fault) e a = tt
 
--- some of the bytes were pushed since `start`, and the rest is to come
+-- Holds if all bytes before `rest` were pushed since `start`.
 pub record Pushing {W : Type 0} (contents : W → Option (List ℕ)) (start now : BlockWriter W)
     (all rest : List ℕ) : Type 0 where
   pub done : List ℕ
@@ -30,7 +30,7 @@ module _ {W : Type 0} (contents : W → Option (List ℕ)) where
     grew = appends-more old mid new p.front q.front p.grew q.grew;
   }
 
-  -- two pushes in a row
+  -- Two pushes in a row push both texts.
   pub pushes_both : (old mid new : BlockWriter W) (one two bytes : List ℕ) (result : Result (Unit {0}) Fault)
       → bytes ≡ one ++ two → Pushes contents old mid one (Ok tt) → Pushes contents mid new two result
       → Pushes contents old new bytes result
@@ -51,7 +51,7 @@ module _ {W : Type 0} (contents : W → Option (List ℕ)) where
         p.ok.grew q.err;
   }
 
-  -- a push that fails before all is pushed
+  -- A push that fails early is a failed push of all the bytes.
   pub pushes_first : (old new : BlockWriter W) (one two bytes : List ℕ) (fault : Fault)
       (result : Result (Unit {0}) Fault)
       → bytes ≡ one ++ two → Pushes contents old new one (Err fault) → IsErrAnd result (λ y. y ≡ fault)
@@ -66,7 +66,7 @@ module _ {W : Type 0} (contents : W → Option (List ℕ)) where
         p.err;
   }
 
-  -- no bytes are pushed
+  -- Pushing no bytes changes nothing.
   pushes_none : (old : BlockWriter W) → Pushes contents old old [] (Ok tt)
   pushes_none old =
       record {
@@ -77,7 +77,7 @@ module _ {W : Type 0} (contents : W → Option (List ℕ)) where
         err = tt;
       }
 
-  -- nothing was pushed yet
+  -- At the start, nothing has been pushed.
   pub pushing_none : (start : BlockWriter W) (all rest : List ℕ) → rest ≡ all → Pushing contents start start all rest
   pushing_none start all rest e = record { done = []; whole = sym e; pushed = pushes_none start }
 
@@ -86,7 +86,7 @@ module _ {W : Type 0} (contents : W → Option (List ℕ)) where
     parted : all ≡ (at.done ++ first) ++ rest
     parted = at.whole ∙ (ap (λ xs. at.done ++ xs) e ∙ sym (append_assoc at.done first rest))
 
-    -- the first of what is to come is pushed
+    -- If the next bytes are pushed, the rest after them remains.
     pub pushing_first : Pushes contents mid new first (Ok tt) → Pushing contents start new all rest
     pushing_first p =
         record {
@@ -95,14 +95,14 @@ module _ {W : Type 0} (contents : W → Option (List ℕ)) where
           pushed = pushes_both start mid new at.done first _ _ refl at.pushed p;
         }
 
-    -- or pushing it fails
+    -- If pushing the next bytes fails, the whole push fails.
     pub pushing_stopped : (fault : Fault) (result : Result (Unit {0}) Fault) → Pushes contents mid new first (Err fault)
         → IsErrAnd result (λ y. y ≡ fault) → Pushes contents start new all result
     pushing_stopped fault result p is =
         pushes_first start new (at.done ++ first) rest all fault result parted
         (pushes_both start mid new at.done first _ _ refl at.pushed p) is
 
-  -- nothing is to come
+  -- If nothing remains, all bytes were pushed.
   pub pushing_all : (start new : BlockWriter W) (all rest : List ℕ) → Pushing contents start new all rest → rest ≡ []
       → Pushes contents start new all (Ok tt)
   pushing_all start new all rest at e =

@@ -1,5 +1,4 @@
--- The listing of tokens: a line for each, with its start, its length, its kind and the fields of
--- that.
+-- The listing of tokens has a line for each token, with its start, its length, its kind and the fields of the kind.
 use Rattle.std.specs.Prelude.{ℕ, ◌+◌, Bool, true, false, List, [], ◌∷◌, ◌++◌, codes, decimal, Option, Some, None}
 use Rattle.rustc_lexer.specs.declared.token.Base.{Base}
 use Rattle.rustc_lexer.specs.declared.token.Base.TheVariants.{Binary, Octal, Decimal, Hexadecimal}
@@ -32,11 +31,11 @@ base_text Octal = codes "8"
 base_text Decimal = codes "10"
 base_text Hexadecimal = codes "16"
 
--- a field: a space, its name, an equals sign and its value
+-- A field is a space, its name, an equals sign and its value.
 unfoldable pub field : List ℕ → List ℕ → List ℕ
 field name value = 32 ∷ (name ++ 61 ∷ value)
 
--- the fields of the kind of a literal
+-- The kind of a literal has these fields.
 unfoldable pub literal_fields : LiteralKind → List ℕ
 literal_fields (Int base empty_int) =
     field (codes "base") (base_text base) ++ field (codes "empty_int") (bool_text empty_int)
@@ -52,11 +51,11 @@ literal_fields (RawStr n_hashes) = field (codes "n_hashes") (hashes_text n_hashe
 literal_fields (RawByteStr n_hashes) = field (codes "n_hashes") (hashes_text n_hashes)
 literal_fields (RawCStr n_hashes) = field (codes "n_hashes") (hashes_text n_hashes)
 
--- the kind of a literal and its fields
+-- A literal is listed with its kind, followed by the fields of that kind.
 abbrev pub literal_text : LiteralKind → List ℕ
 literal_text kind = field (codes "kind") (literal_entry kind).1 ++ literal_fields kind
 
--- the fields of a kind
+-- A kind has these fields.
 unfoldable pub fields_text : TokenKind → List ℕ
 fields_text (LineComment doc_style) = field (codes "doc_style") (style_text doc_style)
 fields_text (BlockComment doc_style terminated) =
@@ -71,11 +70,10 @@ fields_text (Lifetime starts_with_number) =
     field (codes "starts_with_number") (bool_text starts_with_number)
 fields_text kind = []
 
--- where a token begins and how long it is, each with a space after it
+-- The place of a token is its start and its length, each with a space after it.
 abbrev pub place_text : ℕ → ℕ → List ℕ
 place_text start len = decimal start ++ (codes " " ++ (decimal len ++ codes " "))
 
--- the name of a kind
 abbrev pub kind_name : TokenKind → List ℕ
 kind_name kind = (kind_entry kind).1
 
@@ -83,7 +81,7 @@ unfoldable pub line_text : ℕ → Token → List ℕ
 line_text start token =
     place_text start token.len ++ (kind_name token.kind ++ (fields_text token.kind ++ 10 ∷ []))
 
--- the lines of tokens, of which the first begins at `start`
+-- Tokens are listed in order, one line each, if the first of them starts at offset `start`.
 abbrev pub listing_from : ℕ → List Token → List ℕ
 listing_from start [] = []
 listing_from start (t ∷ ts) = line_text start t ++ listing_from (start + t.len) ts
@@ -91,7 +89,7 @@ listing_from start (t ∷ ts) = line_text start t ++ listing_from (start + t.len
 abbrev pub listing : List Token → List ℕ
 listing tokens = listing_from 0 tokens
 
--- the line that tells the length of a shebang line, where there is one
+-- A shebang line is listed with its length, or with `none` if the text has none.
 abbrev pub shebang_line : Option ℕ → List ℕ
 shebang_line None = codes "none" ++ 10 ∷ []
 shebang_line (Some length) = decimal length ++ 10 ∷ []

@@ -17,8 +17,8 @@ use Rattle.lexdump_run.specs.declared.job.Job.{Job}
 use Rattle.lexdump_run.specs.declared.job.Job.TheVariants.{Plain, Front, Shebang, Edit}
 use Rattle.lexdump_run.specs.Listing.{listing, shebang_line}
 
--- what is printed for a text. If there are edits, all are valid, each for the text that those
--- before it leave
+-- Holds for the output of a job for a text. If there are edits, all are valid, each for the text that the earlier edits
+-- leave.
 abbrev pub IsPrinted : Job → List ℕ → List ℕ → Type 0
 IsPrinted (Plain edition) text made = made ≡ listing (tokens_of (part edition) text)
 IsPrinted Front text made = made ≡ listing (tokens_of (source newest) text)
@@ -27,14 +27,14 @@ IsPrinted (Edit edition edits) text made =
     AreEdits text edits.items
     × (made ≡ listing (tokens_of (part edition) (apply_list text edits.items)))
 
--- the list of edits stops at this edit: those before it are valid, and it is refused for the text
--- that they leave, by the rule of `rustc_lexer`
+-- Holds if a list of edits stops at this edit: the edits before it are valid, and it is rejected for the text that they
+-- leave, by the rule of `rustc_lexer`.
 abbrev pub StopsAt : EditStop → List ℕ → List TextEdit → Type 0
 StopsAt stop text edits =
     AreEdits text (take (stop_at stop) edits)
     × IsStop stop (apply_list text (take (stop_at stop) edits)) edits
 
--- why edits are not made: one is refused, or an allocation failed
+-- Holds for the faults of edits that were not applied: one of them was rejected, or an allocation failed.
 abbrev pub IsRefused : List ℕ → List TextEdit → Fault → Type 0
 IsRefused text edits (EditRange at) = StopsAt (RangeStop at) text edits
 IsRefused text edits (EditTooLong at) = StopsAt (TooLongStop at) text edits
@@ -45,8 +45,8 @@ abbrev pub edits_of : Job → List TextEdit
 edits_of (Edit edition edits) = edits.items
 edits_of job = []
 
--- how a run over a text ends, and what is written: on Ok all that is printed; after a failed
--- write a prefix of it; if the edits are not made, nothing
+-- Holds if a run over a text can have this result: on `Ok` all output was written, after a failed write a prefix of it,
+-- and nothing if the edits were not applied.
 abbrev pub Prints : Job → List ℕ → Option (List ℕ) → Option (List ℕ) → Result (Unit {0}) Fault
     → Type 0
 Prints job text old new (Ok done) =
@@ -55,8 +55,8 @@ Prints job text old new (Err Write) =
     (made : List ℕ) × IsPrinted job text made × AppendsFront old new made
 Prints job text old new (Err fault) = IsRefused text (edits_of job) fault × Keeps old new
 
--- how a run over bytes ends. Nothing is written after a failed read or a failed allocation, or if
--- the bytes are too many or not UTF-8. Otherwise it is a run over a text
+-- Holds if a run over bytes can have this result. Nothing is written after a failed read or a failed allocation, or if
+-- the bytes are too long or not UTF-8. Otherwise it is a run over a text.
 abbrev pub Ends : Job → List ℕ → Option (List ℕ) → Option (List ℕ) → Result (Unit {0}) Fault
     → Type 0
 Ends job bytes old new (Err Read) = Keeps old new

@@ -1,4 +1,4 @@
--- The effect of writing bytes through a writer that may hold some back.
+-- The effect of writing bytes with a writer that can hold some back.
 use Rattle.std.specs.Prelude.{ℕ, ◌≡◌, ◌||◌, List, ◌++◌, take, Option, Result, Ok, Err, is_err, IfErr, OnErr, OnOk}
 use Rattle.program_io.specs.Known.{AppendsFront, Went}
 use Rattle.program_io.specs.Watch.{has_failed}
@@ -8,12 +8,12 @@ use Rattle.lexdump_run.specs.declared.job.Job.{Job}
 use Rattle.lexdump_run.specs.declared.output.BlockWriter.{BlockWriter}
 use Rattle.lexdump_run.specs.Outcome.{edits_of, IsPrinted, IsRefused}
 
--- the bytes that are not written yet
+-- The writer holds these bytes, which are not written yet.
 abbrev pub held : {W : Type 0} → BlockWriter W → List ℕ
 held writer = take writer.len writer.bytes
 
--- more bytes are added after those that are held. What was written to the same output, and what
--- is held afterwards, are all of them in order. If a write failed, a prefix of them all was written
+-- Holds if bytes are added after the held ones. All of these bytes, in order, were written to the same output or are
+-- held afterwards. If a write failed, a prefix of them was written.
 pub record Pushes {W : Type 0} (contents : W → Option (List ℕ)) (old new : BlockWriter W)
     (bytes : List ℕ) (result : Result (Unit {0}) Fault) : Type 0 where
   pub same_output : new.output.ghost_name ≡ old.output.ghost_name
@@ -24,7 +24,7 @@ pub record Pushes {W : Type 0} (contents : W → Option (List ℕ)) (old new : B
   pub err : OnErr result (AppendsFront (contents old.output.now.inner)
       (contents new.output.now.inner) (held old ++ bytes))
 
--- what is printed goes through the writer; or the edits are not made, and nothing was written
+-- Holds if the output of the job was pushed to the writer, or if the edits were not applied and nothing was pushed.
 abbrev pub Lists : {W : Type 0} → (W → Option (List ℕ)) → Job → List ℕ → BlockWriter W
     → BlockWriter W → Result (Unit {0}) Fault → Type 0
 Lists contents job text old new (Ok done) =

@@ -1,4 +1,4 @@
-//! What a run has to do, as its arguments say.
+//! The job that the arguments describe.
 ghost use Rattle.std.specs.Prelude.{◌≡◌, ◌<◌, ◌↔◌, IfErr, IfOk, IsSome, IsTrue, Some, length, map, string_bytes};
 ghost use Rattle.std.specs.Option.{option_map};
 ghost use Rattle.lexdump_run.specs.Job.{command_of, edit_job, first_replacement, job_in, job_of, place_of, replacement, replacements_of, IsJobFault};
@@ -8,18 +8,18 @@ use rustc_lexer::{Edit, Edition};
 use std::alloc::{AllocError, Global};
 use std::str::FromStr;
 
-/// What a run does with its input.
+/// The work of a run with its input.
 #[derive(Drop)]
 pub enum Job<'a> {
     /// List the tokens of the text in an edition.
     Plain {
         edition: Edition,
     },
-    /// List the tokens of the text, which may begin with a frontmatter, in the newest edition.
+    /// List the tokens of the text, which may start with a frontmatter, in the newest edition.
     Front,
     /// Print the length of the shebang line.
     Shebang,
-    /// Make the edits, then list the tokens of the text in an edition.
+    /// Apply the edits, then list the tokens of the text in an edition.
     Edit {
         edition: Edition,
         edits: Vec<Edit<'a>>,
@@ -31,8 +31,7 @@ pub enum Job<'a> {
 ///
 /// # Errors
 ///
-/// `Fault::Arguments` if they ask for no job, and `Fault::Memory` if an allocation for edits
-/// failed.
+/// Returns `Fault::Arguments` if the arguments describe no job, and `Fault::Memory` if an allocation for edits failed.
 pub fn read_job<'a>(alloc: Global, words: &'a [String]) -> Result<Job<'a>, Fault>
     ensures job { IfOk result
         (λ job. job_of (map string_bytes words.now) ≡ Some (command_of job)) }
@@ -50,7 +49,7 @@ pub fn read_job<'a>(alloc: Global, words: &'a [String]) -> Result<Job<'a>, Fault
     }
 }
 
-/// Reads the arguments of a job that may name an edition.
+/// Reads the arguments of a job in the given edition.
 fn read_job_in<'a>(alloc: Global, words: &'a [String], edition: Edition) -> Result<Job<'a>, Fault>
     ensures job { IfOk result
         (λ job. job_in edition (map string_bytes words.now) ≡ Some (command_of job)) }
@@ -129,7 +128,7 @@ fn first_edit<'a>(words: &'a [String]) -> Option<(Edit<'a>, &'a [String])>
     Some((edit, rest))
 }
 
-/// The most digits that an offset may have.
+/// The maximum number of digits of an offset.
 const MOST_DIGITS: usize = 10;
 
 /// Reads an offset.
@@ -137,7 +136,7 @@ const MOST_DIGITS: usize = 10;
 fn read_place(word: &str) -> Option<usize>
     ensures { result ≡ place_of word.now }
 {
-    // `parse` would take a plus sign, which is not a digit.
+    // `parse` would accept a plus sign, which is not a digit.
     if word.len() > MOST_DIGITS || word.starts_with('+') {
         return None;
     }

@@ -1,5 +1,4 @@
-//! The program `lexdump`: prints the tokens of a Rust source, one per line. It reads and writes
-//! whatever ends it is given.
+//! The program `lexdump`, for any reader and writers: prints the tokens of a Rust source, one per line.
 #![tactic(auto)]
 
 mod job;

@@ -1,4 +1,4 @@
-//! Output in blocks: collects bytes until a block is full, then writes it at once.
+//! Output in blocks: bytes are collected until a block is full, which is then written at once.
 ghost use Rattle.std.specs.Prelude.{◌≡◌, ◌+◌, ◌≤◌, [], Ok, true, length, IfOk, OnErr, OnOk};
 ghost use Rattle.std.specs.Fmt.{decimal};
 ghost use Rattle.std.specs.List.{flat_map};
@@ -10,8 +10,7 @@ use std::io::Write;
 /// The size of a block in bytes.
 const BLOCK: usize = 65536;
 
-/// A writer that holds back bytes, at most one block. They are stored in place, so nothing is
-/// allocated.
+/// A writer that holds back at most one block of bytes. They are stored in place, so nothing is allocated.
 #[derive(Drop)]
 pub struct BlockWriter<'a, W> {
     output: &'a mut Watched<W>,
@@ -23,7 +22,7 @@ pub struct BlockWriter<'a, W> {
 impl<'a, W: Write> BlockWriter<'a, W> {
     ghost use Rattle.lexdump_run.specs.Pushed.{held, Pushes};
 
-    /// Makes a writer that holds nothing.
+    /// Creates a writer that holds nothing.
     pub fn new(output: &'a mut Watched<W>) -> BlockWriter<'a, W>
         ensures same_output { result.output.ghost_name ≡ output.entry.ghost_name }
         ensures output { result.output.now ≡ output.old }
@@ -75,8 +74,7 @@ impl<'a, W: Write> BlockWriter<'a, W> {
         Ok(())
     }
 
-    /// Writes the block, then adds the bytes. If they are more than a block they are written at
-    /// once.
+    /// Writes the block, then adds the bytes. If they are longer than a block, they are written directly.
     #[inline(never)]
     #[tactic(auto, using(crate::proofs::PushLemmas::pushes_first, crate::proofs::PushLemmas::pushes_both, std::proofs::lemmas::Grind::common_steps))]
     fn push_past(&mut self, bytes: &[u8]) -> Result<(), Fault>
@@ -101,7 +99,7 @@ impl<'a, W: Write> BlockWriter<'a, W> {
         self.len = end;
     }
 
-    /// Writes the block and empties it. On an error it stays as it was.
+    /// Writes the block and empties it. On an error the block is unchanged.
     fn write_out(&mut self) -> Result<(), Fault>
         ensures pushed { Pushes W.contents self.old self.new [] result }
         ensures empty { OnOk result (self.new.len ≡ 0) }
@@ -113,7 +111,7 @@ impl<'a, W: Write> BlockWriter<'a, W> {
         Ok(())
     }
 
-    /// Writes the block, empties it and flushes. On an error it stays as it was.
+    /// Writes the block, empties it and flushes. On an error the block is unchanged.
     pub fn finish(&mut self) -> Result<(), Fault>
         ensures pushed { Pushes W.contents self.old self.new [] result }
         ensures empty { OnOk result (held self.new ≡ []) }

@@ -14,9 +14,8 @@ use std::alloc::Global;
 use std::env::Args;
 use std::io::{Read, Write};
 
-/// Runs the program: reads arguments and input, writes the output, reports an error, and returns
-/// the exit status. The first argument is the program's name; they are `None` if the system did
-/// not give them.
+/// Runs the program: reads arguments and input, writes the output, reports an error, and returns the exit status. The
+/// first argument is the program's name. `args` is `None` if the arguments could not be read.
 pub fn program<R: Read, W: Write, E: Write>(
     alloc: Global,
     args: Option<Args>,
@@ -39,7 +38,7 @@ pub fn program<R: Read, W: Write, E: Write>(
     report("lexdump: ", "bad arguments", &outcome, false, errors)
 }
 
-/// Reads the arguments and does what they ask for.
+/// Reads the arguments and does the job that they describe.
 fn dump<R: Read, W: Write>(
     alloc: Global,
     args: Option<Args>,

@@ -14,22 +14,22 @@ use rustc_lexer::{Edition, FrontmatterAllowed};
 use std::alloc::Global;
 use std::io::{Read, Write};
 
-/// Reads all of the input, then prints what the job asks for.
+/// Reads all of the input, then prints the output of the job.
 ///
-/// The lines are written in blocks. `Ok` means that the output was flushed last.
+/// The lines are written in blocks. After `Ok`, the last call of the output was a flush.
 ///
 /// # Errors
 ///
-/// After each fault but `Fault::Write` nothing was written, since all memory is allocated before
-/// the first byte is.
+/// After every fault except `Fault::Write`, nothing was written, since all memory is allocated before the first byte is
+/// written.
 ///
 /// - `Fault::Read`: a read failed.
 /// - `Fault::TooLong`: the input has more than `u32::MAX` bytes.
 /// - `Fault::NotUtf8`: it is not UTF-8.
-/// - `Fault::EditRange`, `Fault::EditTooLong`: an edit of the job is refused for the text that the
-///   edits before it leave.
+/// - `Fault::EditRange`, `Fault::EditTooLong`: an edit of the job was rejected for the text that the edits before it
+///   leave.
 /// - `Fault::Memory`: an allocation failed.
-/// - `Fault::Write`: a write or the flush failed. A beginning of the output was written.
+/// - `Fault::Write`: a write or the flush failed. A prefix of the output was written.
 #[tactic(auto, using(crate::proofs::OutcomeLemmas::ends_unread))]
 pub fn run<R: Read, W: Write>(
     alloc: Global,
@@ -50,7 +50,7 @@ pub fn run<R: Read, W: Write>(
     lines.finish()
 }
 
-/// Prints what the job asks for.
+/// Prints the output of the job.
 fn print<W: Write>(
     alloc: Global,
     job: &Job<'_>,

@@ -1,4 +1,4 @@
--- The known bytes of readers and writers, over loops.
+-- Lemmas about the known bytes of readers and writers, for loops.
 use Rattle.std.proofs.Common.{◌≡◌, ℕ, ◌+◌, ◌-◌, List, [], ◌++◌, length, take, drop, refl, arith, append_assoc}
 use Rattle.std.proofs.Common.{append-nil, length-append, take-append-drop, take_at, length-drop, take_all, Option}
 use Rattle.std.proofs.lemmas.Grind.{common_steps}
@@ -37,16 +37,16 @@ pub went_front : (old new : Option (List ℕ)) (text rest : List ℕ) → Went o
 went_front old new text rest w =
     (length w.front, grind (arith, common_steps, length-append), grind (arith, common_steps, take_at))
 
--- what is cut off a slice past its first n bytes, as a slice of a slice
+-- The slice of a text after its first n bytes, up to its end, is the text without these bytes.
 pub cut_past : (n : ℕ) (rest : List ℕ) → take (length rest - n) (drop n rest) ≡ drop n rest
 cut_past n rest = grind (arith, common_steps, length-drop, take_all)
 
--- a beginning of a text is one of each text that goes on from it
+-- If a prefix of a text was appended, so was a prefix of each text that continues it.
 pub front_first : (old new : Option (List ℕ)) (xs ys text : List ℕ) → xs ++ ys ≡ text → AppendsFront old new xs
     → AppendsFront old new text
 front_first old new xs ys text e f = grind (arith, common_steps, length-append, take-append-le)
 
--- a text and then a beginning of another
+-- If a text and then a prefix of another text were appended, so was a prefix of both joined.
 pub front_more : (old mid new : Option (List ℕ)) (xs ys text : List ℕ) → xs ++ ys ≡ text → Appends old mid xs
     → AppendsFront mid new ys → AppendsFront old new text
 front_more old mid new xs ys text e a f = (
@@ -55,7 +55,7 @@ front_more old mid new xs ys text e a f = (
   grind (arith, common_steps, take-append-add, appends-more),
 )
 
--- two texts and then a beginning of a third
+-- If two texts and then a prefix of a third were appended, so was a prefix of all three joined.
 pub front_last : (old mid late new : Option (List ℕ)) (xs ys zs text : List ℕ) → xs ++ (ys ++ zs) ≡ text
     → Appends old mid xs → Appends mid late ys → AppendsFront late new zs → AppendsFront old new text
 front_last old mid late new xs ys zs text e a b f =

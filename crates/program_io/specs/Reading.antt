@@ -4,8 +4,8 @@ use Rattle.std.specs.Global.{Global}
 use Rattle.program_io.specs.declared.fault.Fault.{Fault}
 use Rattle.program_io.specs.declared.fault.Fault.TheVariants.{TooLong, Memory, Read}
 
--- how reading ends. If the bytes are known: Ok has all of them, and they are too long only if
--- they have 4 GiB or more
+-- Holds if reading to the end can have this result. If the bytes are known, `Ok` contains all of them, and `TooLong`
+-- means that they are 4 GiB or more.
 abbrev pub EndsReading : Option (List ℕ) → Result (Vec ℕ Global) Fault → Type 0
 EndsReading known (Ok read) = IfSome known (λ bytes. read.items ≡ bytes)
 EndsReading known (Err TooLong) = IfSome known (λ bytes. 2 ^ 32 ≤ length bytes)

@@ -10,8 +10,8 @@ use Rattle.program_io.specs.declared.fault.Fault.TheVariants.{Arguments, NotUtf8
 use Rattle.program_io.specs.Known.{AppendsFront}
 use Rattle.program_io.specs.Watch.{has_failed, is_broken_pipe, is_closed, Watch}
 
--- why an input yields no text. It says something of the bytes if these are known; they may be
--- lost after a failed read or a failed allocation
+-- Holds for the faults of an input that is not read as a text. `NotUtf8` and `TooLong` state a property of the bytes,
+-- if they are known. After a failed read or allocation nothing is stated about them.
 abbrev pub IsInputFault : Option (List ℕ) → Fault → Type 0
 IsInputFault known NotUtf8 = IfSome known (λ bytes. (length bytes < 2 ^ 32) × ¬ (IsUtf8 bytes))
 IsInputFault known TooLong = IfSome known (λ bytes. 2 ^ 32 ≤ length bytes)
@@ -19,57 +19,55 @@ IsInputFault known Memory = Unit {0}
 IsInputFault known Read = Unit {0}
 IsInputFault known fault = ⊥
 
--- how writing a text ends, and what is written: all of it on Ok, and a prefix of it if the writer
--- failed
+-- Holds if writing a text can have this result: all of it was written on `Ok`, and a prefix of it if the writer failed.
 abbrev pub Writes : List ℕ → Option (List ℕ) → Option (List ℕ) → Result (Unit {0}) Fault → Type 0
 Writes text old new (Ok done) = Appends old new text
 Writes text old new (Err Write) = AppendsFront old new text
 Writes text old new (Err fault) = ⊥
 
--- if the bytes are known, they are UTF-8, shorter than 4 GiB, and have this property
+-- Holds if the bytes, when known, are UTF-8, shorter than 4 GiB, and have the given property.
 abbrev pub OfText : (List ℕ → Type 0) → Option (List ℕ) → Type 0
 OfText Holds known = IfSome known (λ bytes. IsUtf8 bytes × (length bytes < 2 ^ 32) × Holds bytes)
 
--- how a run ends that writes what it makes of a text: it writes all of that, or a prefix of it,
--- or there is no text
+-- Holds if a run that reads a text and writes `made` of it can have this result: it wrote all of that, or a prefix of
+-- it if the writer failed, or it read no text.
 abbrev pub Makes : (List ℕ → List ℕ) → Option (List ℕ) → Option (List ℕ) → Option (List ℕ)
     → Result (Unit {0}) Fault → Type 0
 Makes made known old new (Ok done) = OfText (λ bytes. Appends old new (made bytes)) known
 Makes made known old new (Err Write) = OfText (λ bytes. AppendsFront old new (made bytes)) known
 Makes made known old new (Err fault) = IsInputFault known fault
 
--- the state of the reader and of the writer after a run, if the known bytes of the output grew
--- from `old` to `new`
+-- Holds for the state of the reader and the writer after a run, if the known bytes of the output changed from `old` to
+-- `new`.
 pub record Leaves {R W : Type 0} (input : Watch R) (output : Watch W)
     (old new : Option (List ℕ)) (outcome : Result (Unit {0}) Fault) : Type 0 where
-  -- the outcome reports a failed reader or writer exactly if one failed, by a closed pipe or
-  -- otherwise
+  -- The outcome is `Read` or `Write` exactly if the reader or the writer failed, by a closed pipe or otherwise.
   pub read : IsErrOf outcome Read ↔ IsTrue (has_failed input)
   pub write : IsErrOf outcome Write ↔ IsTrue (has_failed output)
-  -- on Ok, the last call of the output was a flush that succeeded
+  -- On `Ok`, the last call of the output was a flush that succeeded.
   pub flushed : IfOk outcome (λ _. output.flushed ≡ true)
-  -- if the fault is not one of the output, the output is unchanged
+  -- If the fault is not `Write`, the output is unchanged.
   pub silent : IfErr outcome (λ fault. fault ≢ Write → Keeps old new)
 
 closed_failed : (failure : Option ErrorKind) → IsTrue (is_broken_pipe failure) → IsSome failure
 closed_failed None is = absurd (true≢false (sym is))
 closed_failed (Some kind) is = refl
 
--- so where nobody reads the output any more, the outcome is a failed write
+-- If nobody reads the output any more, the outcome is a failed write.
 pub closed_is_told : {R W : Type 0} (input : Watch R) (output : Watch W)
     (old new : Option (List ℕ)) (outcome : Result (Unit {0}) Fault)
     → Leaves input output old new outcome → IsTrue (is_closed output) → IsErrOf outcome Write
 closed_is_told input output old new outcome leaves is =
     leaves.write.1 (closed_failed output.failure is)
 
--- the outcome of a job, or the error in the arguments if there is none
+-- Holds for the outcome of a job, or for `Arguments` if the arguments describe no job.
 abbrev pub DoesJob : {J : Type 0} → (J → Result (Unit {0}) Fault → Type 0) → Option J
     → Result (Unit {0}) Fault → Type 0
 DoesJob Does None outcome = outcome ≡ Err Arguments
 DoesJob Does (Some job) outcome = Does job outcome
 
--- the outcome of a run by what the process is started with, or None if that could not be read.
--- Unless an allocation failed, it could be, and the run does the job that it asks for
+-- Holds for the outcome of a run, by the start of its process, which includes the arguments, or by `None` if that could
+-- not be read. Unless the outcome is `Memory`, it was read, and the run does the job that it describes.
 abbrev pub RanBy : {A J : Type 0} → (A → Option J) → (J → Result (Unit {0}) Fault → Type 0)
     → Option A → Result (Unit {0}) Fault → Type 0
 RanBy job_of Does None outcome = outcome ≡ Err Memory

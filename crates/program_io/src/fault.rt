@@ -1,4 +1,4 @@
-//! Why a program stops, and what it says then.
+//! The reasons why a program stops, with their messages and exit statuses.
 ghost use Rattle.std.specs.Prelude.{◌≡◌, ◌++◌, ◌||◌, ◌∷◌, [], false, is_err, true, IfOk, OnErr, OnOk};
 ghost use Rattle.std.specs.Io.KnownBytes.{Appends};
 ghost use Rattle.program_io.specs.Fault.{fault_line, fault_text, is_told, number_text, status_of, IsReported};
@@ -12,28 +12,28 @@ use itoa::Buffer;
 use std::alloc::{AllocError, AllocFailed};
 use std::io::Write;
 
-/// Why a program stops.
+/// The reason why a program stops.
 #[derive(Clone, Copy, Debug, PartialEq, Eq)]
 pub enum Fault {
-    /// The program does not take these arguments.
+    /// The arguments are not valid.
     Arguments,
     /// The input is not UTF-8.
     NotUtf8,
     /// The input has more than `u32::MAX` bytes.
     TooLong,
-    /// The range of edit number `at`, from 0, is not inside the text or not between characters.
+    /// The range of the edit with index `at` is out of bounds or not on char boundaries.
     EditRange { at: usize },
-    /// Edit number `at`, from 0, would make a text of more than `u32::MAX` bytes.
+    /// The edit with index `at` would make the text longer than `u32::MAX` bytes.
     EditTooLong { at: usize },
     /// An allocation failed.
     Memory,
     /// The reader failed.
     Read,
-    /// The writer failed, or took none of the bytes that it was given.
+    /// The writer failed, or wrote 0 of the bytes that it was given.
     Write,
 }
 
-/// Returns the exit status of a program that stops.
+/// Returns the exit status of a program that stops for this reason.
 pub fn status(fault: &Fault) -> u8
     ensures { result ≡ status_of fault.now }
 {
@@ -47,11 +47,11 @@ pub fn status(fault: &Fault) -> u8
     }
 }
 
-/// Writes why a run stopped, after the name of the program, and flushes. Returns the exit status.
+/// Writes the reason why a run stopped, after the name of the program, and flushes. Returns the exit status.
 ///
-/// `unknown` is the message for arguments that the program does not take. If the run did not
-/// stop, or if it is `quiet` and a write failed, this writes nothing and returns 0. If `errors`
-/// fails, it has taken a beginning of the line, and the status is the same.
+/// `unknown` is the message for invalid arguments. If the run did not stop, or if it is `quiet` and a write failed,
+/// this function writes nothing and returns 0. If `errors` fails, a prefix of the line has been written, and the status
+/// is the same.
 pub fn report<E: Write>(
     name: &str,
     unknown: &str,
@@ -66,7 +66,7 @@ pub fn report<E: Write>(
     let Err(fault) = outcome else {
         return 0;
     };
-    // If this can't be written, there is nobody to tell.
+    // A failure of the error stream itself cannot be reported, so it is ignored.
     if !is_told(fault, quiet) {
         let _ = errors.flush();
         return 0;
@@ -75,7 +75,7 @@ pub fn report<E: Write>(
     status(fault)
 }
 
-/// Returns whether a fault is told: a failed write of a quiet run is not.
+/// Returns whether a fault is reported. A failed write of a quiet run is not.
 fn is_told(fault: &Fault, quiet: bool) -> bool
     ensures { result ≡ is_told fault.now quiet }
 {
@@ -85,7 +85,7 @@ fn is_told(fault: &Fault, quiet: bool) -> bool
     }
 }
 
-/// Writes the line of a fault, and flushes.
+/// Writes the line that reports a fault, and flushes.
 #[tactic(auto, using(crate::proofs::KnownLemmas::front_first, crate::proofs::KnownLemmas::front_more))]
 fn tell<E: Write>(
     name: &str,
@@ -116,8 +116,8 @@ fn digits(buffer: &mut Buffer, number: Option<usize>) -> &str
     }
 }
 
-/// Returns the message of a fault and its newline: what stands before the number of the edit,
-/// that number, and the rest.
+/// Returns the message of a fault and its newline in three parts: the text before the index of the edit, that index,
+/// and the rest.
 #[tactic(auto, unfolding(crate::specs::Fault::fault_text))]
 fn message<'a>(fault: &Fault, unknown: &'a str) -> (&'a str, Option<usize>, &'a str)
     ensures { result.0.now ++ (number_text result.1 ++ result.2.now)

@@ -1,5 +1,5 @@
-//! What the programs share: readers and writers that record how they failed, functions that read
-//! and write texts over them, the arguments, and why a program stops.
+//! Code that the programs share: readers and writers that record how they failed, functions that read and write texts
+//! with them, the arguments, and the reasons why a program stops.
 #![tactic(auto)]
 
 mod fault;

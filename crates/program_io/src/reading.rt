@@ -1,4 +1,4 @@
-//! Reading all of an input.
+//! Reading an input to its end.
 ghost use Rattle.std.specs.Prelude.{◌≡◌, ◌↔◌, ◌^◌, ◌<◌, false, IfOk, IsErrOf, IsTrue, length};
 ghost use Rattle.program_io.specs.Reading.{EndsReading};
 ghost use Rattle.program_io.specs.Watch.{has_failed};
@@ -8,15 +8,15 @@ use crate::watched::Watched;
 use std::alloc::Global;
 use std::io::Read;
 
-/// The number of bytes that each read asks for.
+/// The size of the buffer of each read, in bytes.
 const PIECE: usize = 65536;
 
 /// Reads all bytes up to the end of the input, at most `u32::MAX` of them.
 ///
 /// # Errors
 ///
-/// `Fault::Read` if a read failed, `Fault::TooLong` if there are more bytes, and `Fault::Memory`
-/// if an allocation failed. What was read is lost then.
+/// Returns `Fault::Read` if a read failed, `Fault::TooLong` if there are more bytes, and `Fault::Memory` if an
+/// allocation failed. The bytes that were read are then lost.
 pub fn read_all<R: Read>(alloc: Global, input: &mut Watched<R>) -> Result<Vec<u8>, Fault>
     requires reads { has_failed input.old ≡ false }
     ensures failed { IsErrOf result Fault.Read ↔ IsTrue (has_failed input.new) }

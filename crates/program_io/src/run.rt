@@ -14,8 +14,8 @@ use std::io::{Read, Write};
 ///
 /// # Errors
 ///
-/// `Fault::Read` if a read failed, `Fault::TooLong` if there are more bytes, `Fault::NotUtf8` if
-/// they are not UTF-8, and `Fault::Memory` if an allocation failed. What was read is lost then.
+/// Returns `Fault::Read` if a read failed, `Fault::TooLong` if there are more bytes, `Fault::NotUtf8` if they are not
+/// UTF-8, and `Fault::Memory` if an allocation failed. The bytes that were read are then lost.
 #[tactic(auto, using(std::proofs::lemmas::Grind::common_steps))]
 pub fn read_text<R: Read>(alloc: Global, input: &mut Watched<R>) -> Result<String, Fault>
     requires reads { has_failed input.old ≡ false }
@@ -33,7 +33,7 @@ pub fn read_text<R: Read>(alloc: Global, input: &mut Watched<R>) -> Result<Strin
 ///
 /// # Errors
 ///
-/// `Fault::Write` if a write or the flush failed. The output has taken a beginning of the text.
+/// Returns `Fault::Write` if a write or the flush failed. A prefix of the text has then been written.
 pub fn put<W: Write>(output: &mut Watched<W>, text: &str) -> Result<(), Fault>
     requires writes { has_failed output.old ≡ false }
     ensures write { IsErrOf result Fault.Write ↔ IsTrue (has_failed output.new) }

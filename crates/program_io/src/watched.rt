@@ -9,16 +9,15 @@ use std::io;
 use std::io::{ErrorKind, Read, Write};
 use std::marker::Model;
 
-/// A reader or a writer that records how it failed, and whether the last call was a flush that
-/// succeeded. It passes on each call, and each result.
+/// A reader or a writer that records its first failure, and whether the last call was a flush that succeeded. It passes
+/// on each call and each result.
 ///
-/// It has *failed* if a call once returned an error, or a write once took none of the bytes that
-/// it was given. It is *closed* if the first call that failed did because nobody reads the output
-/// any more.
+/// It has *failed* if a call once returned an error, or a write once wrote 0 of the bytes that it was given. It is
+/// *closed* if the first failure was that nobody reads the output any more.
 #[derive(Drop)]
 pub struct Watched<T> {
     inner: T,
-    /// The kind of the first failure, `WriteZero` if it was a write that took nothing.
+    /// The kind of the first failure; `WriteZero` if a write of some bytes wrote 0.
     failure: Option<ErrorKind>,
     flushed: bool,
 }
@@ -32,7 +31,7 @@ impl<T> Model for Watched<T> {
 }
 
 impl<T> Watched<T> {
-    /// Wraps a reader or a writer. The new one has not failed.
+    /// Wraps a reader or a writer. The result has not failed.
     pub fn new(inner: T) -> Watched<T>
         ensures { result ≡ record { inner = inner; failure = None; flushed = false } }
     {
@@ -43,29 +42,28 @@ impl<T> Watched<T> {
         }
     }
 
-    /// Returns whether it has failed.
+    /// Returns whether the stream has failed.
     pub fn failed(&self) -> bool
         ensures { result ≡ has_failed self.now }
     {
         self.failure.is_some()
     }
 
-    /// Returns whether it has failed only because nobody reads the output any more.
+    /// Returns whether the first failure was that nobody reads the output any more.
     pub fn closed(&self) -> bool
         ensures { result ≡ is_closed self.now }
     {
         matches!(self.failure, Some(ErrorKind::BrokenPipe))
     }
 
-    /// Returns the reader or the writer itself.
+    /// Returns the reader or the writer inside.
     pub fn into_inner(self) -> T
         ensures { result ≡ self.inner }
     {
         self.inner
     }
 
-    /// Records how a call failed, if it did and none before it, and whether it was a flush that
-    /// succeeded.
+    /// Records the failure of a call, unless an earlier call failed, and whether the call was a flush that succeeded.
     fn note(&mut self, failure: Option<ErrorKind>, flushed: bool)
         ensures inner { self.new.inner ≡ self.old.inner }
         ensures failure { self.new.failure ≡ option_or self.old.failure failure }
@@ -76,7 +74,7 @@ impl<T> Watched<T> {
     }
 }
 
-/// Returns how a read or a flush failed, if it did.
+/// Returns the failure of a read or a flush, if it failed.
 fn failure_of<T>(answer: &io::Result<T>) -> Option<ErrorKind>
     ensures { result ≡ failure_of answer.now }
 {

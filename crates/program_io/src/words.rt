@@ -10,7 +10,7 @@ use std::env::Args;
 ///
 /// # Errors
 ///
-/// `AllocError` if an allocation failed.
+/// Returns `AllocError` if an allocation failed.
 pub fn past_name(alloc: Global, mut args: Args) -> Result<Vec<String>, AllocError>
     ensures { IfOk result (λ words. words.items ≡ drop 1 (into_iter_items args)) }
 {
@@ -26,8 +26,7 @@ pub fn past_name(alloc: Global, mut args: Args) -> Result<Vec<String>, AllocErro
 ///
 /// # Errors
 ///
-/// `AllocError` if an allocation failed. `None` stands for arguments that the program could not
-/// get because of that.
+/// Returns `AllocError` if an allocation failed, or if `args` is `None` because the arguments could not be read.
 pub fn given_words(alloc: Global, args: Option<Args>) -> Result<Vec<String>, AllocError>
     ensures { IfOk result (λ words. words_of args ≡ Some (map string_bytes words.items)) }
 {

@@ -1,4 +1,4 @@
-//! Writing all of some bytes.
+//! Writing bytes to the end.
 ghost use Rattle.std.specs.Prelude.{◌≡◌, ◌||◌, ◌++◌, true, is_err, IfErr, IfOk, IfSome, OnErr, OnOk};
 ghost use Rattle.std.specs.Io.KnownBytes.{Appends};
 ghost use Rattle.program_io.specs.Known.{AppendsFront};
@@ -12,8 +12,8 @@ use std::io::Write;
 ///
 /// # Errors
 ///
-/// `Fault::Write` if a write or the flush failed. The output has taken a beginning of the bytes,
-/// all of them if only the flush failed.
+/// Returns `Fault::Write` if a write or the flush failed. A prefix of the bytes has then been written, or all of them
+/// if only the flush failed.
 pub fn write_all<W: Write>(output: &mut Watched<W>, bytes: &[u8]) -> Result<(), Fault>
     ensures failed { has_failed output.new ≡ (has_failed output.old || is_err result) }
     ensures first { IfSome output.old.failure (λ kind. output.new.failure ≡ Some kind) }
@@ -32,7 +32,7 @@ pub fn write_all<W: Write>(output: &mut Watched<W>, bytes: &[u8]) -> Result<(), 
 ///
 /// # Errors
 ///
-/// `Fault::Write` if a write failed. The output has taken a beginning of the bytes.
+/// Returns `Fault::Write` if a write failed. A prefix of the bytes has then been written.
 #[tactic(auto, using(crate::proofs::KnownLemmas::went_more, crate::proofs::KnownLemmas::cut_past))]
 pub fn write_bytes<W: Write>(output: &mut Watched<W>, bytes: &[u8]) -> Result<(), Fault>
     ensures failed { has_failed output.new ≡ (has_failed output.old || is_err result) }
@@ -61,7 +61,7 @@ pub fn write_bytes<W: Write>(output: &mut Watched<W>, bytes: &[u8]) -> Result<()
 ///
 /// # Errors
 ///
-/// `Fault::Write` if a write or the flush failed. The output has taken a beginning of the texts.
+/// Returns `Fault::Write` if a write or the flush failed. A prefix of the texts has then been written.
 pub fn write_texts<W: Write>(
     output: &mut Watched<W>,
     one: &str,

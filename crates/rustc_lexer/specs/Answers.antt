@@ -1,6 +1,6 @@
--- What the grammar answers, under the names that contracts use. Each answer is taken from a value
--- whose type says that the grammar allows this answer and no other. A reader need only read that
--- type. How an answer is found, and the proof that it is the only one, are in laws/TheAnswers.antt.
+-- The results that the grammar allows, under the names that contracts use. Each result comes from a value whose type
+-- states that the grammar allows this result and no other, so only this type has to be read. How a result is found, and
+-- the proof that it is the only one, are in laws/TheAnswers.antt.
 use Rattle.std.specs.Prelude.{ℕ, ◌<◌, List, length, drop, Option, Result, chars}
 use Rattle.rustc_lexer.specs.{Edition, GuardedStr, RawStrError, Token}
 use Rattle.rustc_lexer.specs.Classes.{IsText, Utf8}
@@ -11,43 +11,43 @@ use Rattle.rustc_lexer.specs.State.{IsFirst, TakesGuarded, TakesNext, State}
 use Rattle.rustc_lexer.specs.laws.TheAnswers.{the_next, the_guarded, the_raw, the_shebang}
 use Rattle.rustc_lexer.specs.laws.TheLaws.{the_laws}
 
--- the tokens of a text
+-- Returns the tokens of a text.
 abbrev pub tokens_of : Mode → Utf8 → List Token
 tokens_of mode text =
     let the : TheOnly (IsText text) (AreTokens mode (chars text)) = the_laws.tokens mode text in
     the.answer
 
--- the first token of a text, read as a part in an edition
+-- Returns the first token of a text, lexed as a fragment in an edition.
 abbrev pub first_in : Edition → Utf8 → Token
 first_in edition text =
     let the : TheOnly (IsText text × (0 < length text)) (IsFirst edition text) =
     the_laws.first edition text in
     the.answer
 
--- the grammar of an edition, named by its year
+-- Returns the grammar of an edition, with the year of the edition as its id.
 abbrev pub grammar_of : Edition → Grammar
 grammar_of edition = record { first = first_in edition; id = year edition }
 
--- the token that a cursor takes, and its state after that
+-- Returns the next token of a cursor, and the cursor's state after it.
 abbrev pub advance : State → Token × State
 advance s =
     let the : TheOnly (IsText s.rest) (TakesNext s) = the_next s in
     the.answer
 
--- the guarded string that a cursor takes, if one begins there, and its state after that
+-- Returns the guarded string at a cursor, if one starts there, and the cursor's state after reading it.
 abbrev pub guarded : State → Option GuardedStr × State
 guarded s =
     let the : TheOnly (Unit {0}) (TakesGuarded s) = the_guarded s in
     the.answer
 
--- Ok if the raw string with this prefix is valid, otherwise the reason why not
+-- Returns Ok if the raw string with this prefix is valid, otherwise the error.
 abbrev pub raw_check : Utf8 → ℕ → Result Unit RawStrError
 raw_check text prefix =
     let the : TheOnly (Unit {0}) (IsRawAnswer prefix (drop prefix (chars text))) =
     the_raw text prefix in
     the.answer
 
--- the length of the shebang line of a text, if it has one
+-- Returns the length of the shebang line of a text in bytes, or None if there is no shebang line.
 abbrev pub shebang : Utf8 → Option ℕ
 shebang text =
     let the : TheOnly (IsText text) (IsShebang text) = the_shebang text in

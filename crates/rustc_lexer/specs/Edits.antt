@@ -9,49 +9,47 @@ use Rattle.rustc_lexer.specs.Partition.{Layout, bound, tokens_by, tokens_in}
 
 -- ---- one edit
 
--- the text after an edit that replaces the bytes from `start` up to `stop` with `insert`
+-- Returns the text after an edit that replaces the bytes `start..stop` with `insert`.
 unfoldable pub apply : List ℕ → ℕ → ℕ → List ℕ → List ℕ
 apply text start stop insert = take start text ++ (insert ++ drop stop text)
 
--- the range is in bounds and on char boundaries
+-- Holds if the range is in bounds and on char boundaries.
 pub record IsInside (text : List ℕ) (start stop : ℕ) : Type 0 where
   pub start_le_stop : start ≤ stop
   pub stop_inside : stop ≤ length text
   pub start_boundary : IsCharBoundary text start
   pub stop_boundary : IsCharBoundary text stop
 
--- the edit is valid: its range is in bounds and on char boundaries, and the new text is shorter
--- than 4 GiB
+-- Holds if the edit is valid: its range is in bounds and on char boundaries, and the new text is shorter than 4 GiB.
 pub record IsEdit (text : List ℕ) (start stop : ℕ) (insert : List ℕ) : Type 0 where
   pub inside : IsInside text start stop
   pub short : length text + length insert < 2 ^ 32 + (stop - start)
 
--- the end offsets of the tokens, if the first token starts at `from`
+-- Returns the end offsets of the tokens, if the first token starts at `from`.
 abbrev pub ends_from : ℕ → List Token → List ℕ
 ends_from from [] = []
 ends_from from (t ∷ ts) = (from + t.len) ∷ ends_from (from + t.len) ts
 
--- the layout of a fragment of a document, lexed by a grammar: it has no head
-abbrev pub part_by : (List ℕ → Token) → List ℕ → Layout
-part_by first text = record { start = 0; head = []; body = tokens_by first text }
+-- Returns the layout of a fragment that is lexed with a grammar. A fragment has no head.
+abbrev pub fragment_by : (List ℕ → Token) → List ℕ → Layout
+fragment_by first text = record { start = 0; head = []; body = tokens_by first text }
 
--- the offset of token boundary k, counting the tokens of the head too
+-- Returns the offset of token boundary k, counting the tokens of the head too.
 abbrev pub offset_in : Layout → ℕ → ℕ
 offset_in of k = of.start + bound (tokens_in of) k
 
--- the offset where the body starts
+-- Returns the offset where the body starts.
 abbrev pub body_in : Layout → ℕ
 body_in of = offset_in of (length of.head)
 
--- an edit that starts at `start` keeps the head: it starts in the body, and the head is the same
--- before and after it
+-- Holds if an edit that starts at `start` keeps the head: the edit starts in the body, and the head is the same before
+-- and after the edit.
 abbrev pub KeepsHead : Layout → Layout → ℕ → Type 0
 KeepsHead old new start = (body_in old ≤ start) × (old.start ≡ new.start) × (old.head ≡ new.head)
 
--- new and old tokens meet: boundary `number` of the new tokens matches a boundary of the old
--- tokens, and `back` old tokens follow. Both boundaries are in the body. The new one is at or after
--- `new_end`, the end of the inserted text, and as far from it as the old one is from `old_end`,
--- the end of the removed text
+-- Holds if new and old tokens meet: boundary `number` of the new tokens matches a boundary of the old tokens, and
+-- `back` old tokens follow. Both boundaries are in the body. The new boundary is at or after `new_end`, the end of the
+-- inserted text, and as far from it as the old boundary is from `old_end`, the end of the removed text.
 pub record IsMeeting (old new : Layout) (old_end new_end number back : ℕ) : Type 0 where
   pub number_inside : number ≤ length (tokens_in new)
   pub past_edit : new_end ≤ offset_in new number
@@ -61,10 +59,10 @@ pub record IsMeeting (old new : Layout) (old_end new_end number back : ℕ) : Ty
   pub back_is : old_number + back ≡ length (tokens_in old)
   pub same_offset : offset_in new number + old_end ≡ offset_in old old_number + new_end
 
--- the counts of an edit. If it keeps the head, it keeps in front the tokens of the head, and the
--- tokens of the body that end at least two characters before the edit. Otherwise it keeps none in
--- front. The tokens after that are new, up to the first boundary where new and old tokens meet. The
--- old tokens after that boundary are kept
+-- Holds if r contains the counts of an edit. If the edit keeps the head, the tokens kept in front are the tokens of the
+-- head, and the tokens of the body that end at least two characters before the edit. Otherwise none are kept in front.
+-- The tokens after that are new, up to the first boundary where new and old tokens meet. The old tokens after that
+-- boundary are kept.
 pub record IsRelexedTo (old new : Layout) (text : List ℕ) (start stop new_end : ℕ) (r : Relexed) :
     Type 0 where
   pub kept : KeepsHead old new start
@@ -75,33 +73,34 @@ pub record IsRelexedTo (old new : Layout) (text : List ℕ) (start stop new_end 
   pub none_before : (number back : ℕ) → r.kept_front ≤ number → number < r.kept_front + r.lexed
       → IsMeeting old new stop new_end number back → ⊥
 
+-- Holds if r contains the counts of an edit that replaces the bytes `start..stop` with `insert`.
 abbrev pub IsRelexed : (List ℕ → Layout) → List ℕ → ℕ → ℕ → List ℕ → Relexed → Type 0
 IsRelexed layout text start stop insert =
     IsRelexedTo (layout text) (layout (apply text start stop insert)) text start stop
     (start + length insert)
 
--- the number of tokens after an edit with these counts
+-- Returns the number of tokens after an edit with these counts.
 abbrev pub count_after : Relexed → ℕ
 count_after r = r.kept_front + r.lexed + r.kept_back
 
--- the counts if all n tokens are kept in front
+-- Returns the counts if all n tokens are kept in front.
 abbrev pub all_stay : ℕ → Relexed
 all_stay n = record { kept_front = n; lexed = 0; kept_back = 0 }
 
--- the counts if all n tokens are new
+-- Returns the counts if all n tokens are new.
 abbrev pub none_stays : ℕ → Relexed
 none_stays n = record { kept_front = 0; lexed = n; kept_back = 0 }
 
 -- ---- replacing the whole text
 
--- the edit is valid for the old text, and turns it into the new text
+-- Holds if the edit is valid for the old text, and turns it into the new text.
 pub record Makes (old new : List ℕ) (start stop : ℕ) (insert : List ℕ) : Type 0 where
   pub valid : IsEdit old start stop insert
   pub made : apply old start stop insert ≡ new
 
--- the edit that is left when the common prefix of both texts is stripped, and then their common
--- suffix: of all edits that turn the old text into the new one it starts last, and of those that
--- start there it ends first
+-- Holds if the edit is the narrowest that turns the old text into the new one: of all such edits it starts last, and of
+-- the edits with this start it ends first. It is the edit that is left when the common prefix of both texts is
+-- stripped, in whole characters, and then their common suffix.
 pub record IsNarrowest (old new : List ℕ) (start stop : ℕ) (insert : List ℕ) : Type 0 where
   pub makes : Makes old new start stop insert
   pub begins_last : (from to : ℕ) (other : List ℕ) → Makes old new from to other → from ≤ start
@@ -109,21 +108,22 @@ pub record IsNarrowest (old new : List ℕ) (start stop : ℕ) (insert : List �
 
 -- ---- lists of edits
 
+-- Returns the text after one edit.
 abbrev pub applied : List ℕ → Edit → List ℕ
 applied text e = apply text e.start e.stop e.insert.now
 
--- the text after all edits, applied in order
+-- Returns the text after all edits, applied in order.
 abbrev pub apply_list : List ℕ → List Edit → List ℕ
 apply_list text [] = text
 apply_list text (e ∷ es) = apply_list (applied text e) es
 
--- each edit is valid for the text that the edits before it leave
+-- Holds if each edit is valid for the text that the edits before it leave.
 abbrev pub AreEdits : List ℕ → List Edit → Type 0
 AreEdits text [] = Unit {0}
 AreEdits text (e ∷ es) = IsEdit text e.start e.stop e.insert.now × AreEdits (applied text e) es
 
--- the step count grew by the number of tokens that the edits lex, one after another. The tokens of
--- a new head take no steps
+-- Holds if the step count grew by the number of tokens that the edits lex, one after another. The tokens of a new head
+-- do not count.
 abbrev pub AreStepped : (List ℕ → Layout) → List ℕ → List Edit → ℕ → ℕ → Type 0
 AreStepped layout text [] before after = after ≡ before
 AreStepped layout text (e ∷ es) before after =
@@ -131,45 +131,44 @@ AreStepped layout text (e ∷ es) before after =
     × (between + (length (layout (applied text e)).head - r.kept_front) ≡ before + r.lexed))
     × AreStepped layout (applied text e) es between after
 
--- the counts of each edit, in order
+-- Holds if the list contains the counts of each edit, in order.
 abbrev pub AreRelexed : (List ℕ → Layout) → List ℕ → List Edit → List Relexed → Type 0
 AreRelexed layout text [] counts = counts ≡ []
 AreRelexed layout text (e ∷ es) [] = ⊥
 AreRelexed layout text (e ∷ es) (r ∷ rs) =
     IsRelexed layout text e.start e.stop e.insert.now r × AreRelexed layout (applied text e) es rs
 
--- n is the greatest number for which `Holds` is true
+-- Holds if n is the maximum of the numbers that satisfy `Holds`.
 abbrev pub IsGreatest : (ℕ → Type 0) → ℕ → Type 0
 IsGreatest Holds n = Holds n × ((m : ℕ) → Holds m → m ≤ n)
 
--- the index of the edit that failed
+-- Returns the index of the edit that failed.
 abbrev pub stop_at : EditStop → ℕ
 stop_at (Range at) = at
 stop_at (TooLong at) = at
 stop_at (Memory at) = at
 
--- the error message
+-- Returns the error message.
 abbrev pub stop_text : EditStop → List ℕ
 stop_text (Range at) = codes "edit " ++ (decimal at ++ codes ": bad range")
 stop_text (TooLong at) = codes "edit " ++ (decimal at ++ codes ": text too long")
 stop_text (Memory at) = codes "edit " ++ (decimal at ++ codes ": no memory")
 
--- what each error means for the current text and the failed edit: the range is invalid (IsInside);
--- the range is valid, but the new text would be too long; or the edit is valid, and an allocation
--- failed
+-- Holds if the edit fails on the current text with this error: its range is invalid (`IsInside`); its range is valid,
+-- but the new text would be too long; or the edit is valid, and an allocation failed.
 abbrev pub IsRefusedOn : EditStop → List ℕ → Edit → Type 0
 IsRefusedOn (Range at) text e = IsInside text e.start e.stop → ⊥
 IsRefusedOn (TooLong at) text e =
     IsInside text e.start e.stop × (IsEdit text e.start e.stop e.insert.now → ⊥)
 IsRefusedOn (Memory at) text e = IsEdit text e.start e.stop e.insert.now
 
--- the error is that of one of the edits, and the text is the one that this edit failed on
+-- Holds if the edit that the error names is in the list, and fails on this text with this error.
 abbrev pub IsStop : EditStop → List ℕ → List Edit → Type 0
 IsStop s text edits =
     (stop_at s < length edits) × IfSome (slice_get edits (stop_at s)) (IsRefusedOn s text)
 
--- the step count grew by the steps of the edits before the failed one. If an allocation failed, it
--- may have grown further, but at most by the steps of the failed edit
+-- Holds if the step count grew by the steps of the edits before the failed one. If an allocation failed, it can have
+-- grown further, but at most by the steps of the failed edit.
 abbrev pub IsStopStepped : EditStop → (List ℕ → Layout) → List ℕ → List Edit → ℕ → ℕ → Type 0
 IsStopStepped (Memory at) layout text edits before after =
     (least most : ℕ) × AreStepped layout text (take at edits) before least × (least ≤ after)
@@ -179,39 +178,39 @@ IsStopStepped s layout text edits before after =
 
 -- ---- edits that are applied at once, with offsets in the same text
 
--- each range is in bounds and on char boundaries, and starts at or after the end of the previous
--- one. The first starts at or after `from`
+-- Holds if each range is in bounds and on char boundaries, and starts at or after the end of the previous range. The
+-- first range starts at or after `from`.
 abbrev pub AreInOrder : List ℕ → ℕ → List Edit → Type 0
 AreInOrder text from [] = Unit {0}
 AreInOrder text from (e ∷ es) =
     (from ≤ e.start) × IsInside text e.start e.stop × AreInOrder text e.stop es
 
--- the start of the first edit
+-- Returns the start of the first edit.
 abbrev pub start_of_first : List Edit → ℕ
 start_of_first [] = 0
 start_of_first (e ∷ es) = e.start
 
--- the end of the last edit
+-- Returns the end of the last edit.
 abbrev pub stop_of_last : ℕ → List Edit → ℕ
 stop_of_last from [] = from
 stop_of_last from (e ∷ es) = stop_of_last e.stop es
 
--- the replacement for the text from `from` up to the end of the last edit: the unchanged text
--- between the edits and the inserted texts, in order
+-- Returns the replacement for the text from `from` up to the end of the last edit: the unchanged text between the edits
+-- and the inserted texts, in order.
 abbrev pub with_all : List ℕ → ℕ → List Edit → List ℕ
 with_all text from [] = []
 with_all text from (e ∷ es) =
     take (e.start - from) (drop from text) ++ (e.insert.now ++ with_all text e.stop es)
 
--- the edits can be applied at once: they are in order, and the one edit that is equivalent to them
--- is valid
+-- Holds if the edits can be applied at once: they are in order, and the single edit that is equivalent to them is
+-- valid.
 abbrev pub AreAtOnce : List ℕ → List Edit → Type 0
 AreAtOnce text edits =
     AreInOrder text 0 edits × IsEdit text (start_of_first edits) (stop_of_last 0 edits)
     (with_all text (start_of_first edits) edits)
 
--- why no edit was applied, and which edit the error names: the first one that is not in order;
--- otherwise the last one, if the new text would be too long or an allocation failed
+-- Holds if none of the edits is applied because of this error. The error names the first edit that is not in order, or
+-- otherwise the last edit, if the new text would be too long or an allocation failed.
 abbrev pub IsStopAtOnce : EditStop → List ℕ → List Edit → Type 0
 IsStopAtOnce (Range at) text edits =
     (at < length edits) × AreInOrder text 0 (take at edits)

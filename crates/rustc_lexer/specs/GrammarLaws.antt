@@ -10,16 +10,16 @@ use Rattle.rustc_lexer.specs.LanguageText.{Mode, newest, part, AreTokens, TheOnl
 use Rattle.rustc_lexer.specs.Partition.{tokens_by}
 use Rattle.rustc_lexer.specs.State.{IsFirst}
 
--- the characters begin with a token of this kind and text
+-- Holds if the characters start with a token of this kind and text.
 abbrev pub BeginsWith : Chars → TokenKind × Chars → Type 0
 BeginsWith s (kind, w) = (next : Chars) × (s ≡ w ++ next) × IsTokenBefore next kind w
 
--- the lookahead of a token: how many of the characters after it can decide whether it is one. It is
--- 2 for the prefixes `k` and `'r` (is there a hash, and does an identifier begin after it?), for an
--- integer (is there a dot, and does what follows it keep it from being a fraction?), and for a `'`
--- or `b'` that no quote closes (is there a slash or a newline, and what follows it?). It is 0 for a
--- name of two characters or more between quotes, for a closed block comment, for `#"` and `##`, and
--- for symbols except `/` and `#`. It is 1 for all others
+-- Returns the lookahead of a token: the number of characters after it that can decide whether it is a token. It is 2
+-- for the prefixes `k` and `'r` (is there a hash, and does an identifier start after it?), for an integer (is there a
+-- dot, and does the character after the dot prevent a fraction?), and for an unterminated literal that starts with `'`
+-- or `b'` (is there a slash or a newline, and which character follows it?). It is 0 for a name of at least two
+-- characters between quotes, for a terminated block comment, for `#"` and `##`, and for symbols except `/` and `#`. It
+-- is 1 for every other token.
 abbrev pub reach : TokenKind → Chars → ℕ
 reach UnknownPrefix w = if bytes_eq w (codes "k") then 2 else 1
 reach UnknownPrefixLifetime w = if bytes_eq w (codes "'r") then 2 else 1
@@ -44,26 +44,24 @@ reach Slash w = 1
 reach Pound w = 1
 reach kind w = 0
 
--- what is proved about the grammar. Answers.antt takes the tokens of a text, and the first of them,
--- from a value of this type, so a contract that names either rests on all of the laws. That value
--- and the proofs are in laws/TheLaws.antt
+-- This record states the laws that are proved about the grammar. Answers.antt gets the tokens of a text, and the first
+-- of them, from a value of this type, so a contract that names either depends on all laws. That value and the proofs
+-- are in laws/TheLaws.antt.
 pub record TheLaws : Type 0 where
-  -- a text has exactly one list of tokens, as source and as a part, in each edition
+  -- A text has exactly one list of tokens, as source and as a fragment, in each edition.
   pub tokens : (mode : Mode) (text : Utf8) → TheOnly (IsText text) (AreTokens mode (chars text))
-  -- a part that is not empty has exactly one first token
+  -- A fragment that is not empty has exactly one first token.
   pub first : (edition : Edition) (text : Utf8)
       → TheOnly (IsText text × (0 < length text)) (IsFirst edition text)
-  -- taking the first token off a part, again and again until nothing is left, gives the tokens of
-  -- the part
+  -- Removing the first token of a fragment, again and again until nothing is left, yields the tokens of the fragment.
   pub cut : (edition : Edition) (text : Utf8)
       → tokens_by (λ rest. (first edition rest).answer) text ≡ (tokens (part edition) text).answer
-  -- each list of characters begins with exactly one token of the grammar, which is not `Eof` unless
-  -- the list is empty
+  -- Each list of characters starts with exactly one token of the grammar. It is `Eof` only if the list is empty.
   pub one_token : (s : Chars) → TheOnly (Unit {0}) (BeginsWith s)
-  -- in the newest edition the tokens are those of Language.antt
+  -- The tokens of the newest edition are exactly the tokens of Language.antt.
   pub newest : (next w : Chars) (kind : TokenKind) → IsTokenIn newest next kind w
       ↔ IsTokenBefore next kind w
-  -- a token stays a token if the text after it is replaced by one that begins with the same `reach`
-  -- characters
+  -- A token stays a token if the text after it is replaced by another text that starts with the same `reach`
+  -- characters.
   pub looks_no_further : (next other w : Chars) (kind : TokenKind) → IsTokenBefore next kind w
       → take (reach kind w) other ≡ take (reach kind w) next → IsTokenBefore other kind w

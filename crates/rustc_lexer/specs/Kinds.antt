@@ -1,9 +1,9 @@
--- The numbers and the names of kinds, and the words of an error.
+-- Numbers and names of token kinds, classes of kinds, and the messages of errors in raw strings.
 use Rattle.std.specs.Prelude.{ℕ, Bool, true, false, List, None, codes, ◌++◌, decimal}
 use Rattle.rustc_lexer.specs.{LiteralKind, RawStrError, InvalidStarter, NoTerminator, TooManyDelimiters, TokenKind, Int, Float, Char, Byte, Str, ByteStr, CStr, RawStr, RawByteStr, RawCStr, LineComment, BlockComment, Whitespace, Frontmatter, Ident, InvalidIdent, RawIdent, ForcedKeywordIdent, UnknownPrefix, UnknownPrefixLifetime, RawLifetime, GuardedStrPrefix, Literal, Lifetime, Semi, Comma, Dot, OpenParen, CloseParen, OpenBrace, CloseBrace, OpenBracket, CloseBracket, At, Pound, Tilde, Question, Colon, Dollar, Eq, Bang, Lt, Gt, Minus, And, Or, Plus, Star, Slash, Caret, Percent, Unknown, Eof}
 
--- the number of a kind, for other languages, and the name of its variant. A number never changes: a
--- new kind gets a new one, and no kind has 0
+-- Returns the number of a kind, for use in other languages, and the name of its variant. A number never changes: a new
+-- kind gets a new number, and no kind has the number 0.
 unfoldable pub kind_entry : TokenKind → ℕ × List ℕ
 kind_entry (LineComment doc_style) = (1, codes "LineComment")
 kind_entry (BlockComment doc_style terminated) = (2, codes "BlockComment")
@@ -50,7 +50,7 @@ kind_entry Percent = (41, codes "Percent")
 kind_entry Unknown = (42, codes "Unknown")
 kind_entry Eof = (43, codes "Eof")
 
--- the kinds that have fields
+-- Whether the kind has fields.
 unfoldable pub has_fields : TokenKind → Bool
 has_fields (LineComment doc_style) = true
 has_fields (BlockComment doc_style terminated) = true
@@ -59,28 +59,28 @@ has_fields (Literal kind suffix_start) = true
 has_fields (Lifetime starts_with_number) = true
 has_fields kind = false
 
--- what a parser passes over: white space, and comments that document nothing
+-- Whether a parser skips the kind: whitespace, and comments that are not doc comments.
 abbrev pub is_trivia : TokenKind → Bool
 is_trivia Whitespace = true
 is_trivia (LineComment None) = true
 is_trivia (BlockComment None terminated) = true
 is_trivia kind = false
 
--- the symbols that open a group
+-- Whether the kind is an opening delimiter.
 abbrev pub opens_group : TokenKind → Bool
 opens_group OpenParen = true
 opens_group OpenBracket = true
 opens_group OpenBrace = true
 opens_group kind = false
 
--- and those that close one
+-- Whether the kind is a closing delimiter.
 abbrev pub closes_group : TokenKind → Bool
 closes_group CloseParen = true
 closes_group CloseBracket = true
 closes_group CloseBrace = true
 closes_group kind = false
 
--- the number and the name of each kind of literal
+-- Returns the number of a kind of literal, and the name of its variant.
 unfoldable pub literal_entry : LiteralKind → ℕ × List ℕ
 literal_entry (Int base empty_int) = (1, codes "Int")
 literal_entry (Float base empty_exponent) = (2, codes "Float")
@@ -93,7 +93,7 @@ literal_entry (RawStr n_hashes) = (8, codes "RawStr")
 literal_entry (RawByteStr n_hashes) = (9, codes "RawByteStr")
 literal_entry (RawCStr n_hashes) = (10, codes "RawCStr")
 
--- why a raw string is refused, in words
+-- Returns the message of an error in a raw string.
 abbrev pub raw_str_text : RawStrError → List ℕ
 raw_str_text (InvalidStarter bad_char) = codes "no hash or quote opens the raw string"
 raw_str_text (NoTerminator expected found offset) =

@@ -1,21 +1,19 @@
--- The grammar of Rust's tokens, as rustc's lexer defines them: the texts that are tokens of each
--- kind, and what may follow them. There is one rule for each form, and no rule describes how a text
--- is lexed. docs/LEXEMES.md explains the rules in prose.
+-- The grammar of Rust's tokens, as rustc's lexer defines them: the texts that are tokens of each kind, and what can
+-- follow them. There is one rule for each form, and no rule describes how a text is lexed. docs/LEXEMES.md explains the
+-- rules in prose.
 --
--- Names in capitals are productions of the Rust Reference for Rust 1.95, except SHEBANG, which is
--- from 1.97. A rule accepts every text of the productions that its comment names. A character that
--- only has to follow a token (a newline, or the quote or hash after a prefix) is in `next`. The
--- grammar accepts more than the Reference. Unterminated and empty forms, and words with emoji, are
--- tokens too, so that a compiler can report them. The contents of comments and quotes are not
--- checked (escapes, carriage returns, the length of a character literal). If such a form has its
--- own rule, the rule is marked "not in the Reference".
+-- Names in capitals are productions of the Rust Reference for Rust 1.95, except SHEBANG, which is from 1.97. A rule
+-- accepts every text of the productions that its comment names. A character that only has to follow a token (a newline,
+-- or the quote or hash after a prefix) is in `next`. The grammar accepts more than the Reference. Unterminated and
+-- empty forms, and words with emoji, are tokens too, so that a compiler can report them. The contents of comments and
+-- quotes are not checked (escapes, carriage returns, the length of a character literal). If such a form has its own
+-- rule, the rule is marked "not in the Reference".
 --
--- Notation. `w` is the text of a token, and `next` is all of the text after it. Both are lists of
--- characters (type `Chars`), and `next` is [] at the end of the text. The offset of a suffix is in
--- bytes. NUL is an ordinary character. `P → ⊥` is the negation of P. No rule negates the relation
--- that it defines, so each relation is the least one that satisfies its rules. The fields of a kind
--- are in the order of src/token.rt: LineComment doc_style, BlockComment doc_style terminated,
--- Lifetime starts_with_number, Literal kind suffix_start, Frontmatter
+-- Notation. `w` is the text of a token, and `next` is all of the text after it. Both are lists of characters (type
+-- `Chars`), and `next` is [] at the end of the text. The offset of a suffix is in bytes. NUL is an ordinary character.
+-- `P → ⊥` is the negation of P. No rule negates the relation that it defines, so each relation is the smallest that
+-- satisfies its rules. The fields of a kind are in the order of src/token.rt: LineComment doc_style, BlockComment
+-- doc_style terminated, Lifetime starts_with_number, Literal kind suffix_start, Frontmatter
 -- has_invalid_preceding_whitespace invalid_infostring.
 use Rattle.std.specs.Prelude.{◌≡◌, ℕ, ◌||◌, Bool, true, false, List, [], ◌∷◌, ◌++◌, take, codes, Option, Some, None}
 use Rattle.std.specs.{Char.is_ascii_digit, List.list_any, Str.byte}
@@ -30,18 +28,18 @@ use Rattle.rustc_lexer.specs.Tables.{symbol_kind}
 
 -- ---- comments
 
--- the doc style of a comment, where w is the text after `//` or `/*`. It is Inner if w starts with
--- `!` (INNER_LINE_DOC, INNER_BLOCK_DOC). It is Outer if w starts with one more `/` or `*` (`again`)
--- that is not followed by a character of `undocs` (OUTER_LINE_DOC, OUTER_BLOCK_DOC). Otherwise it
--- is None: `////`, `/***` and `/**/` are not doc comments
+-- Holds if a comment has this doc style, where w is the text after `//` or `/*`. The style is Inner if w starts with
+-- `!` (INNER_LINE_DOC, INNER_BLOCK_DOC). It is Outer if w starts with one more `/` or `*` (`again`) that is not
+-- followed by a character of `undocs` (OUTER_LINE_DOC, OUTER_BLOCK_DOC). Otherwise it is None: `////`, `/***` and
+-- `/**/` do not start doc comments.
 pub data IsStyle (again : ℕ) (undocs : Chars) : Option DocStyle → Chars → Type 0 where
   inner : {w : Chars} → IsStyle again undocs (Some Inner) (byte "!" ∷ w)
   outer : {w : Chars} → NextNotIn undocs w → IsStyle again undocs (Some Outer) (again ∷ w)
   no_outer : {w : Chars} → NextIn undocs w → IsStyle again undocs None (again ∷ w)
   neither : {w : Chars} → NextNotIn (again ∷ codes "!") w → IsStyle again undocs None w
 
--- the rest of a block comment (BLOCK_COMMENT_OR_DOC) after `/*`: nested comments and other
--- characters, and then the closing `*/`
+-- Holds if the text is the rest of a block comment (BLOCK_COMMENT_OR_DOC) after `/*`: nested comments and other
+-- characters, and then the closing `*/`.
 pub data IsCommentRest : Chars → Type 0 where
   closing : IsCommentRest (codes "*/")
   nested : {v w : Chars}
@@ -56,27 +54,26 @@ pub data IsCommentRest : Chars → Type 0 where
 
 -- ---- words
 
--- the known prefixes, each with the quote or hash after it. Literals and raw identifiers start with
--- them, so the productions RESERVED_TOKEN_POUND, RESERVED_TOKEN_DOUBLE_QUOTE and
--- RESERVED_TOKEN_SINGLE_QUOTE exclude them
+-- Lists the known prefixes, each with the quote or hash after it. Literals and raw identifiers start with them, so the
+-- productions RESERVED_TOKEN_POUND, RESERVED_TOKEN_DOUBLE_QUOTE and RESERVED_TOKEN_SINGLE_QUOTE exclude them.
 abbrev pub known_prefixes : List Chars
 known_prefixes =
     codes "r\"" ∷ codes "r#" ∷ codes "b'" ∷ codes "b\"" ∷ codes "br\"" ∷ codes "br#"
     ∷ codes "c\"" ∷ codes "cr\"" ∷ codes "cr#" ∷ []
 
--- whether a text starts with a known prefix, or with `k#` and the start of an identifier, which is
--- not in the Reference
+-- Whether the text starts with a known prefix, or with `k#` and the start of an identifier, which is not in the
+-- Reference.
 abbrev pub begins_prefixed : Chars → Bool
 begins_prefixed s =
     list_any (λ prefix. begins prefix s) known_prefixes || begins_ident_after (codes "k#") s
 
--- whether tokens that start with this character have a rule other than `symbol`
+-- Whether tokens that start with this character have a rule other than `symbol`.
 abbrev pub has_rule : ℕ → Bool
 has_rule c = is_whitespace c || is_name_start c || is_among (codes "/'\"#") c
 
 -- ---- tokens
 
--- w is the text of a token of this kind, if `next` is the text after it
+-- Holds if w is the text of a token of this kind when `next` is the text after it.
 pub data IsTokenBefore (next : Chars) : TokenKind → Chars → Type 0 where
   -- EOF
   end : next ≡ [] → IsTokenBefore next Eof []
@@ -96,8 +93,7 @@ pub data IsTokenBefore (next : Chars) : TokenKind → Chars → Type 0 where
       → IsCommentRest w
       → IsStyle (byte "*") (codes "*/") style w
       → IsTokenBefore next (BlockComment style true) (codes "/*" ++ w)
-  -- not in the Reference: an unterminated block comment, which extends to the end of the text:
-  -- `/* /* */`
+  -- not in the Reference: an unterminated block comment, which extends to the end of the text: `/* /* */`
   open_comment : {style : Option DocStyle} {w : Chars}
       → next ≡ []
       → ((n : ℕ) → IsCommentRest (take n w) → ⊥)
@@ -109,15 +105,15 @@ pub data IsTokenBefore (next : Chars) : TokenKind → Chars → Type 0 where
       → NextIsNot is_word_continue next
       → NextIsNot ends_prefix next
       → IsTokenBefore next Ident w
-  -- RESERVED_TOKEN_POUND, RESERVED_TOKEN_DOUBLE_QUOTE, RESERVED_TOKEN_SINGLE_QUOTE, without the
-  -- quote or hash: `z` before `"a"`, `k` before `#1`; not `b` before `"a"`, nor `k` before `#fn`
+  -- RESERVED_TOKEN_POUND, RESERVED_TOKEN_DOUBLE_QUOTE, RESERVED_TOKEN_SINGLE_QUOTE, without the quote or hash: `z`
+  -- before `"a"`, `k` before `#1`; not `b` before `"a"`, nor `k` before `#fn`
   unknown_prefix : {w : Chars}
       → is_ident w ≡ true
       → NextIs ends_prefix next
       → begins_prefixed (w ++ next) ≡ false
       → IsTokenBefore next UnknownPrefix w
-  -- not in the Reference: a word that is not an identifier because of an emoji: `a😀`, `😀a`; not
-  -- `ℹ`, which can start an identifier
+  -- not in the Reference: a word that is not an identifier because of an emoji: `a😀`, `😀a`; not `ℹ`, which can start an
+  -- identifier
   invalid_ident : {c : ℕ} {w : Chars}
       → is_word_start c ≡ true
       → AreAll is_word_continue w
@@ -134,8 +130,8 @@ pub data IsTokenBefore (next : Chars) : TokenKind → Chars → Type 0 where
       → is_ident w ≡ true
       → NextIsNot is_id_continue next
       → IsTokenBefore next ForcedKeywordIdent (codes "k#" ++ w)
-  -- LIFETIME_TOKEN that is not raw: `'a`; not `'a'`, nor `'a` before a hash. Not in the Reference:
-  -- `'1`, also before a hash
+  -- LIFETIME_TOKEN that is not raw: `'a`; not `'a'`, nor `'a` before a hash. Not in the Reference: `'1`, also before a
+  -- hash
   lifetime : {c : ℕ} {w : Chars}
       → is_name_start c ≡ true
       → AreAll is_word_continue w
@@ -143,8 +139,8 @@ pub data IsTokenBefore (next : Chars) : TokenKind → Chars → Type 0 where
       → NextNotIn (codes "'") next
       → (NextIn (codes "#") next → is_ascii_digit c ≡ true)
       → IsTokenBefore next (Lifetime (is_bad_name (c ∷ w))) (byte "'" ∷ c ∷ w)
-  -- RESERVED_TOKEN_LIFETIME without its hash: `'a` before `#`; not `'r` before `#a`. Not in the
-  -- Reference: `'r` before `#1`
+  -- RESERVED_TOKEN_LIFETIME without its hash: `'a` before `#`; not `'r` before `#a`. Not in the Reference: `'r` before
+  -- `#1`
   unknown_prefix_lifetime : {c : ℕ} {w : Chars}
       → is_word_start c ≡ true
       → AreAll is_word_continue w
@@ -156,8 +152,8 @@ pub data IsTokenBefore (next : Chars) : TokenKind → Chars → Type 0 where
       → is_ident w ≡ true
       → NextIsNot is_id_continue next
       → IsTokenBefore next RawLifetime (codes "'r#" ++ w)
-  -- a literal (see LiteralGrammar.antt) that cannot have a suffix. Its suffix_start is the end of
-  -- the token: `'ab'`, or `"a` at the end of the text
+  -- a literal (see LiteralGrammar.antt) that cannot have a suffix. Its suffix_start is the end of the token: `'ab'`, or
+  -- `"a` at the end of the text
   literal : {kind : LiteralKind} {w : Chars}
       → IsLiteralBefore next kind false w
       → IsTokenBefore next (Literal kind (bytes w)) w
@@ -172,6 +168,5 @@ pub data IsTokenBefore (next : Chars) : TokenKind → Chars → Type 0 where
   -- the first two characters of RESERVED_GUARDED_STRING_LITERAL and RESERVED_POUNDS: `#"`, `##`
   guarded_prefix : {c : ℕ} → is_among (codes "\"#") c ≡ true
       → IsTokenBefore next GuardedStrPrefix (byte "#" ∷ c ∷ [])
-  -- PUNCTUATION, one character at a time: `+`, `;`. Not in the Reference: any other character, such
-  -- as `\`, is Unknown
+  -- PUNCTUATION, one character at a time: `+`, `;`. Not in the Reference: any other character, such as `\`, is Unknown
   symbol : {c : ℕ} → has_rule c ≡ false → IsTokenBefore next (symbol_kind c) (c ∷ [])

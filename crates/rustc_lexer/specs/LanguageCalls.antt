@@ -1,6 +1,6 @@
--- What the calls that return no tokens answer, in terms of the grammar: errors in raw strings,
--- guarded strings, shebang lines and editions. `w`, `next` and names in capitals are as in
--- Language.antt; texts are lists of characters if nothing else is said, and offsets are in bytes.
+-- The results of calls that do not return tokens, in terms of the grammar: errors in raw strings, guarded strings,
+-- shebang lines and editions. `w`, `next` and names in capitals are as in Language.antt. Texts are lists of characters
+-- unless noted otherwise, and offsets are in bytes.
 use Rattle.std.specs.Prelude.{◌≡◌, ◌==◌, ◌+◌, ◌-◌, ◌<◌, ◌≤◌, ℕ, suc, Bool, true, false, [], ◌∷◌, ◌++◌, length, drop}
 use Rattle.std.specs.Prelude.{codes, Contains, Option, Some, None, Result, Ok, Err, List, bytes_eq, chars, decimal}
 use Rattle.std.specs.Prelude.{find, nat_eq}
@@ -12,27 +12,27 @@ use Rattle.rustc_lexer.specs.Language.{IsTokenBefore}
 use Rattle.rustc_lexer.specs.LanguageText.{year}
 use Rattle.rustc_lexer.specs.LiteralGrammar.{hashes, NoQuoteWith, IsRaw, IsDoubleQuoted, IsSuffixBefore}
 
--- ---- why a raw string is refused
+-- ---- errors in raw strings
 
--- character number p of the text, counted from 1, is `r`
+-- Holds if the character with number p of the text, counted from 1, is `r`.
 abbrev pub StartsRaw : Utf8 → ℕ → Type 0
 StartsRaw text p = (0 < p) × (next_is (λ c. c == byte "r") (drop (p - 1) (chars text)) ≡ true)
 
--- where a raw string that is not closed was probably meant to end. w is the text after its opening
--- quote, and begins at byte `start`. `found` is the largest number of hashes that follow a quote of
--- w, and `offset` is where the first quote with that many hashes ends, in bytes. In `abc"#`,
--- `found` is 1, and `offset` is directly after the quote
+-- Holds if an unterminated raw string was probably meant to end at `offset`, where w is the text after its opening
+-- quote, and w starts at byte `start`. `found` is the maximum number of hashes directly after a quote of w, and
+-- `offset` is the end, in bytes, of the first quote with that many hashes. In `abc"#`, `found` is 1, and `offset` is
+-- directly after the quote. If no quote has a hash after it, `found` is 0 and `offset` is None.
 pub data IsLikelyEnd (start : ℕ) (w : Chars) : (found : ℕ) → (offset : Option ℕ) → Type 0 where
   none : NoQuoteWith 1 w → IsLikelyEnd start w 0 None
   best : {n : ℕ} (u v : Chars) → 0 < n → w ≡ u ++ (byte "\"" ∷ hashes n ++ v) → NoQuoteWith n u
       → NoQuoteWith (suc n) w
       → IsLikelyEnd start w n (Some (start + bytes (u ++ codes "\"")))
 
--- the text after the `r` of a prefix of p characters, and the result of checking it: Ok if it
--- begins with a valid raw string, otherwise the reason why not. Each character of the prefix counts
--- as one byte, so the text begins at byte p
+-- Holds if checking a raw string has this result, where the text starts after the `r` of a prefix of p characters. The
+-- result is Ok if the text starts with a valid raw string, and the error otherwise. Each character of the prefix counts
+-- as one byte, so the text starts at byte p.
 pub data IsRawAnswer (p : ℕ) : Chars → Result Unit RawStrError → Type 0 where
-  -- `##"a"##`, whatever follows
+  -- `##"a"##`, whatever follows it
   good : {n : ℕ} {w next : Chars} → IsRaw next (Some n) w → IsRawAnswer p (w ++ next) (Ok tt)
   too_many : (n : ℕ) (w next : Chars) → 255 < n → NoQuoteWith n w
       → IsRawAnswer p (hashes n ++ (byte "\"" ∷ w ++ (byte "\"" ∷ hashes n ++ next)))
@@ -41,16 +41,16 @@ pub data IsRawAnswer (p : ℕ) : Chars → Result Unit RawStrError → Type 0 wh
   unclosed : (n : ℕ) (w : Chars) {found : ℕ} {offset : Option ℕ}
       → NoQuoteWith n w → IsLikelyEnd (p + suc n) w found offset
       → IsRawAnswer p (hashes n ++ byte "\"" ∷ w) (Err (NoTerminator n found offset))
-  -- `#~`; if the text ends there, the error has U+0000
+  -- `#~`; if the text ends after the hashes, the error contains U+0000
   no_quote : (n c : ℕ) (next : Chars) → is_among (codes "\"#") c ≡ false
       → IsRawAnswer p (hashes n ++ c ∷ next) (Err (InvalidStarter c))
   no_more : (n : ℕ) → IsRawAnswer p (hashes n) (Err (InvalidStarter 0))
 
 -- ---- guarded strings and shebang lines
 
--- RESERVED_GUARDED_STRING_LITERAL and the hashes that close it: n hashes and a double-quoted
--- string, and if that is closed, k ≤ n hashes and a suffix: `##"a"##s`, `##"a"#`. If k is less than
--- n, no further hash follows
+-- Holds if w is RESERVED_GUARDED_STRING_LITERAL with its closing hashes: n hashes and a double-quoted string, and if
+-- that string is terminated, k ≤ n hashes and a suffix: `##"a"##s`, `##"a"#`. If k is less than n, no further hash
+-- follows.
 pub data IsGuardedBefore (next : Chars) : (n : ℕ) → (terminated : Bool) → Chars → Type 0 where
   closed : (n k : ℕ) {w suffix : Chars} → IsDoubleQuoted (hashes k ++ (suffix ++ next)) true w
       → k ≤ n → (k < n → NextNotIn (codes "#") (suffix ++ next)) → IsSuffixBefore next suffix
@@ -58,9 +58,8 @@ pub data IsGuardedBefore (next : Chars) : (n : ℕ) → (terminated : Bool) → 
   unclosed : (n : ℕ) {w : Chars} → IsDoubleQuoted next false w
       → IsGuardedBefore next n false (hashes n ++ (byte "\"" ∷ w))
 
--- the text after `#!` that makes it the begin of an attribute, and that SHEBANG excludes: a
--- bracket, if need be after WHITESPACE, LINE_COMMENT, BLOCK_COMMENT, or a block comment that
--- nothing closes
+-- Holds if this text after `#!` makes it the start of an attribute, which SHEBANG excludes. The text is a bracket,
+-- possibly after WHITESPACE, LINE_COMMENT, BLOCK_COMMENT, or an unterminated block comment.
 pub data IsAttributeRest : Chars → Type 0 where
   bracket : (next : Chars) → IsAttributeRest (byte "[" ∷ next)
   passed : {kind : TokenKind} {c : ℕ} {w next : Chars}
@@ -68,8 +67,8 @@ pub data IsAttributeRest : Chars → Type 0 where
       ∷ []) kind
       → IsTokenBefore next kind (c ∷ w) → IsAttributeRest next → IsAttributeRest (c ∷ w ++ next)
 
--- w is a line, in bytes, without its line end: a newline, a carriage return and a newline, or the
--- end of the text
+-- Holds if w is a line, in bytes, without its line ending. A line ends at a newline, at a carriage return and a
+-- newline, or at the end of the text.
 pub data IsLineBefore (next w : Utf8) : Type 0 where
   to_newline : AreAll is_inline w → begins (codes "\n") next ≡ true
       → ((u : Utf8) → w ≡ u ++ codes "\r" → ⊥)
@@ -77,8 +76,8 @@ pub data IsLineBefore (next w : Utf8) : Type 0 where
   to_return : AreAll is_inline w → begins (codes "\r\n") next ≡ true → IsLineBefore next w
   to_end : AreAll is_inline w → next ≡ [] → IsLineBefore next w
 
--- the length of the shebang line at the start of the text, without its line end (SHEBANG), or None
--- if there is none: `#!/bin/sh` is one, `#![no_std]` is not
+-- Holds if this is the length of the shebang line (SHEBANG) at the start of the text, in bytes and without the line
+-- ending, or None if there is no shebang line: `#!/bin/sh` is a shebang line, `#![no_std]` is not.
 pub data IsShebang (text : Utf8) : Option ℕ → Type 0 where
   shebang : (w next : Utf8) → text ≡ codes "#!" ++ (w ++ next)
       → (IsAttributeRest (chars (w ++ next)) → ⊥)
@@ -91,9 +90,10 @@ pub data IsShebang (text : Utf8) : Option ℕ → Type 0 where
 abbrev pub editions : List Edition
 editions = E2015 ∷ E2018 ∷ E2021 ∷ E2024 ∷ []
 
--- the edition of a year, given as a number or as a word
+-- Returns the edition of a year, given as a number.
 abbrev pub edition_of_year : ℕ → Option Edition
 edition_of_year number = find (λ edition. nat_eq number (year edition)) editions
 
+-- Returns the edition of a year, given as a word.
 abbrev pub edition_of : List ℕ → Option Edition
 edition_of word = find (λ edition. bytes_eq word (decimal (year edition))) editions

@@ -1,101 +1,103 @@
--- Lexed texts: what edits do to a text and its tokens, and its pieces.
+-- Lexed texts: the effect of edits on a text and its tokens, and the pieces of the text.
 use Rattle.std.specs.Prelude.{ℕ, ◌+◌, ◌-◌, ◌<◌, ◌≤◌, ◌^◌, List, [], ◌∷◌, ◌++◌, length, take, drop, ◌≡◌, Option, Some}
 use Rattle.std.specs.Prelude.{None, Bool, true, false, Result, Ok, Err, IfOk, IfErr, OnOk, OnErr, All}
 use Rattle.rustc_lexer.specs.declared.relex.{edit.Edit.Edit, edit_list.EditStop.EditStop, edit_list.EditSequenceError.EditSequenceError}
 use Rattle.rustc_lexer.specs.declared.relex.{pieces.Piece.Piece, relexing.Relexed.Relexed}
 use Rattle.rustc_lexer.specs.{Edition, Token}
-use Rattle.rustc_lexer.specs.Document.{document_tokens, tokens_start, whole_by}
+use Rattle.rustc_lexer.specs.Document.{document_tokens, tokens_start, document_by}
 use Rattle.rustc_lexer.specs.Edits.{AreEdits, AreStepped, AreRelexed, IsGreatest, IsRelexed, IsStop, IsStopStepped}
-use Rattle.rustc_lexer.specs.Edits.{apply, apply_list, part_by, stop_at}
+use Rattle.rustc_lexer.specs.Edits.{apply, apply_list, fragment_by, stop_at}
 use Rattle.rustc_lexer.specs.LanguageText.{part}
 use Rattle.rustc_lexer.specs.Partition.{Layout, tokens_in}
 use Rattle.rustc_lexer.specs.Tokens.{tokens_of}
 
 -- ---- a whole document (true), or a fragment of one (false)
 
--- the offset of the first token
+-- Returns the offset of the first token.
 abbrev pub start_in : Bool → List ℕ → ℕ
 start_in true = tokens_start
 start_in false = λ text. 0
 
--- the layout of the tokens, by a grammar
+-- Returns the layout of a text that is lexed with a grammar.
 abbrev pub layout_in : Bool → (List ℕ → Token) → List ℕ → Layout
-layout_in true = whole_by
-layout_in false = part_by
+layout_in true = document_by
+layout_in false = fragment_by
 
--- the tokens in an edition
+-- Returns the tokens of a text in an edition.
 abbrev pub edition_tokens_in : Bool → Edition → List ℕ → List Token
 edition_tokens_in true = document_tokens
 edition_tokens_in false = λ edition text. tokens_of (part edition) text
 
 -- ---- edits
 
--- the contents of a lexed text
+-- A lexed text consists of a text, its tokens and a stepper.
 pub record Held (S : Type 0) : Type 0 where
   pub text : List ℕ
   pub tokens : List Token
   pub stepper : S
 
--- the counts of the tokens that are kept in front and at the back
+-- Holds if the counts add up to the number of new tokens, and match both lists: the first `kept_front` tokens are the
+-- same, and so are the last `kept_back` tokens.
 pub record AreKept (old new : List Token) (r : Relexed) : Type 0 where
   pub all : r.kept_front + r.lexed + r.kept_back ≡ length new
   pub front : take r.kept_front new ≡ take r.kept_front old
   pub back : drop (r.kept_front + r.lexed) new ≡ drop (length old - r.kept_back) old
 
--- what an edit does to text and tokens. `layout` is the layout of a text by the grammar of the
--- stepper
+-- Holds if an edit has this result and turns the lexed text `old` into `new`. `layout` returns the layout of a text,
+-- lexed with the grammar of the stepper.
 pub record IsEdited {S E : Type 0} (layout : List ℕ → Layout) (old : Held S) (start stop : ℕ)
     (insert : List ℕ) (result : Result Relexed E) (new : Held S) : Type 0 where
   pub text : OnOk result (new.text ≡ apply old.text start stop insert)
   pub from_scratch : new.tokens ≡ tokens_in (layout new.text)
-  -- which tokens are kept, and how many are lexed
+  -- The result counts the kept tokens and the lexed tokens.
   pub relexed : IfOk result (IsRelexed layout old.text start stop insert)
   pub kept : IfOk result (AreKept old.tokens new.tokens)
-  -- on error, nothing has changed
+  -- On error, nothing has changed.
   pub same_text : OnErr result (new.text ≡ old.text)
   pub same_tokens : OnErr result (new.tokens ≡ old.tokens)
 
--- the step count of the stepper, `before` and `after` an edit of the text
+-- Holds if an edit of the text with this result changes the stepper's step count from `before` to `after`.
 pub record HasStepCount {E : Type 0} (layout : List ℕ → Layout) (text : List ℕ) (start stop : ℕ)
     (insert : List ℕ) (result : Result Relexed E) (before after : ℕ) : Type 0 where
-  -- the stepper takes one step for each lexed token, except for the tokens of a new head
+  -- The stepper runs one step for each lexed token, except for the tokens of a new head.
   pub count : IfOk result
       (λ r. after + (length (layout (apply text start stop insert)).head - r.kept_front)
       ≡ before + r.lexed)
   pub rose : before ≤ after
-  -- on error, no more steps were taken than for the whole edit
+  -- On error, the stepper has run at most the steps of the whole edit.
   pub few : OnErr result
       ((r : Relexed) × IsRelexed layout text start stop insert r
       × (after + (length (layout (apply text start stop insert)).head - r.kept_front)
       ≤ before + r.lexed))
 
--- what a list of edits does to text and tokens, up to the first edit that is rejected
-pub record AreMade {S T : Type 0} (layout : List ℕ → Layout) (old : Held S) (edits : List Edit)
+-- Holds if a list of edits has this result and turns the lexed text `old` into `new`. If an edit is rejected, the edits
+-- before it have been applied.
+pub record AreApplied {S T : Type 0} (layout : List ℕ → Layout) (old : Held S) (edits : List Edit)
     (result : Result T EditStop) (new : Held S) : Type 0 where
   pub accepted : OnOk result (AreEdits old.text edits)
   pub text : OnOk result (new.text ≡ apply_list old.text edits)
   pub from_scratch : new.tokens ≡ tokens_in (layout new.text)
-  -- if an edit is rejected, the edits before it were made
   pub stop : IfErr result (λ e. IsStop e new.text edits)
   pub stop_accepted : IfErr result (λ e. AreEdits old.text (take (stop_at e) edits))
   pub stop_text : IfErr result (λ e. new.text ≡ apply_list old.text (take (stop_at e) edits))
 
--- the step count of the stepper, `before` and `after` a list of edits of the text
+-- Holds if a list of edits of the text with this result changes the stepper's step count from `before` to `after`.
 pub record HaveStepCounts {T : Type 0} (layout : List ℕ → Layout) (text : List ℕ) (edits : List Edit)
     (result : Result T EditStop) (before after : ℕ) : Type 0 where
   pub count : OnOk result (AreStepped layout text edits before after)
   pub stop_count : IfErr result (λ e. IsStopStepped e layout text edits before after)
 
--- the result of a list of edits, with only the reason of an error
+-- Returns the result of a list of edits, with only the reason of an error.
 abbrev pub reason : Result Relexed EditSequenceError → Result Relexed EditStop
 reason (Ok r) = Ok r
 reason (Err stopped) = Err stopped.stop
 
--- the tokens that all edits keep: in front, as many as every edit keeps; at the back, as many as
--- every edit keeps and as do not overlap the tokens in front, in the old list or in the new one
+-- Holds if r counts the tokens that all edits keep. In front, these are as many tokens as every edit keeps. At the
+-- back, they are also as many as every edit keeps, but they do not overlap the tokens in front, in the old or the new
+-- list.
 pub record AreKeptThrough {S : Type 0} (layout : List ℕ → Layout) (old : Held S)
     (edits : List Edit) (new : Held S) (r : Relexed) : Type 0 where
-  -- the counts of each edit, in order
+  -- The list contains the counts of each edit, in order.
   pub each : List Relexed
   pub each_is : AreRelexed layout old.text edits each
   pub most_front : IsGreatest
@@ -107,7 +109,7 @@ pub record AreKeptThrough {S : Type 0} (layout : List ℕ → Layout) (old : Hel
 
 -- ---- pieces
 
--- a piece: a token with its offset and text
+-- A piece consists of a token, its offset and its text.
 pub record Placed : Type 0 where
   pub start : ℕ
   pub token : Token
@@ -116,22 +118,24 @@ pub record Placed : Type 0 where
 abbrev pub placed : Piece → Placed
 placed piece = record { start = piece.start; token = piece.token; text = piece.text.now }
 
--- the pieces of the tokens, if the first token starts at `start`
+-- Returns the pieces of the tokens, if the first token starts at `start`.
 abbrev pub pieces_from : List ℕ → ℕ → List Token → List Placed
 pieces_from text start [] = []
 pieces_from text start (token ∷ tokens) =
     record { start = start; token = token; text = take token.len (drop start text) }
     ∷ pieces_from text (start + token.len) tokens
 
--- what `next` does. If no piece is left, it returns None and changes nothing. Otherwise it removes
--- and returns the first piece, whose text is as long as its token and whose end is below 2 ^ 32
+-- Holds if `next` returns this result and leaves the pieces t. If no piece is left, it returns None and changes
+-- nothing. Otherwise it removes and returns the first piece, whose text is as long as its token and whose end is below
+-- 2 ^ 32.
 abbrev pub YieldsPiece : List Placed → Option Piece → List Placed → Type 0
 YieldsPiece s None t = (s ≡ []) × (t ≡ s)
 YieldsPiece s (Some piece) t =
     (s ≡ placed piece ∷ t) × (length piece.text.now ≡ piece.token.len)
     × (piece.start + piece.token.len < 2 ^ 32)
 
--- what `next_back` does: the same with the last piece
+-- Holds if `next_back` returns this result and leaves the pieces t. It removes and returns the last piece; apart from
+-- that it is like `next`.
 abbrev pub YieldsPieceBack : List Placed → Option Piece → List Placed → Type 0
 YieldsPieceBack s None t = (s ≡ []) × (t ≡ s)
 YieldsPieceBack s (Some piece) t =

@@ -1,6 +1,5 @@
--- The definitions of the lexer. With them the types of tokens and of editions, and the variants of
--- these, which the files of this crate import from here: `use Rattle.rustc_lexer.specs.{Token,
--- TokenKind, Ident}`.
+-- The definitions of the lexer. This file also exports the types of tokens and editions and their variants, which the
+-- other files of this crate import from here: `use Rattle.rustc_lexer.specs.{Token, TokenKind, Ident}`.
 pub mod Answers
 pub mod Classes
 pub mod Document
@@ -34,5 +33,5 @@ pub use declared.token.FrontmatterAllowed.TheVariants.*
 pub use declared.token.LiteralKind.TheVariants.*
 pub use declared.token.RawStrError.TheVariants.*
 pub use declared.token.TokenKind.TheVariants.*
--- each of them has a `the_data`, and one has to be named
+-- Each `TheVariants` above also exports a `the_data`. An import by name resolves that conflict.
 use declared.token.TokenKind.TheVariants.{the_data}

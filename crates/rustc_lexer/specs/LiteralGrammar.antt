@@ -1,8 +1,7 @@
--- The grammar of literals: quoted text, raw strings, and which literals may have a suffix, numbers
--- among them. `w`, `next` and names in capitals are as in Language.antt; all texts here are lists
--- of characters. RawStr, RawByteStr and RawCStr have the field n_hashes, and the other quoted kinds
--- have terminated. Literals that are unclosed, and raw strings that are refused, are not in the
--- Reference.
+-- The grammar of literals: quoted text, raw strings, and which literals can have a suffix, including numbers. `w`,
+-- `next` and names in capitals are as in Language.antt; all texts here are lists of characters. RawStr, RawByteStr and
+-- RawCStr have the field n_hashes, and the other quoted kinds have the field terminated. Unterminated literals and
+-- malformed raw strings are not in the Reference.
 use Rattle.std.specs.Prelude.{◌≡◌, ◌<◌, ◌≤◌, ℕ, zero, suc, ◌==◌, Bool, true, false, [], ◌∷◌, ◌++◌, codes, is_some}
 use Rattle.std.specs.Prelude.{Option, Some, None}
 use Rattle.std.specs.Str.{byte}
@@ -11,8 +10,8 @@ use Rattle.rustc_lexer.specs.Classes.{is_among, is_id_start, is_id_continue, is_
 use Rattle.rustc_lexer.specs.Classes.{NextIn, is_word_continue, is_name_start, begins_ident_after}
 use Rattle.rustc_lexer.specs.NumberGrammar.{IsNumberBefore}
 
--- w is quoted text that ends in `close`. Before that it has characters that are not special, and
--- escapes: a backslash and any character
+-- Holds if w is quoted text that ends in `close`. The text before `close` consists of characters that are not special,
+-- and of escapes: a backslash and any character.
 pub data QuotedTo (close : Chars) (special : ℕ → Bool) : Chars → Type 0 where
   ends : QuotedTo close special close
   plain : {c : ℕ} {w : Chars}
@@ -22,9 +21,9 @@ pub data QuotedTo (close : Chars) (special : ℕ → Bool) : Chars → Type 0 wh
   escape : {c : ℕ} {w : Chars} → QuotedTo close special w
       → QuotedTo close special (byte "\\" ∷ c ∷ w)
 
--- the rest of STRING_LITERAL, BYTE_STRING_LITERAL or C_STRING_LITERAL after its opening quote, and
--- whether a quote closes it: `a"`, `\""`. If none does, it is the rest of the text, which may end
--- in a lone backslash: `a\`
+-- Holds if w is the rest of STRING_LITERAL, BYTE_STRING_LITERAL or C_STRING_LITERAL after its opening quote.
+-- `terminated` is true if w ends in the closing quote: `a"`, `\""`. Otherwise w is the rest of the text, which can end
+-- in a lone backslash: `a\`.
 pub data IsDoubleQuoted (next : Chars) : (terminated : Bool) → Chars → Type 0 where
   closed : {w : Chars} → QuotedTo (codes "\"") (is_among (codes "\"\\")) w
       → IsDoubleQuoted next true w
@@ -37,37 +36,36 @@ pub data IsDoubleQuoted (next : Chars) : (terminated : Bool) → Chars → Type 
       → QuotedTo (codes "\\") (is_among (codes "\"\\")) w
       → IsDoubleQuoted next false w
 
--- the same for single quotes: outside its escapes, the text before `close` has no quote, slash or
--- newline
+-- Holds if w is text between single quotes that ends in `close`. Outside its escapes, the text before `close` has no
+-- quote, slash or newline.
 abbrev pub SingleTo : Chars → Chars → Type 0
 SingleTo close w = QuotedTo close (is_among (codes "'/\n\\")) w
 
--- the rest of CHAR_LITERAL or BYTE_LITERAL after its opening quote, and whether a quote closes it.
--- In the Reference there is one character or one escape between the quotes
+-- Holds if w is the rest of CHAR_LITERAL or BYTE_LITERAL after its opening quote. `terminated` is true if w ends in the
+-- closing quote. In the Reference there is one character or one escape between the quotes.
 pub data IsSingleQuoted (next : Chars) : (terminated : Bool) → Chars → Type 0 where
-  -- any character but a backslash, and a quote: `a'`, `/'` and `''`
+  -- any character except a backslash, and a quote: `a'`, `/'` and `''`
   one : {c : ℕ} → (c == byte "\\") ≡ false → IsSingleQuoted next true (c ∷ codes "'")
-  -- text up to a quote: `ab'`, `\''`; also the quote alone, unless another one follows it
+  -- text up to a quote: `ab'`, `\''`; also the quote alone, unless another quote follows it
   closed : {w : Chars}
       → SingleTo (codes "'") w
       → begins (codes "''") (w ++ next) ≡ false
       → IsSingleQuoted next true w
-  -- the closing quote comes directly after a newline: `ab`, the newline and `'`
+  -- a closing quote directly after a newline: `ab`, the newline and `'`
   closed_line : {w : Chars} → SingleTo (codes "\n'") w → IsSingleQuoted next true w
-  -- no quote closes it, and it ends before a slash: `ab` before `/c'`; but not the empty text
-  -- before `/'` (see `one`)
+  -- unterminated text that ends before a slash: `ab` before `/c'`; but not the empty text before `/'` (see `one`)
   at_slash : {w : Chars}
       → SingleTo [] w
       → NextIn (codes "/") next
       → begins (codes "/'") (w ++ next) ≡ false
       → IsSingleQuoted next false w
-  -- or it ends before a newline that no quote follows: `ab` before a newline and `c'`
+  -- unterminated text that ends before a newline, if no quote follows the newline: `ab` before a newline and `c'`
   at_newline : {w : Chars}
       → SingleTo [] w
       → NextIn (codes "\n") next
       → begins (codes "\n'") next ≡ false
       → IsSingleQuoted next false w
-  -- or it is the rest of the text, which may end in a lone backslash
+  -- unterminated text up to the end of the text, which can end in a lone backslash
   unclosed : {w : Chars}
       → next ≡ []
       → SingleTo [] w
@@ -79,20 +77,20 @@ pub data IsSingleQuoted (next : Chars) : (terminated : Bool) → Chars → Type 
 
 -- ---- raw strings
 
--- n hashes
+-- Returns n hashes.
 abbrev pub hashes : ℕ → Chars
 hashes zero = []
 hashes (suc n) = byte "#" ∷ hashes n
 
--- no quote of the text has n hashes directly after it
+-- Holds if no quote of the text has n hashes directly after it.
 abbrev pub NoQuoteWith : ℕ → Chars → Type 0
 NoQuoteWith n w = (u v : Chars) → w ≡ u ++ (byte "\"" ∷ hashes n ++ v) → ⊥
 
--- the rest of RAW_STRING_LITERAL, RAW_BYTE_STRING_LITERAL or RAW_C_STRING_LITERAL after its `r`,
--- without a suffix: n hashes, a quote, text that has no quote with n hashes, a quote, and n hashes.
--- The number of hashes is given if it is at most 255 and the string is closed: `#"a"b"#` has 1, and
--- `"a"` has 0. A string that is not closed is the rest of the text: `#"a"`. If no quote follows the
--- hashes, the token has one more character, if there is one: `#~`
+-- Holds if w is the rest of RAW_STRING_LITERAL, RAW_BYTE_STRING_LITERAL or RAW_C_STRING_LITERAL after its `r`, without
+-- a suffix: n hashes, a quote, text without a quote that has n hashes after it, a quote, and n hashes. n_hashes is n if
+-- the string is terminated and n is at most 255: it is 1 for `#"a"b"#`, and 0 for `"a"`. Otherwise it is None. An
+-- unterminated string is the rest of the text: `#"a"`. If no quote follows the hashes, the token has one more
+-- character, if there is one: `#~`.
 pub data IsRaw (next : Chars) : (n_hashes : Option ℕ) → Chars → Type 0 where
   closed : (n : ℕ) (w : Chars)
       → n ≤ 255
@@ -112,21 +110,20 @@ pub data IsRaw (next : Chars) : (n_hashes : Option ℕ) → Chars → Type 0 whe
 
 -- ---- literals
 
--- w is a literal of this kind, without its suffix, if `next` follows it; `may_suffix` says whether
--- it may have a suffix
+-- Holds if w is a literal of this kind, without its suffix, when `next` follows it. `may_suffix` is true if the literal
+-- can have a suffix.
 pub data IsLiteralBefore (next : Chars) : LiteralKind → (may_suffix : Bool) → Chars → Type 0 where
-  -- CHAR_LITERAL: `'/'`, and `'a'`, although `a` may begin the name of a lifetime. Not in the
-  -- Reference: `'''`
+  -- CHAR_LITERAL: `'/'`, and `'a'`, although `a` can start the name of a lifetime. Not in the Reference: `'''`
   char_of_one : {c : ℕ} → (c == byte "\\") ≡ false
       → IsLiteralBefore next (Char true) true (byte "'" ∷ c ∷ codes "'")
-  -- CHAR_LITERAL: `'\n'`. Not in the Reference: `'+-'`, `'+` at the end. Not `'ab'`, whose `a` may
-  -- begin a name
+  -- CHAR_LITERAL: `'\n'`. Not in the Reference: `'+-'`, and `'+` at the end of the text. This is not the rule for
+  -- `'ab'`, since `a` can start a name
   char : {t : Bool} {w : Chars}
       → IsSingleQuoted next t w
       → NextIsNot is_name_start w
       → IsLiteralBefore next (Char t) t (codes "'" ++ w)
-  -- not in the Reference: a name of two characters or more between quotes, `'ab'`. It cannot have a
-  -- suffix: `'ab'c` is two tokens
+  -- not in the Reference: a name of at least two characters between quotes, `'ab'`. It cannot have a suffix: `'ab'c` is
+  -- two tokens
   char_of_name : {c d : ℕ} (w : Chars)
       → is_name_start c ≡ true
       → AreAll is_word_continue (d ∷ w)
@@ -141,8 +138,7 @@ pub data IsLiteralBefore (next : Chars) : LiteralKind → (may_suffix : Bool) �
       → IsLiteralBefore next (ByteStr t) t (codes "b\"" ++ w)
   c_str : {t : Bool} {w : Chars} → IsDoubleQuoted next t w
       → IsLiteralBefore next (CStr t) t (codes "c\"" ++ w)
-  -- RAW_STRING_LITERAL: `r"a"`, `r#"a"#`. Not in the Reference: `r#1`. Not `r#a`, which is a raw
-  -- identifier
+  -- RAW_STRING_LITERAL: `r"a"`, `r#"a"#`. Not in the Reference: `r#1`. Not `r#a`, which is a raw identifier
   raw_str : {n : Option ℕ} {w : Chars}
       → IsRaw next n w
       → begins_ident_after (codes "#") w ≡ false
@@ -158,8 +154,8 @@ pub data IsLiteralBefore (next : Chars) : LiteralKind → (may_suffix : Bool) �
   number : {kind : LiteralKind} {w : Chars} → IsNumberBefore next kind w
       → IsLiteralBefore next kind true w
 
--- the suffix of a literal if `next` follows it: SUFFIX, or nothing if no identifier begins there.
--- `_` is a suffix here, but not in the Reference
+-- Holds if w is the suffix of a literal when `next` follows it: SUFFIX, or nothing if no identifier starts after the
+-- literal. `_` is a suffix here, but not in the Reference.
 pub data IsSuffixBefore (next : Chars) : Chars → Type 0 where
   none : NextIsNot is_id_start next → IsSuffixBefore next []
   some : {w : Chars}

@@ -4,29 +4,28 @@ use Rattle.rustc_lexer.specs.declared.relex.front.TokenStart.{TokenStart}
 use Rattle.rustc_lexer.specs.{Token}
 use Rattle.rustc_lexer.specs.Partition.{bound}
 
--- `at` is a boundary of the tokens, by its number and its offset
+-- Holds if `at` is a boundary of the tokens, by its index and its offset.
 abbrev pub IsBound : List Token → TokenStart → Type 0
 IsBound tokens at = (at.index ≤ length tokens) × (at.offset ≡ bound tokens at.index)
 
--- the tokens have these lengths, and the first of them begins at `first`. `near` is a boundary of
--- them, by its index and its offset
+-- Holds if the tokens have these lengths, and `near` is one of their boundaries, by its index and its offset, if the
+-- first token starts at `first`.
 pub record ArePlaced (lengths : List ℕ) (first : ℕ) (tokens : List Token) (near : TokenStart)
     : Type 0 where
   pub lengths_are : lengths ≡ map (λ (t : Token). t.len) tokens
   pub number : near.index ≤ length tokens
   pub offset : near.offset ≡ first + bound tokens near.index
 
--- the token with this number and this start contains the byte at `offset`, if the first token
--- begins at `first`
+-- Holds if the token with this index and this start contains the byte at `offset`, if the first token starts at
+-- `first`.
 pub record ContainsByte (first : ℕ) (tokens : List Token) (offset : ℕ) (at : TokenStart) : Type 0 where
   pub number : at.index < length tokens
   pub start : at.offset ≡ first + bound tokens at.index
   pub begins : at.offset ≤ offset
   pub ends : offset < first + bound tokens (at.index + 1)
 
--- the tokens from number `from` up to number `to` are those that contain a byte of the range from
--- `start` up to `stop`: that begin before its end, and end past its start. An empty range has no
--- byte
+-- Holds if the tokens from index `from` up to index `to` are the tokens that contain a byte of the range `start..stop`:
+-- they start before its end, and end after its start. An empty range contains no byte.
 pub record AreTouched (first : ℕ) (tokens : List Token) (start stop from to : ℕ) : Type 0 where
   pub order : from ≤ to
   pub inside : to ≤ length tokens

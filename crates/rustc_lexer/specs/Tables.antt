@@ -5,8 +5,8 @@ use Rattle.rustc_lexer.specs.{TokenKind, Semi, Comma, Dot, Colon, At, OpenParen,
 use Rattle.rustc_lexer.specs.{CloseBrace, Question, OpenBracket, CloseBracket, Eq, Dollar, Bang, Lt, Gt, Minus, And, Or}
 use Rattle.rustc_lexer.specs.{Plus, Star, Caret, Percent, Unknown}
 
--- the ranges of emoji, with both ends included, in ascending order; no two overlap. They are not in
--- the Reference
+-- Lists the ranges of emoji, with both ends included, in ascending order and without overlap. These ranges are not in
+-- the Reference.
 unfoldable pub emoji_ranges : List (ℕ × ℕ)
 emoji_ranges =
     (0xA9, 0xA9) ∷ (0xAE, 0xAE) ∷ (0x203C, 0x203C) ∷ (0x2049, 0x2049) ∷ (0x2122, 0x2122) ∷
@@ -43,14 +43,14 @@ emoji_ranges =
     (0x1FA70, 0x1FA7C) ∷ (0x1FA80, 0x1FA88) ∷ (0x1FA90, 0x1FABD) ∷ (0x1FABF, 0x1FAC5) ∷
     (0x1FACE, 0x1FADB) ∷ (0x1FAE0, 0x1FAE8) ∷ (0x1FAF0, 0x1FAF8) ∷ []
 
--- whether a character is in one of those ranges, none of which has an ASCII character
+-- Whether the character is in a range of emoji. No range contains an ASCII character.
 unfoldable pub is_emoji : ℕ → Bool
 is_emoji c =
     nat_le 128 c && list_any (λ (range : ℕ × ℕ). nat_le range.0 c && nat_le c range.1) emoji_ranges
 
--- the kind of each character that is a token by itself: the tokens of PUNCTUATION in the Rust
--- Reference that have one character. The slash and the hash have rules of their own in
--- Language.antt. `->` is two tokens here, Minus and Gt
+-- Lists each character that is a token by itself, with its kind: the tokens of PUNCTUATION in the Rust Reference that
+-- have one character. The slash and the hash have rules of their own in Language.antt. `->` is two tokens here, Minus
+-- and Gt.
 abbrev pub symbols : List (ℕ × TokenKind)
 symbols =
     (byte ";", Semi) ∷ (byte ",", Comma) ∷ (byte ".", Dot) ∷ (byte "(", OpenParen) ∷
@@ -61,11 +61,11 @@ symbols =
     (byte "|", Or) ∷ (byte "+", Plus) ∷ (byte "*", Star) ∷ (byte "^", Caret) ∷ (byte "%", Percent)
     ∷ []
 
--- the kind that the list has for a character, or Unknown if it has none
+-- Returns the kind that the list contains for a character, or Unknown if it contains none.
 abbrev pub kind_among : List (ℕ × TokenKind) → ℕ → TokenKind
 kind_among [] c = Unknown
 kind_among (s ∷ ss) c = if c == s.0 then s.1 else kind_among ss c
 
--- the kind of a character that is a token by itself: `+` is Plus, `\` is Unknown
+-- Returns the kind of a character that is a token by itself: `+` is Plus, `\` is Unknown.
 abbrev pub symbol_kind : ℕ → TokenKind
 symbol_kind c = kind_among symbols c

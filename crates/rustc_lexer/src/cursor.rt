@@ -1,4 +1,4 @@
-//! A cursor, which takes the tokens of a text one by one.
+//! A cursor, which returns the tokens of a text one by one.
 ghost use Rattle.std.specs.Prelude.{◌≡◌, [], ◌≢◌, ◌+◌, ◌^◌, ◌<◌, slice_index};
 ghost use Rattle.std.specs.Str.{chars};
 ghost use Rattle.rustc_lexer.specs.Classes.{Fits};
@@ -15,12 +15,12 @@ use std::marker::Model;
 
 mod guarded;
 
-/// A cursor over a text, which takes the next token from the offset that it has reached.
+/// A cursor over a text, which returns the tokens one by one.
 ///
-/// Its state is the text that is left, the number of bytes taken since the last token, and whether a frontmatter
-/// may come in front. The bytes taken since the last token are pending: they are part of the next token.
+/// Its state is the remaining text, the number of bytes consumed since the last token, and whether a frontmatter may
+/// come next. Bytes consumed since the last token are *pending*: they are part of the next token.
 ///
-/// A loop takes tokens until it has the one that it looks for.
+/// To find a token, call [`advance_token`](Cursor::advance_token) in a loop:
 ///
 /// ```ignore
 /// // It looks for the first one that is not a comment.
@@ -36,7 +36,7 @@ mod guarded;
 #[derive(Drop)]
 pub struct Cursor<'a> {
     tokens: Tokens<'a>,
-    /// How many bytes were taken since the last token.
+    /// The number of bytes consumed since the last token.
     pending: u32,
 }
 
@@ -56,7 +56,7 @@ impl<'a> Model for Cursor<'a> {
 }
 
 impl<'a> Cursor<'a> {
-    /// Creates a cursor at the start of the text, which may have at most `u32::MAX` bytes.
+    /// Creates a cursor at the start of a text, which may have at most `u32::MAX` bytes.
     #[inline]
     #[tactic(auto, using(crate::proofs::lemmas::tokens::Advance::at_start, std::proofs::lemmas::Grind::common_steps))]
     pub fn new(input: &'a str, frontmatter_allowed: FrontmatterAllowed) -> Cursor<'a>
@@ -70,7 +70,7 @@ impl<'a> Cursor<'a> {
         }
     }
 
-    /// Returns the text that is left.
+    /// Returns the remaining text.
     #[inline(always)]
     pub fn as_str(&self) -> &'a str
         ensures rest { result.now ≡ self.now.rest }
@@ -80,9 +80,9 @@ impl<'a> Cursor<'a> {
         self.tokens.as_str()
     }
 
-    /// Returns the next character without taking it, or U+0000 at the end of the text.
+    /// Returns the next character without consuming it, or U+0000 at the end of the text.
     ///
-    /// If the next character is itself U+0000, the answer is the same. Then [`as_str`](Cursor::as_str) is not empty.
+    /// If the next character itself is U+0000, the result is the same, but [`as_str`](Cursor::as_str) is not empty.
     #[inline]
     pub fn first(&self) -> char
         ensures { result ≡ slice_index (chars self.now.rest) 0 }
@@ -90,7 +90,7 @@ impl<'a> Cursor<'a> {
         scan::first(self.as_str())
     }
 
-    /// Returns the third of the next characters without taking it, or U+0000 if fewer than three are left.
+    /// Returns the character after the next two without consuming any, or U+0000 if there is none.
     #[inline]
     pub fn third(&self) -> char
         ensures { result ≡ slice_index (chars self.now.rest) 2 }
@@ -98,12 +98,12 @@ impl<'a> Cursor<'a> {
         scan::third(self.as_str())
     }
 
-    /// Takes the next token and returns it. At the end of the text it returns `Eof`, of length 0, and changes nothing.
+    /// Consumes and returns the next token. At the end of the text, returns `Eof`, of length 0, and changes nothing.
     ///
-    /// No other token is `Eof`. Each token is longer than the bytes that were pending, and ends between two characters.
+    /// No other token is `Eof`. Every other token is longer than the pending bytes and ends on a character boundary.
     ///
-    /// The pending bytes count in the length of the token and in the offset of its suffix. After the call no bytes are
-    /// pending. After a token that is not white space, no frontmatter is allowed.
+    /// The pending bytes count in the length of the token and in the offset of its suffix. Afterwards no bytes are
+    /// pending. After a token that is not whitespace, no frontmatter is allowed.
     #[inline(always)]
     pub fn advance_token(&mut self) -> Token
         ensures token { result ≡ (advance self.old).0 }
@@ -127,7 +127,7 @@ impl<'a> Cursor<'a> {
     }
 }
 
-/// Returns the token made longer by the bytes that were pending before it.
+/// Adds the pending bytes to the start of the token.
 #[inline(always)]
 fn with_pending(token: Token, pending: u32) -> Token
     requires suffix { HasSuffixWithin token }

@@ -1,4 +1,4 @@
-//! The editions of Rust, and how their tokens differ from those of the newest edition.
+//! The editions of Rust, and the first token of a text in an edition.
 ghost use Rattle.std.specs.Prelude.{◌≡◌, ◌<◌, nat_le, not, codes, length, take, IsCharBoundary, Some};
 ghost use Rattle.std.specs.List.{list_all};
 ghost use Rattle.std.specs.Result.{result_ok};
@@ -20,10 +20,10 @@ use std::error::Error;
 use std::fmt;
 use std::str::FromStr;
 
-/// An edition of Rust: the version of the language that a text is written in. Editions are ordered by their years.
+/// An edition of Rust, which is the version of the language in which a text is written. Editions are ordered by year.
 ///
-/// They differ in a few tokens, like `#"` and `'a#`. One difference is left to a compiler: in each edition `c"`, `cr"`,
-/// `cr#` and `k#` begin one token, where a compiler reads an identifier before 2021.
+/// They differ in a few tokens, such as `#"` and `'a#`. One difference is left to a compiler: in every edition `c"`,
+/// `cr"`, `cr#` and `k#` start one token, although a compiler lexes an identifier there before 2021.
 ///
 /// ```
 /// use rustc_lexer::Edition;
@@ -36,7 +36,7 @@ use std::str::FromStr;
 pub enum Edition {
     /// Rust 2015.
     E2015,
-    /// Rust 2018. Its tokens are those of Rust 2015.
+    /// Rust 2018. It has the same tokens as Rust 2015.
     E2018,
     /// Rust 2021.
     E2021,
@@ -45,7 +45,7 @@ pub enum Edition {
 }
 
 impl Edition {
-    /// All editions, ordered by their years.
+    /// All editions, ordered by year.
     pub const ALL: &'static [Edition] = &[
         Edition::E2015,
         Edition::E2018,
@@ -53,10 +53,10 @@ impl Edition {
         Edition::E2024,
     ];
 
-    /// The newest edition, in which each call lexes that takes no edition.
+    /// The newest edition. Functions without an edition parameter lex in this edition.
     pub const NEWEST: Edition = Edition::E2024;
 
-    /// Returns the year that names the edition.
+    /// Returns the year of the edition, which is its name.
     pub fn year(self) -> u16
         ensures { result ≡ year self }
     {
@@ -69,7 +69,7 @@ impl Edition {
     }
 }
 
-// `ALL` has each of the four, oldest first.
+// `ALL` contains the four editions, oldest first.
 const _: () = prove!(Edition::ALL[0] as u8 == Edition::E2015 as u8);
 
 const _: () = prove!(Edition::ALL[1] as u8 == Edition::E2018 as u8);
@@ -78,7 +78,7 @@ const _: () = prove!(Edition::ALL[2] as u8 == Edition::E2021 as u8);
 
 const _: () = prove!(Edition::ALL[3] as u8 == Edition::E2024 as u8);
 
-/// Parses the year that names an edition, like `2021`.
+/// Parses the year of an edition, such as `2021`.
 impl FromStr for Edition {
     type Err = UnknownEdition;
 
@@ -96,7 +96,7 @@ impl FromStr for Edition {
     }
 }
 
-/// Converts the year that names an edition, like `2021`.
+/// Converts the year of an edition, such as `2021`.
 impl TryFrom<u16> for Edition {
     type Error = UnknownEdition;
 
@@ -113,7 +113,7 @@ impl TryFrom<u16> for Edition {
     }
 }
 
-/// The error for a word or a number that names no edition.
+/// The error for a word or a number that is not the year of an edition.
 #[derive(Clone, Copy, Debug, PartialEq, Eq)]
 pub struct UnknownEdition;
 
@@ -127,7 +127,7 @@ impl fmt::Display for UnknownEdition {
 
 impl Error for UnknownEdition {}
 
-/// Returns the first token of a text in an edition, where no frontmatter is allowed. The text is not empty.
+/// Returns the first token of a text in an edition, without a frontmatter. The text must not be empty.
 #[inline(always)]
 pub(crate) fn token_in(rest: &str, edition: Edition) -> Token
     requires not_empty { 0 < length rest.now }
@@ -141,10 +141,10 @@ pub(crate) fn token_in(rest: &str, edition: Edition) -> Token
     }
 }
 
-/// Returns the first token in an edition of a text that does not begin with a hash, as its first character chooses. The
-/// text is not empty.
+/// Returns the first token of a text in an edition. The text must not be empty or start with a hash. The first
+/// character determines the family of the token.
 ///
-/// The tokens that the newest edition and the one before it do not share begin with a hash.
+/// Editions 2021 and 2024 differ only in tokens that start with a hash.
 #[inline(always)]
 pub(crate) fn choose_in(rest: &str, edition: Edition) -> Token
     requires not_empty { 0 < length rest.now }
@@ -167,8 +167,8 @@ pub(crate) fn reserves_guards(edition: Edition) -> bool
     matches!(edition, Edition::E2024)
 }
 
-/// Returns what [`choose_in`] returns, for an edition before 2021. It is not inlined, so that the code for the others
-/// stays short.
+/// Returns the first token, like [`choose_in`], in an edition before 2021. It is not inlined, which keeps the code for
+/// newer editions short.
 #[inline(never)]
 fn choose_before_2021(rest: &str) -> Token
     requires fits { Fits rest.now }
@@ -210,7 +210,8 @@ fn has_bad_name(text: &str) -> bool
     first.is_ascii_digit() || is_emoji(first) || holds_emoji(rest)
 }
 
-/// Returns whether the rest of a name holds an emoji that may not continue an identifier.
+/// Returns whether a name contains an emoji that cannot continue an identifier. `rest` is the name after its first
+/// character.
 fn holds_emoji(rest: &str) -> bool
     ensures { result
         ≡ not (list_all is_id_continue

@@ -1,4 +1,4 @@
-//! The calls that lex a text, and their iterator.
+//! The functions that lex a text, and the iterator over its tokens.
 ghost use Rattle.std.specs.Prelude.{◌≡◌, drop, length, MatchOption};
 ghost use Rattle.std.specs.Iterator.{at_most};
 ghost use Rattle.std.specs.Str.{IsCharBoundary};
@@ -26,13 +26,14 @@ pub use document::tokenize_document;
 pub use fill::FromToken;
 pub use stepper::{Stepper, Steps};
 
-/// Returns an iterator over the tokens of a text, which may have at most `u32::MAX` bytes.
+/// Returns an iterator over the tokens of a text, lexed in the newest edition. The text may have at most `u32::MAX`
+/// bytes.
 ///
-/// The lengths of the tokens add up to the length of the text, and each token ends between two characters. With
-/// `FrontmatterAllowed::No`, the text from the end of any token has the remaining tokens, so a slice of a document
-/// that begins there can be lexed by itself.
+/// The lengths of the tokens add up to the length of the text, and every token ends on a character boundary. With
+/// `FrontmatterAllowed::No`, lexing from the end of any token returns the remaining tokens, so you can lex a slice of
+/// the text that starts at a token.
 ///
-/// A loop can slice the text by these lengths.
+/// To get the text of each token, add up the lengths:
 ///
 /// ```ignore
 /// // It looks for a word among the identifiers and keywords.
@@ -52,12 +53,12 @@ pub fn tokenize<'a>(input: &'a str, frontmatter_allowed: FrontmatterAllowed) -> 
     tokenize_as(input, frontmatter_allowed, Edition::NEWEST)
 }
 
-/// Returns an iterator over the tokens of a text in an edition. The text may have at most `u32::MAX` bytes. It is
-/// read as a part of a document, so dashes at its start are never a frontmatter.
+/// Returns an iterator over the tokens of a fragment of a file, lexed in the given edition. The text may have at most
+/// `u32::MAX` bytes. Dashes at its start are never a frontmatter.
 ///
-/// The lengths of the tokens add up to the length of the text, each token ends between two characters, and the text
-/// from the end of any token has the remaining tokens. With `Edition::NEWEST` the tokens are those of [`tokenize`]
-/// with `FrontmatterAllowed::No`.
+/// The lengths of the tokens add up to the length of the text, every token ends on a character boundary, and lexing
+/// from the end of any token returns the remaining tokens. With `Edition::NEWEST`, it returns the same tokens as
+/// [`tokenize`] with `FrontmatterAllowed::No`.
 ///
 /// `docs/EDITIONS.md` has a table of the tokens that differ in other editions. The loop at [`tokenize`] shows how to
 /// use the iterator.
@@ -72,12 +73,12 @@ pub fn tokenize_in<'a>(text: &'a str, edition: Edition) -> EditionTokens<'a>
     tokenize_as(text, FrontmatterAllowed::No, edition)
 }
 
-/// Returns an iterator over the tokens of a text in an edition, with or without a frontmatter at the start. The text
-/// may have at most `u32::MAX` bytes.
+/// Returns an iterator over the tokens of a text, lexed in the given edition, with or without a frontmatter at the
+/// start. The text may have at most `u32::MAX` bytes.
 ///
-/// With `FrontmatterAllowed::Yes` it reads a file past its shebang line: the frontmatter, which is the same in all
-/// editions, and then the tokens of the edition. [`tokenize`] is this call with the newest edition, and
-/// [`tokenize_in`] is this call with `FrontmatterAllowed::No`.
+/// `FrontmatterAllowed::Yes` is for a file after its shebang line: it may start with a frontmatter, which is lexed in
+/// the same way in all editions. [`tokenize`] is this function with the newest edition, and [`tokenize_in`] is this
+/// function with `FrontmatterAllowed::No`.
 pub fn tokenize_as<'a>(
     text: &'a str,
     frontmatter_allowed: FrontmatterAllowed,
@@ -101,7 +102,7 @@ pub fn tokenize_as<'a>(
 
 /// An iterator over the tokens of a text.
 ///
-/// [`tokenize`], [`tokenize_in`], [`tokenize_as`] and [`tokenize_document`] return it.
+/// It is returned by [`tokenize`], [`tokenize_in`], [`tokenize_as`] and [`tokenize_document`].
 #[derive(Drop)]
 pub struct Tokens<'a> {
     text: &'a str,
@@ -110,7 +111,7 @@ pub struct Tokens<'a> {
     edition: Edition,
 }
 
-/// Another name of [`Tokens`], as the type that [`tokenize_in`] returns.
+/// The return type of [`tokenize_in`], which is another name of [`Tokens`].
 pub type EditionTokens<'a> = Tokens<'a>;
 
 impl<'a> Model for Tokens<'a> {
@@ -132,7 +133,7 @@ impl<'a> Model for Tokens<'a> {
 }
 
 impl<'a> Tokens<'a> {
-    /// Returns the text that is left: the part whose tokens the iterator has not returned yet.
+    /// Returns the text that has not been lexed yet.
     #[inline(always)]
     pub fn as_str(&self) -> &'a str
         ensures rest { result.now ≡ self.now.rest }
@@ -142,10 +143,9 @@ impl<'a> Tokens<'a> {
         &self.text[self.ahead.at..]
     }
 
-    /// Returns whether the text that is left may begin with a frontmatter.
+    /// Returns whether the remaining text may start with a frontmatter.
     ///
-    /// A caller that stops can go on later: it passes [`as_str`](Tokens::as_str), this answer and the edition to
-    /// [`tokenize_as`].
+    /// To continue later, pass [`as_str`](Tokens::as_str), this value and the edition to [`tokenize_as`].
     #[inline(always)]
     #[tactic(auto, using(crate::proofs::lemmas::tokens::Buffers::mode_held, std::proofs::lemmas::Grind::common_steps))]
     pub fn frontmatter_allowed(&self) -> FrontmatterAllowed
@@ -154,7 +154,7 @@ impl<'a> Tokens<'a> {
         self.frontmatter_allowed
     }
 
-    /// Returns how many bytes are left.
+    /// Returns the number of bytes that are left.
     #[inline(always)]
     fn left(&self) -> usize
         ensures { result ≡ length self.now.rest }
@@ -162,7 +162,8 @@ impl<'a> Tokens<'a> {
         self.text.len() - self.ahead.at
     }
 
-    /// Returns an iterator that is at the same offset. It knows nothing of the next token, so no kind is kept in memory.
+    /// Returns an iterator at the same offset that has not classified the next token, so that no kind is stored in
+    /// memory.
     #[inline(always)]
     pub(crate) fn copy_unclassified(&self) -> Tokens<'a>
         ensures { result ≡ self.now }
@@ -178,7 +179,7 @@ impl<'a> Tokens<'a> {
         }
     }
 
-    /// Begins to take tokens by the ends of runs, where they are determined in advance.
+    /// Starts to find tokens by the ends of runs, if they determine the next token.
     #[inline(always)]
     fn classify_next(&mut self)
         ensures { self.new ≡ self.old }
@@ -188,7 +189,8 @@ impl<'a> Tokens<'a> {
         }
     }
 
-    /// Returns the next token if the ends of runs determine it. A loop with a branch for these tokens is faster.
+    /// Returns the next token if the ends of runs determine it. A loop with a branch of its own for these tokens is
+    /// faster.
     #[inline(always)]
     #[tactic(auto, using(crate::proofs::lemmas::tokens::Classified::classified_lemmas, std::proofs::lemmas::Grind::common_steps))]
     pub(crate) fn next_classified(&mut self) -> Option<Token>
@@ -198,15 +200,15 @@ impl<'a> Tokens<'a> {
         self.ahead.take(self.text)
     }
 
-    /// Returns the next token, as `next` does, but in a dev build as a call: `fill` is compiled with the caller's crate,
-    /// and this with the lexer.
+    /// Returns the next token, like `next`, but through a call in a dev build: `fill` is compiled in the caller's
+    /// crate, and this function in the lexer's.
     pub(crate) fn next_outlined(&mut self) -> Option<Token>
         ensures { YieldsToken self.old result self.new }
     {
         self.next()
     }
 
-    /// Moves on by this many bytes, whatever tokens they belong to.
+    /// Skips this many bytes, whatever tokens they belong to.
     #[inline(always)]
     pub(crate) fn skip_bytes(&mut self, len: usize)
         requires { IsCharBoundary self.old.rest len }
@@ -224,10 +226,10 @@ impl<'a> Iterator for Tokens<'a> {
 
     ghost remaining = { λ s. at_most (length s.rest) };
 
-    /// Returns the next token, or `None` if no token is left. After `None` it returns `None` again.
+    /// Returns the next token, or `None` if no token is left. After `None` it always returns `None`.
     ///
-    /// The ends of runs determine most tokens; they are searched for after a word or a symbol. Each branch returns its
-    /// token by itself, so a token that `quick_token` finds is never written to memory and read again.
+    /// The ends of runs determine most tokens. The search for them starts after a word or a symbol. Each branch returns
+    /// its own token, so a token that `quick_token` finds is never written to memory and read again.
     #[inline(always)]
     fn next(&mut self) -> Option<Token> {
         if let Some(token) = self.ahead.take(self.text) {
@@ -256,7 +258,7 @@ impl<'a> Iterator for Tokens<'a> {
     }
 }
 
-/// Returns whether a frontmatter may come after a token of this kind.
+/// Returns whether a frontmatter can follow a token of this kind.
 #[inline(always)]
 fn next_allowed(allowed: FrontmatterAllowed, kind: TokenKind) -> FrontmatterAllowed
     ensures { (edition : Edition)

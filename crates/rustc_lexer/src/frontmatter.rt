@@ -1,5 +1,6 @@
-//! Frontmatter: a block between two fences of dashes, which may come before the first token.
-ghost use Rattle.std.specs.Prelude.{◌≡◌, ℕ, ◌+◌, ◌-◌, ◌≤◌, ◌<◌, ◌==◌, ◌&&◌, true, false, length, nat_lt, slice_index, take, drop, codes, MatchOption, IfSome, None, ◌∷◌};
+//! Frontmatter: a block between two fences of dashes, which may come before the source in a file.
+ghost use Rattle.std.specs.Prelude.{◌≡◌, ℕ, ◌+◌, ◌-◌, ◌≤◌, ◌<◌, ◌==◌, ◌&&◌, true, false, length, nat_lt, slice_index};
+ghost use Rattle.std.specs.Prelude.{take, drop, codes, MatchOption, IfSome, None, ◌∷◌};
 ghost use Rattle.std.specs.Str.{chars, IsCharBoundary};
 ghost use Rattle.rustc_lexer.specs.{Edition};
 ghost use Rattle.rustc_lexer.specs.Classes;
@@ -19,10 +20,11 @@ use crate::scan::{eat_while, eat_whitespace, next_is, split_first};
 use crate::token::{FrontmatterAllowed, Token, TokenKind};
 use memchr::memchr;
 
-/// The least number of dashes in a fence.
+/// The minimum number of dashes in a fence.
 const MIN_DASHES: usize = 3;
 
-/// Returns the first token of a text in an edition, with or without a frontmatter at the start. The text is not empty.
+/// Returns the first token of a text in an edition, with or without a frontmatter at the start. The text must not be
+/// empty.
 #[inline(always)]
 #[tactic(auto, using(crate::specs::laws::Frontmatter::cut_lemmas, std::proofs::lemmas::Grind::common_steps))]
 pub(crate) fn token_at(text: &str, allowed: FrontmatterAllowed, edition: Edition) -> Token
@@ -44,8 +46,8 @@ pub(crate) fn token_at(text: &str, allowed: FrontmatterAllowed, edition: Edition
     }
 }
 
-/// Returns whether a frontmatter may be at the front of the text, as the token determines that is there otherwise:
-/// white space before three dashes, or the first of them.
+/// Returns whether a frontmatter may start the text. `token` is its first token otherwise. Only whitespace before three
+/// dashes, or the first of three dashes, allows a frontmatter.
 #[inline(always)]
 fn may_open(text: &str, token: Token) -> bool
     requires { token.len ≤ length text.now }
@@ -60,9 +62,10 @@ fn may_open(text: &str, token: Token) -> bool
     text.as_bytes()[start..].starts_with(b"---")
 }
 
-/// Returns the frontmatter at the front of the text, or `None` if none opens there.
+/// Returns the frontmatter at the start of the text, or `None` if there is none.
 ///
-/// White space before its dashes is part of it, unless the last character of that white space is a newline.
+/// Whitespace before its dashes is part of it. If that whitespace ends in a newline, it is a token of its own, and the
+/// result is `None`.
 #[inline(never)]
 pub(crate) fn frontmatter(text: &str) -> Option<Token>
     requires fits { Fits text.now }
@@ -86,8 +89,8 @@ pub(crate) fn frontmatter(text: &str) -> Option<Token>
     })
 }
 
-/// Returns the text after the rest of the opening fence's line: after blanks, an infostring, and blanks. `rest` is
-/// the text after the dashes.
+/// Returns the text after the rest of the opening fence: blanks, an infostring, and blanks. `rest` is the text after
+/// the dashes.
 fn eat_label(rest: &str) -> &str
     ensures shorter { length result.now ≤ length rest.now }
     ensures past { result.now ≡ past (spec.label_len (chars rest.now)) rest.now }
@@ -96,7 +99,7 @@ fn eat_label(rest: &str) -> &str
     eat_while(eat_infostring(infostring), is_horizontal_whitespace)
 }
 
-/// Returns the text after an infostring, if there is one at the front, or else the whole text.
+/// Returns the text after the infostring at its start, or the whole text if there is none.
 #[tactic(auto, using(crate::specs::laws::Frontmatter::infostring_lemmas, std::proofs::lemmas::Grind::common_steps))]
 fn eat_infostring(rest: &str) -> &str
     ensures shorter { length result.now ≤ length rest.now }
@@ -111,15 +114,25 @@ fn eat_infostring(rest: &str) -> &str
     eat_while(tail, is_info)
 }
 
-/// Returns whether an infostring may continue with the character.
+/// Returns whether the character can continue an infostring.
 fn is_info(c: char) -> bool
     ensures { result ≡ Classes.is_info c }
 {
     is_id_continue(c) || c == '-' || c == '.'
 }
 
-/// Returns where the frontmatter ends in `rest`, which is the text after its opening. It ends with the first line that
-/// begins with `dashes`, those of its opening. Without one, it ends where Rust seems to begin.
+/// Returns the end of the frontmatter in `rest`, which is the text after the opening fence. `dashes` are the dashes of
+/// that fence.
+///
+/// The closing fence is the first line that starts with `dashes`. If there is none, the end is the first of these that
+/// exists, in this order:
+///
+/// - the end of the first line that starts with `---`
+/// - the newline before the first line that starts with `use `
+/// - the newline before the first line that starts with `//!`
+/// - the newline before the first line that starts with `#![`
+/// - the end of the line with the first three dashes that only blanks precede
+/// - the end of the text
 #[tactic(auto, using(crate::specs::laws::Frontmatter::closing_end_is, crate::specs::laws::Frontmatter::if_found_some, crate::specs::laws::Frontmatter::if_found_none, std::proofs::lemmas::Grind::common_steps))]
 fn closing_end(rest: &[u8], dashes: &[u8]) -> usize
     ensures end { (n : ℕ) → dashes.now ≡ fence n → result ≡ spec.closing_end n rest.now }
@@ -146,7 +159,8 @@ fn closing_end(rest: &[u8], dashes: &[u8]) -> usize
     }
 }
 
-/// Returns the first place of three dashes with only blanks before them, on their line and past the dashes before.
+/// Returns the offset of the first three dashes that only blanks precede, on their line or since the three dashes
+/// before.
 #[tactic(auto, using(std::proofs::lemmas::List::take_rest, crate::specs::laws::Fences::walk_end, crate::specs::laws::Fences::walk_found, crate::specs::laws::Fences::walk_on, std::proofs::lemmas::Grind::common_steps))]
 fn find_lone_dashes(rest: &[u8]) -> Option<usize>
     ensures offset { result ≡ spec.first_lone true 0 rest.now }
@@ -163,7 +177,7 @@ fn find_lone_dashes(rest: &[u8]) -> Option<usize>
     None
 }
 
-/// Returns whether only blanks come before `offset`, on its line and past `end`.
+/// Returns whether only blanks precede `offset`, back to the start of its line or to `end`.
 fn stands_alone(rest: &[u8], end: usize, offset: usize) -> bool
     requires order { end ≤ offset }
     requires inside { offset ≤ length rest.now }
@@ -176,7 +190,7 @@ fn stands_alone(rest: &[u8], end: usize, offset: usize) -> bool
     start == end || follows_newline(rest, start)
 }
 
-/// Returns whether a newline comes right before an offset.
+/// Returns whether a newline directly precedes the offset.
 fn follows_newline(bytes: &[u8], offset: usize) -> bool
     requires { offset ≤ length bytes.now }
     ensures { result ≡ (nat_lt 0 offset && spec.is_newline (slice_index bytes.now (offset - 1))) }
@@ -184,7 +198,7 @@ fn follows_newline(bytes: &[u8], offset: usize) -> bool
     offset > 0 && bytes[offset - 1] == b'\n'
 }
 
-/// Returns the place of the first newline at or past `offset`, or the end of the text.
+/// Returns the offset of the first newline at or after `offset`, or the end of the text.
 fn line_end(rest: &[u8], offset: usize) -> usize
     requires { offset ≤ length rest.now }
     ensures end { result ≡ spec.line_end offset rest.now }
@@ -196,8 +210,8 @@ fn line_end(rest: &[u8], offset: usize) -> usize
     }
 }
 
-/// Returns the first place of a byte and what follows it in the pattern. It searches for that byte. So it does not
-/// have to make a searcher, which would allocate on the heap.
+/// Returns the offset of a pattern, which is `first` followed by `more`, or `None` if it does not occur. It searches
+/// for `first` only, so it does not build a searcher, which would allocate.
 fn find_pattern(rest: &[u8], first: u8, more: &[u8]) -> Option<usize>
     ensures offset { result ≡ spec.first (first ∷ more.now) rest.now }
     ensures inside { IfSome result (λ offset. offset + 1 + length more.now ≤ length rest.now) }
@@ -213,7 +227,8 @@ fn find_pattern(rest: &[u8], first: u8, more: &[u8]) -> Option<usize>
     None
 }
 
-/// Returns a place of the pattern's first byte up to which the pattern stands nowhere, or `None` if it stands nowhere.
+/// Returns the offset of a byte `first` such that the pattern does not start before it, or `None` if the pattern does
+/// not occur.
 fn find_start(first: u8, more: &[u8], rest: &[u8]) -> Option<usize>
     ensures { MatchOption result (spec.first (first ∷ more.now) rest.now ≡ None)
         (λ place. (place < length rest.now) × (slice_index rest.now place ≡ first)
@@ -227,7 +242,7 @@ fn find_start(first: u8, more: &[u8], rest: &[u8]) -> Option<usize>
     }
 }
 
-/// Returns a number of bytes at the front in which the pattern begins nowhere.
+/// Returns a number of bytes at the start of the text at which the pattern does not start.
 fn skip_front(first: u8, more: &[u8], rest: &[u8]) -> usize
     ensures left { spec.first (first ∷ more.now) rest.now
         ≡ least.more result (spec.first (first ∷ more.now) (drop result rest.now)) }

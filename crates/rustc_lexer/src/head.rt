@@ -1,4 +1,4 @@
-//! The head of a document: the part before its body.
+//! The head of a document, which is the text before its body.
 ghost use Rattle.std.specs.Prelude.{◌≡◌, ◌++◌, Bool, OnOk, false, length, true};
 ghost use Rattle.std.specs.Str.{IsCharBoundary};
 ghost use Rattle.rustc_lexer.specs.Classes.{Fits};
@@ -12,10 +12,10 @@ use crate::shebang::tokens_start;
 use crate::token::{Token, TokenKind};
 use std::alloc::AllocError;
 
-/// The head of a document, which is the part before its body: a byte order mark, a shebang line and a frontmatter.
+/// The head of a document, which is the text before its body: a byte order mark, a shebang line and a frontmatter.
 ///
-/// It is for a program that keeps the tokens of a whole document in lists of its own. [`Head::change_to`] returns what
-/// an edit of the document changes in its body, and [`Relex`](crate::Relex) re-lexes that.
+/// It is for programs that store the tokens of a whole file in lists of their own. [`Head::change_to`] returns the
+/// change of the body by an edit of the document, and [`Relex`](crate::Relex) re-lexes the part that changed.
 ///
 /// ```
 /// use rustc_lexer::incremental::{Change, Head};
@@ -31,9 +31,9 @@ use std::alloc::AllocError;
 /// ```
 #[derive(Clone, Copy, Debug, PartialEq, Eq)]
 pub struct Head {
-    /// The offset of the first token, in bytes: the length of the byte order mark and of the shebang line.
+    /// The offset of the first token in bytes, which is the length of the byte order mark and the shebang line.
     pub tokens_start: usize,
-    /// The length in bytes of the whitespace before the frontmatter, if it is a token of its own, or 0.
+    /// The length in bytes of the whitespace before the frontmatter if it is a token of its own, and otherwise 0.
     pub space_len: u32,
     /// The frontmatter, or `None` if there is none.
     pub frontmatter: Option<Token>,
@@ -41,9 +41,9 @@ pub struct Head {
     pub body: usize,
 }
 
-/// How much of a file a text is: a whole document, which may have a head, or a part of one, which has none.
+/// How much of a file a text contains: a whole document, which can have a head, or a fragment, which has none.
 pub trait Extent: Copy {
-    /// Whether it is a whole document.
+    /// Whether the text is a whole document.
     ghost whole: { Bool };
 
     /// Finds the head of a text.
@@ -53,7 +53,7 @@ pub trait Extent: Copy {
         ensures boundary { IsCharBoundary text.now result.body };
 }
 
-/// A whole document.
+/// A whole file, which can have a head.
 #[derive(Clone, Copy)]
 pub struct Document;
 
@@ -92,7 +92,7 @@ impl Extent for Document {
     }
 }
 
-/// A part of a document.
+/// A fragment of a file, which has no head.
 #[derive(Clone, Copy)]
 pub struct Fragment;
 
@@ -110,7 +110,7 @@ impl Extent for Fragment {
 }
 
 impl Head {
-    /// Returns the head of a document. The text may have at most `u32::MAX` bytes, which is not tested.
+    /// Returns the head of a document. The text must have at most `u32::MAX` bytes, which is not checked.
     #[tactic(auto, using(crate::proofs::lemmas::edits::Heads::is_page, std::proofs::lemmas::Grind::common_steps))]
     pub fn find(text: &str) -> Head
         requires fits { Fits text.now }
@@ -120,7 +120,7 @@ impl Head {
         Document::find_head(text)
     }
 
-    /// Returns how many tokens the head has.
+    /// Returns the number of tokens in the head.
     pub fn count(self) -> usize
         ensures { result ≡ length (spec.tokens_of_head self) }
     {
@@ -130,7 +130,7 @@ impl Head {
         }
     }
 
-    /// Appends the tokens of the head.
+    /// Appends the tokens of the head to the list.
     pub(crate) fn push_to(self, list: &mut Vec<Token>) -> Result<(), AllocError>
         ensures { OnOk result (list.new.items ≡ list.old.items ++ spec.tokens_of_head self) }
     {

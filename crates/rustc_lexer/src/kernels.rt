@@ -1,6 +1,7 @@
-//! Searches over bytes that look at 16 or 64 bytes at a time: where a run ends, and where a byte is.
+//! Searches that read 16 or 64 bytes at a time: for the end of a run, and for a byte.
 ghost use Rattle.memchr.specs.Find.{IsFirstByte, is_byte, is_byte2};
-ghost use Rattle.std.specs.Prelude.{◌≡◌, ◌+◌, ◌-◌, ◌^◌, ◌≤◌, ◌<◌, ◌∷◌, ◌&&◌, ◌||◌, ◌==◌, ℕ, suc, Bool, true, false, drop, length, map, not, slice_index, take};
+ghost use Rattle.std.specs.Prelude.{◌≡◌, ◌+◌, ◌-◌, ◌^◌, ◌≤◌, ◌<◌, ◌∷◌, ◌&&◌, ◌||◌, ◌==◌, ℕ, suc, Bool, true, false};
+ghost use Rattle.std.specs.Prelude.{drop, length, map, not, slice_index, take};
 ghost use Rattle.std.specs.List.{prefix_len};
 ghost use Rattle.std.specs.Simd.Lanes.{mask_l};
 ghost use Rattle.std.proofs.Common.{arith};
@@ -14,9 +15,9 @@ use crate::classes::ends_prefix;
 use memchr::{memchr, memchr2};
 use std::simd::prelude::*;
 
-/// A class of bytes in ASCII.
+/// A class of ASCII bytes.
 pub(crate) trait ByteClass {
-    /// How many bytes [`stops`](ByteClass::stops) looks at.
+    /// The number of bytes that [`stops`](ByteClass::stops) reads.
     const WIDTH: usize;
 
     ghost WIDTH: { ℕ };
@@ -29,13 +30,13 @@ pub(crate) trait ByteClass {
     fn has(byte: u8) -> bool
         ensures { result ≡ passes byte };
 
-    /// Returns a mask of the first bytes. Bit k is set if byte k is outside the class.
+    /// Returns a mask of the first `WIDTH` bytes. Bit k is set if byte k is outside the class.
     fn stops(bytes: &[u8]) -> u64
         requires { WIDTH ≤ length bytes.now }
         ensures { result ≡ mask_l (map (outside passes) (take WIDTH bytes.now)) };
 }
 
-/// The bytes that an identifier may continue with.
+/// The bytes that can continue an identifier.
 #[derive(Clone, Copy)]
 pub(crate) struct Continue;
 
@@ -64,7 +65,7 @@ impl ByteClass for Continue {
     }
 }
 
-/// White space.
+/// Whitespace.
 #[derive(Clone, Copy)]
 pub(crate) struct Space;
 
@@ -90,8 +91,8 @@ impl ByteClass for Space {
     }
 }
 
-/// Returns a mask of the first `len` bytes, at most 64. Bit k is set if byte k is outside the class. The last look
-/// begins where it ends with these bytes, so some are looked at twice.
+/// Returns a mask of the first `len` bytes, at most 64. Bit k is set if byte k is outside the class. The last read ends
+/// at `len`, so it can overlap the one before it.
 #[inline(always)]
 fn stops_within<C: ByteClass>(bytes: &[u8], len: usize) -> u64
     requires wide { C.WIDTH ≤ len }
@@ -109,7 +110,8 @@ fn stops_within<C: ByteClass>(bytes: &[u8], len: usize) -> u64
     stops
 }
 
-/// Returns a mask. Bit k is set unless bytes k - 1 and k both belong to a word or are both white space.
+/// Returns a mask of the offsets between runs. Bit k is set unless k is 0, or bytes k - 1 and k both belong to a word
+/// or are both whitespace.
 #[inline(always)]
 #[tactic(auto, using(crate::proofs::lemmas::tokens::Bits::bit_lemmas, std::proofs::lemmas::Grind::common_steps))]
 fn run_edges(words: u64, spaces: u64) -> u64
@@ -120,7 +122,7 @@ fn run_edges(words: u64, spaces: u64) -> u64
     !(((words << 1) & words) | ((spaces << 1) & spaces)) & !1
 }
 
-/// Returns where the runs of words and of white space end in the first `len` bytes, at least 16 and at most 64.
+/// Returns a mask of the ends of words and of runs of whitespace in the first `len` bytes, at least 16 and at most 64.
 #[inline(always)]
 fn ends_within(bytes: &[u8], len: usize) -> u64
     requires wide { 16 ≤ len }
@@ -133,8 +135,8 @@ fn ends_within(bytes: &[u8], len: usize) -> u64
     run_edges(words, spaces) & (u64::MAX >> (64 - len))
 }
 
-/// Returns where the runs of words and of white space end in the next 64 bytes, or in those that are left. Returns no
-/// ends if fewer than 16 are left.
+/// Returns a mask of the ends of words and of runs of whitespace in the next 64 bytes, or in the remaining bytes if
+/// these are fewer. If fewer than 16 remain, the mask is 0.
 #[inline(never)]
 #[tactic(auto, using(crate::proofs::lemmas::tokens::RunEnds::no_ends, std::proofs::lemmas::Grind::common_steps))]
 pub(crate) fn ends_of_runs(bytes: &[u8]) -> u64
@@ -149,7 +151,7 @@ pub(crate) fn ends_of_runs(bytes: &[u8]) -> u64
     }
 }
 
-/// Returns how many bytes at the front are in the class. The run mostly ends within `WIDTH` bytes.
+/// Returns how many leading bytes are in the class. The run usually ends within `WIDTH` bytes.
 #[inline(always)]
 pub(crate) fn run_end<C: ByteClass>(bytes: &[u8]) -> usize
     ensures value { result ≡ prefix_len C.passes bytes.now }
@@ -165,7 +167,7 @@ pub(crate) fn run_end<C: ByteClass>(bytes: &[u8]) -> usize
     stops.trailing_zeros() as usize
 }
 
-/// Returns how many bytes at the front are in the class. Mostly the first byte is not.
+/// Returns how many leading bytes are in the class. Usually the first byte is not.
 #[inline(always)]
 pub(crate) fn short_run_end<C: ByteClass>(bytes: &[u8]) -> usize
     ensures value { result ≡ prefix_len C.passes bytes.now }
@@ -177,7 +179,7 @@ pub(crate) fn short_run_end<C: ByteClass>(bytes: &[u8]) -> usize
     0
 }
 
-/// Returns how many bytes at the front are in the class. Looks at `WIDTH` bytes at a time.
+/// Returns how many leading bytes are in the class, reading `WIDTH` bytes at a time.
 #[inline(never)]
 #[tactic(auto, using(crate::proofs::lemmas::tokens::Kernels::run_lemmas, std::proofs::lemmas::Grind::common_steps))]
 fn run_end_by_lanes<C: ByteClass>(bytes: &[u8]) -> usize
@@ -195,7 +197,7 @@ fn run_end_by_lanes<C: ByteClass>(bytes: &[u8]) -> usize
     end + run_end_by_bytes::<C>(&bytes[end..])
 }
 
-/// Returns how many bytes at the front are in the class. Looks at one byte at a time.
+/// Returns how many leading bytes are in the class, reading one byte at a time.
 #[inline(never)]
 fn run_end_by_bytes<C: ByteClass>(bytes: &[u8]) -> usize
     ensures value { result ≡ prefix_len C.passes bytes.now }
@@ -208,7 +210,7 @@ fn run_end_by_bytes<C: ByteClass>(bytes: &[u8]) -> usize
     end
 }
 
-/// Returns the first place of the byte. It is mostly within 64 bytes, so these are looked at before the search is
+/// Returns the offset of the first byte `stop`. It is usually within 64 bytes, so these are searched before `memchr` is
 /// called.
 #[inline(always)]
 pub(crate) fn find_byte(stop: u8, bytes: &[u8]) -> Option<usize>
@@ -225,8 +227,8 @@ pub(crate) fn find_byte(stop: u8, bytes: &[u8]) -> Option<usize>
     memchr(stop, bytes)
 }
 
-/// Returns the first place of either byte. If such bytes come together it is the first byte, and otherwise it is
-/// mostly within 16 bytes. Both are looked at before the search is called.
+/// Returns the offset of the first byte that is either of the two. In a run of them it is 0, and otherwise it is
+/// usually within 16 bytes. Both cases are checked before `memchr2` is called.
 #[inline(always)]
 pub(crate) fn find_either(one: u8, two: u8, bytes: &[u8]) -> Option<usize>
     ensures { IsFirstByte (is_byte2 one two) bytes.now result }
@@ -244,7 +246,7 @@ pub(crate) fn find_either(one: u8, two: u8, bytes: &[u8]) -> Option<usize>
     memchr2(one, two, bytes)
 }
 
-/// Returns a mask of the first 16 bytes. Bit k is set if byte k is the one that is looked for.
+/// Returns a mask of the first 16 bytes. Bit k is set if byte k equals `byte`.
 #[inline(always)]
 fn places(byte: u8, bytes: &[u8]) -> u64
     requires { 16 ≤ length bytes.now }
@@ -256,18 +258,18 @@ fn places(byte: u8, bytes: &[u8]) -> u64
         .to_bitmask()
 }
 
-/// The bytes of a pattern that are looked for together: its first three, and its last.
+/// The bytes of a pattern that are searched for together: its first three and its last.
 #[derive(Clone, Copy)]
 struct Probe {
     first: u8,
     second: u8,
     third: u8,
     last: u8,
-    /// How many bytes the last comes after the first.
+    /// The distance from the first byte to the last.
     span: usize,
 }
 
-/// Returns the bytes of a pattern that are looked for.
+/// Returns the probe for the pattern, which is `first` followed by `more`.
 #[inline(always)]
 fn probe_of(first: u8, more: &[u8]) -> Probe
     requires { 2 ≤ length more.now }
@@ -286,8 +288,8 @@ fn probe_of(first: u8, more: &[u8]) -> Probe
     }
 }
 
-/// Returns a mask of the first 16 offsets. Bit k is set if the bytes are in their places from there on. Mostly the first
-/// is nowhere, or the last, and then the others are not looked for.
+/// Returns a mask of the first 16 offsets. Bit k is set if all bytes of the probe match at offset k. Usually the first
+/// byte or the last matches nowhere, and then the second and the third are not compared.
 #[inline(always)]
 fn candidates(probe: Probe, bytes: &[u8]) -> u64
     requires wide { 2 ≤ probe.span }
@@ -313,8 +315,8 @@ fn candidates(probe: Probe, bytes: &[u8]) -> u64
     both & seconds & thirds
 }
 
-/// Returns a number of bytes at the front among which the pattern does not begin. It looks at 16 offsets at a time, and
-/// stops at bytes that may begin it, or where too few are left.
+/// Returns a number of bytes at the start at which the pattern does not start. It checks 16 offsets at a time, and
+/// stops at an offset at which the pattern may start, or when too few bytes are left.
 pub(crate) fn skip_apart(first: u8, more: &[u8], bytes: &[u8]) -> usize
     requires { 2 ≤ length more.now }
     ensures apart { (k : ℕ) → k < result
@@ -333,7 +335,7 @@ pub(crate) fn skip_apart(first: u8, more: &[u8], bytes: &[u8]) -> usize
     bytes.len() - left.len()
 }
 
-/// Returns whether a word that ends at `end` is an identifier, as the byte after it determines.
+/// Returns whether the byte at `end`, or the end of the text, makes a word that ends there an identifier.
 #[inline(always)]
 pub(crate) fn ends_word(bytes: &[u8], end: usize) -> bool
     ensures { result ≡ not (Scan.next_is Quick.turns_word (drop end bytes.now)) }
@@ -345,7 +347,7 @@ pub(crate) fn ends_word(bytes: &[u8], end: usize) -> bool
     }
 }
 
-/// Returns whether a word before the byte can be something other than an identifier.
+/// Returns whether a word directly before the byte can be something other than an identifier.
 #[inline(always)]
 pub(crate) fn turns_word(byte: u8) -> bool
     ensures { result ≡ Quick.turns_word byte }
@@ -353,7 +355,7 @@ pub(crate) fn turns_word(byte: u8) -> bool
     byte >= 128 || ends_prefix(byte as char)
 }
 
-/// Returns whether there is no white space outside ASCII at `end`, as the first byte there determines.
+/// Returns whether the byte at `end`, or the end of the text, rules out whitespace outside ASCII there.
 #[inline(always)]
 pub(crate) fn ends_space(bytes: &[u8], end: usize) -> bool
     ensures { result ≡ not (Scan.next_is Quick.is_space_lead (drop end bytes.now)) }

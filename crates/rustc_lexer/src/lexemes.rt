@@ -1,4 +1,5 @@
-//! The first token of a text: its first character chooses it, and most families of tokens have a function.
+//! The first token of a text. Its first character determines its family, and most families have a function of their
+//! own.
 ghost use Rattle.std.specs.Prelude.{◌≡◌, ◌≢◌, ◌+◌, ◌<◌, ◌^◌, length};
 ghost use Rattle.rustc_lexer.specs.Classes.{Fits};
 ghost use Rattle.rustc_lexer.specs.declared.lexemes.family.Family.TheVariants.{Hash};
@@ -30,7 +31,7 @@ pub(crate) mod quoted;
 pub(crate) mod raw;
 mod word;
 
-/// Returns the first token of a text that does not begin with a hash, as its first character chooses.
+/// Returns the first token of a text that does not start with a hash.
 #[inline(never)]
 pub(crate) fn choose_token(text: &str) -> Token
     requires fits { Fits text.now }
@@ -50,7 +51,7 @@ pub(crate) fn choose_token(text: &str) -> Token
     }
 }
 
-/// Returns the kind of the token that begins with `first`, and the text after the token. `tail` is the text after
+/// Returns the kind of the token that starts with `first`, and the text after the token. `tail` is the text after
 /// `first`.
 #[inline(always)]
 #[tactic(auto, using(crate::proofs::lemmas::tokens::Families::by_family, std::proofs::lemmas::Grind::common_steps))]

@@ -1,8 +1,8 @@
-//! A lexer for Rust source: it splits a text into tokens.
+//! A lexer for Rust source.
 //!
-//! A token is a kind and a length in bytes. The lexer accepts every text: a fault, like a comment that nothing
-//! closes, shows in a field of its token or in the token's kind. Lexing allocates no memory. What allocates is a
-//! [`LexedText`] or a [`LexedDocument`], which keeps a text with its tokens while it is edited, and a [`JoinedText`].
+//! A token is a kind and a length in bytes. Lexing never fails: a malformed token, such as an unterminated comment,
+//! records its error in a field or has a kind of its own. Lexing does not allocate. Only [`LexedText`] and
+//! [`LexedDocument`], which update the tokens of a text as it is edited, and [`JoinedText`] allocate memory.
 #![tactic(auto)]
 
 mod classes;
@@ -10,7 +10,7 @@ mod cursor;
 mod edition;
 mod entry;
 mod frontmatter;
-// What is by hand in plain Rust names its extents.
+// It is visible in the whole crate, since the hand-written Rust uses its extents.
 pub(crate) mod head;
 mod kernels;
 mod lexemes;

@@ -1,4 +1,4 @@
-//! The check of a raw string.
+//! Validates raw strings.
 ghost use Rattle.std.specs.Prelude.{◌≡◌, ◌<◌, ◌↔◌, length, IsTrue};
 ghost use Rattle.rustc_lexer.specs.Answers.{raw_check};
 ghost use Rattle.rustc_lexer.specs.Classes.{Fits};
@@ -9,10 +9,8 @@ use crate::lexemes::raw::raw_double_quoted_string;
 use crate::scan::{first, split_first};
 use crate::token::RawStrError;
 
-/// Returns whether the first `prefix_len` characters of the text may be the prefix of a raw string. They may be if
-/// `prefix_len` is at least 1, and character number `prefix_len`, counted from 1, is `r`.
-///
-/// [`validate_raw_str`](crate::validate_raw_str) requires this of its text.
+/// Returns whether [`validate_raw_str`](crate::validate_raw_str) can be called: `prefix_len` is at least 1, and the
+/// last of the first `prefix_len` characters is `r`.
 #[inline]
 #[tactic(auto, using(crate::proofs::lemmas::tokens::RawRead::starts_is, std::proofs::lemmas::Grind::common_steps))]
 pub fn starts_raw(input: &str, prefix_len: u32) -> bool
@@ -24,17 +22,21 @@ pub fn starts_raw(input: &str, prefix_len: u32) -> bool
     first(past_chars(input, prefix_len - 1)) == 'r'
 }
 
-/// Checks the raw string at the front of the text. `Err` says why it is refused.
+/// Validates the raw string at the start of a text. `prefix_len` is the length of its prefix in characters, including
+/// the `r`: 1 for `r`, 2 for `br` and `cr`.
 ///
-/// `prefix_len` is the length of the prefix in characters, with its `r`: 1 for `r`, 2 for `br` and `cr`. The text
-/// has to pass [`starts_raw`], and may have at most `u32::MAX` bytes.
+/// [`starts_raw`] must be true, and the text may have at most `u32::MAX` bytes.
 ///
-/// An offset in the answer counts the bytes past the prefix, plus `prefix_len`. So it is an offset in the text if
-/// each character of the prefix is one byte long.
+/// An offset in an error is the number of bytes from the end of the prefix, plus `prefix_len`. It is an offset in the
+/// text if each character of the prefix is one byte long.
 ///
 /// ```ignore
 /// validate_raw_str("r##\"abc\"#", 1) // NoTerminator { expected: 2, found: 1, possible_terminator_offset: Some(8) }
 /// ```
+///
+/// # Errors
+///
+/// Returns an error if the raw string is malformed.
 #[inline]
 #[tactic(auto, using(crate::proofs::lemmas::tokens::RawRead::prefix_fits, crate::specs::laws::Scan::scan_lemmas, std::proofs::lemmas::Grind::common_steps), unfolding(crate::specs::model::Raw::check_raw))]
 pub fn validate_raw_str(input: &str, prefix_len: u32) -> Result<(), RawStrError>

@@ -1,4 +1,4 @@
-//! Incremental lexing: texts with their tokens, and edits of them.
+//! Incremental lexing: texts with their tokens, which edits update.
 mod body_change;
 mod checkpoints;
 mod common;

@@ -1,5 +1,6 @@
-//! Looks at the characters that are left of a text, and skips runs of a class at its front.
-ghost use Rattle.std.specs.Prelude.{◌≡◌, ◌<◌, ◌≤◌, ℕ, ◌∷◌, [], length, Bool, not, ◌&&◌, true, false, MatchOption, slice_index};
+//! Reads the first characters of a text, and skips leading characters of a class.
+ghost use Rattle.std.specs.Prelude.{◌≡◌, ◌<◌, ◌≤◌, ℕ, ◌∷◌, [], length, Bool, not, ◌&&◌, true, false, MatchOption};
+ghost use Rattle.std.specs.Prelude.{slice_index};
 ghost use Rattle.std.specs.Char.{is_ascii_digit, is_ascii_hexdigit};
 ghost use Rattle.std.specs.List.{prefix_len};
 ghost use Rattle.std.specs.Str.{chars};
@@ -22,7 +23,7 @@ pub(crate) fn first(rest: &str) -> char
     rest.chars().next().unwrap_or('\0')
 }
 
-/// Returns the second character, or U+0000 if the text has no more than one.
+/// Returns the second character, or U+0000 if the text has fewer than two.
 pub(crate) fn second(rest: &str) -> char
     ensures { result ≡ slice_index (chars rest.now) 1 }
 {
@@ -32,7 +33,7 @@ pub(crate) fn second(rest: &str) -> char
     }
 }
 
-/// Returns the third character, or U+0000 if the text has no more than two.
+/// Returns the third character, or U+0000 if the text has fewer than three.
 pub(crate) fn third(rest: &str) -> char
     ensures { result ≡ slice_index (chars rest.now) 2 }
 {
@@ -67,7 +68,7 @@ pub(crate) fn next_is<F: Fn(char) -> bool>(rest: &str, test: F) -> bool
     }
 }
 
-/// Returns whether the text begins with a character of ASCII, as its first byte determines.
+/// Returns whether the text starts with the ASCII character `byte`.
 #[inline(always)]
 #[tactic(auto, using(crate::proofs::lemmas::tokens::ByteSearch::begins_small, std::proofs::lemmas::Grind::common_steps))]
 pub(crate) fn begins_with(rest: &str, byte: u8) -> bool
@@ -80,8 +81,7 @@ pub(crate) fn begins_with(rest: &str, byte: u8) -> bool
     }
 }
 
-/// Returns the text after a character of ASCII, or `None` if the text does not begin with it, as its first byte
-/// determines.
+/// Returns the text after the ASCII character `byte`, or `None` if the text does not start with it.
 #[inline(always)]
 pub(crate) fn strip(rest: &str, byte: u8) -> Option<&str>
     requires ascii { byte < 128 }
@@ -96,7 +96,7 @@ pub(crate) fn strip(rest: &str, byte: u8) -> Option<&str>
     }
 }
 
-/// Returns the text after one of two characters of ASCII, or `None` if the text begins with neither.
+/// Returns the text after one of two ASCII characters, or `None` if the text starts with neither.
 #[inline(always)]
 pub(crate) fn strip_either(rest: &str, one: u8, two: u8) -> Option<&str>
     requires one { one < 128 }
@@ -112,7 +112,7 @@ pub(crate) fn strip_either(rest: &str, one: u8, two: u8) -> Option<&str>
     }
 }
 
-/// Returns how many bytes at the front pass the test. Mostly these are few, so it looks at one at a time.
+/// Returns how many leading bytes pass the test. These are usually few, so it reads one byte at a time.
 #[inline(always)]
 fn front_end<F: Fn(u8) -> bool>(bytes: &[u8], test: F) -> usize
     requires callable { F.IsAlwaysCallable test }
@@ -128,7 +128,7 @@ fn front_end<F: Fn(u8) -> bool>(bytes: &[u8], test: F) -> usize
     end
 }
 
-/// Returns the text after the hashes at the front.
+/// Returns the text after its leading hashes.
 #[inline(always)]
 pub(crate) fn eat_hashes(rest: &str) -> &str
     ensures shorter { length result.now ≤ length rest.now }
@@ -143,7 +143,7 @@ fn is_hash(byte: u8) -> bool
     byte == b'#'
 }
 
-/// Returns the text after the characters at the front that pass the test.
+/// Returns the text after the leading characters that pass the test.
 pub(crate) fn eat_while<F: Fn(char) -> bool>(rest: &str, test: F) -> &str
     requires callable { F.IsAlwaysCallable test }
     ensures shorter { length result.now ≤ length rest.now }
@@ -171,7 +171,7 @@ fn begins_wide(rest: &str) -> bool
     }
 }
 
-/// Returns the text after the characters at the front that an identifier may continue with.
+/// Returns the text after the leading characters that can continue an identifier.
 #[inline]
 pub(crate) fn eat_continue(rest: &str) -> &str
     ensures shorter { length result.now ≤ length rest.now }
@@ -185,7 +185,7 @@ pub(crate) fn eat_continue(rest: &str) -> &str
     }
 }
 
-/// Returns the text after the white space at the front.
+/// Returns the text after its leading whitespace.
 #[inline]
 pub(crate) fn eat_whitespace(rest: &str) -> &str
     ensures shorter { length result.now ≤ length rest.now }
@@ -199,8 +199,7 @@ pub(crate) fn eat_whitespace(rest: &str) -> &str
     }
 }
 
-/// Returns the text from the first `stop` on, which is a byte of ASCII, or the empty text at the end if there is
-/// none.
+/// Returns the text from the first ASCII byte `stop` on, or the empty text if there is none.
 #[inline(always)]
 pub(crate) fn eat_until(rest: &str, stop: u8) -> &str
     requires ascii { stop < 128 }
@@ -214,7 +213,7 @@ pub(crate) fn eat_until(rest: &str, stop: u8) -> &str
     }
 }
 
-/// Returns the text from the first of two bytes of ASCII on, or the empty text at the end if there is neither.
+/// Returns the text from the first of two ASCII bytes on, or the empty text if there is neither.
 #[inline(always)]
 pub(crate) fn eat_until_either(rest: &str, one: u8, two: u8) -> &str
     requires one { one < 128 }
@@ -229,7 +228,7 @@ pub(crate) fn eat_until_either(rest: &str, one: u8, two: u8) -> &str
     }
 }
 
-/// Returns the text after the digits and underscores at the front.
+/// Returns the text after its leading digits and underscores.
 #[inline]
 pub(crate) fn eat_decimal(rest: &str) -> &str
     ensures shorter { length result.now ≤ length rest.now }
@@ -239,7 +238,7 @@ pub(crate) fn eat_decimal(rest: &str) -> &str
     &rest[front_end(rest.as_bytes(), is_digit_or_underscore)..]
 }
 
-/// Returns the text after the hexadecimal digits and underscores at the front.
+/// Returns the text after its leading hexadecimal digits and underscores.
 #[inline]
 pub(crate) fn eat_hexadecimal(rest: &str) -> &str
     ensures shorter { length result.now ≤ length rest.now }

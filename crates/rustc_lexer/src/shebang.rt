@@ -12,13 +12,13 @@ use crate::entry::tokenize;
 use crate::scan::split_first;
 use crate::token::{FrontmatterAllowed, TokenKind};
 
-/// Returns the length in bytes of the shebang line at the front of a text, without the end of the line. Returns
-/// `None` if there is no such line. The text may have at most `u32::MAX` bytes.
+/// Returns the length of the shebang line at the start of a text in bytes, without its line ending, or `None` if there
+/// is none. The text may have at most `u32::MAX` bytes.
 ///
-/// A shebang line begins with `#!`. If the next token after white space and comments that are not doc comments is
-/// `[`, then it is an attribute, not a shebang line.
+/// A shebang line starts with `#!`. If the next token after whitespace and comments that are not doc comments is `[`,
+/// the text starts with an attribute instead.
 ///
-/// Rust Reference, [Shebang removal](https://doc.rust-lang.org/reference/input-format.html#shebang-removal).
+/// Rust Reference: [shebang removal](https://doc.rust-lang.org/reference/input-format.html#shebang-removal).
 ///
 /// ```ignore
 /// let line = strip_shebang("#!/bin/sh\nfn"); // Some(9)
@@ -72,7 +72,7 @@ pub fn byte_order_mark_len(text: &str) -> usize
     }
 }
 
-/// Returns whether the text after `#!` makes it an attribute.
+/// Returns whether `#!` is the start of an attribute. `tail` is the text after it.
 fn is_attribute(tail: &str) -> bool
     requires fits { Fits tail.now }
     ensures { result ≡ spec.is_attribute (tokens_of (part newest) tail.now) }
@@ -85,7 +85,7 @@ fn is_attribute(tail: &str) -> bool
     false
 }
 
-/// Returns whether a token of this kind may come between `#!` and the bracket of an attribute.
+/// Returns whether a token of this kind can come between `#!` and the bracket of an attribute.
 fn is_passed(kind: TokenKind) -> bool
     ensures { result ≡ spec.is_passed kind }
 {
@@ -98,7 +98,7 @@ fn is_passed(kind: TokenKind) -> bool
     }
 }
 
-/// Returns the length of the first line in bytes, without its end.
+/// Returns the length of the first line in bytes, without its line ending.
 fn line_len(text: &str) -> usize
     ensures line { result ≡ spec.line_len text.now }
     ensures inside { result ≤ length text.now }

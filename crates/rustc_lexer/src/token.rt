@@ -1,21 +1,22 @@
-//! Tokens: their kinds and their lengths.
+//! Tokens: their kinds and lengths.
 ghost use Rattle.std.specs.Prelude.{◌≡◌, Some};
-ghost use Rattle.rustc_lexer.specs.Kinds.{closes_group, has_fields, is_trivia, kind_entry, literal_entry, opens_group, raw_str_text};
+ghost use Rattle.rustc_lexer.specs.Kinds.{closes_group, has_fields, is_trivia, kind_entry, literal_entry, opens_group};
+ghost use Rattle.rustc_lexer.specs.Kinds.{raw_str_text};
 
 use std::error::Error;
 use std::fmt;
 
-/// A token: its kind, and how many bytes of the text it takes.
+/// A token: its kind and its length.
 #[derive(Clone, Copy, Debug, PartialEq, Eq)]
 pub struct Token {
     /// The kind of the token.
     pub kind: TokenKind,
-    /// Its length in bytes.
+    /// The length in bytes.
     pub len: u32,
 }
 
-/// The kind of a token: white space, a comment, a word, a literal, a lifetime or a symbol. A keyword is a word like any
-/// other.
+/// The kind of a token: whitespace, a comment, a frontmatter, a word, a literal, a lifetime or a symbol. A keyword is
+/// an [`Ident`](TokenKind::Ident), like any other identifier.
 ///
 /// ```
 /// use rustc_lexer::TokenKind;
@@ -24,97 +25,97 @@ pub struct Token {
 /// assert_eq!(TokenKind::Plus.number(), 37);
 /// ```
 ///
-/// Rust Reference, [Tokens](https://doc.rust-lang.org/reference/tokens.html).
+/// Rust Reference: [tokens](https://doc.rust-lang.org/reference/tokens.html).
 #[derive(Clone, Copy, Debug, PartialEq, Eq)]
 pub enum TokenKind {
-    /// A comment from `//` up to the end of the line, like `// note`.
+    /// A comment from `//` to the end of the line, such as `// note`.
     ///
-    /// Rust Reference, [Comments](https://doc.rust-lang.org/reference/comments.html).
+    /// Rust Reference: [comments](https://doc.rust-lang.org/reference/comments.html).
     LineComment {
-        /// Whether it is a doc comment, and which one.
+        /// The style of a doc comment, or `None` for any other comment.
         doc_style: Option<DocStyle>,
     },
 
-    /// A comment from `/*` up to the `*/` that closes it, like `/* note */`. Comments nest. A comment that nothing
-    /// closes takes the rest of the text.
+    /// A comment from `/*` to the matching `*/`, such as `/* note */`. Block comments nest. An unterminated one extends
+    /// to the end of the text.
     ///
-    /// Rust Reference, [Comments](https://doc.rust-lang.org/reference/comments.html).
+    /// Rust Reference: [comments](https://doc.rust-lang.org/reference/comments.html).
     BlockComment {
-        /// Whether it is a doc comment, and which one.
+        /// The style of a doc comment, or `None` for any other comment.
         doc_style: Option<DocStyle>,
-        /// Whether its closing `*/` is in the text.
+        /// Whether the closing `*/` is present.
         terminated: bool,
     },
 
-    /// A run of white space.
+    /// A run of whitespace.
     ///
-    /// Rust Reference, [Whitespace](https://doc.rust-lang.org/reference/whitespace.html).
+    /// Rust Reference: [whitespace](https://doc.rust-lang.org/reference/whitespace.html).
     Whitespace,
 
-    /// A frontmatter: a block between two lines of dashes, which may come before the source of a document.
+    /// A frontmatter: a block between two fences of dashes, which may come before the source in a file.
     Frontmatter {
-        /// Whether the token begins with white space, which is an error. Such white space does not end in a newline.
+        /// Whether the token starts with whitespace, which is an error. This whitespace does not end in a newline.
         has_invalid_preceding_whitespace: bool,
-        /// Whether its first line has more on it than dashes, an infostring and blanks, or the text ends in that line.
-        /// Both are errors.
+        /// Whether the line of the opening fence contains more than dashes, an infostring and blanks, or the text ends
+        /// in that line. Both are errors.
         invalid_infostring: bool,
     },
 
-    /// An identifier or a keyword, like `value` or `while`.
+    /// An identifier or a keyword, such as `value` or `while`.
     ///
-    /// Rust Reference, [Identifiers](https://doc.rust-lang.org/reference/identifiers.html).
+    /// Rust Reference: [identifiers](https://doc.rust-lang.org/reference/identifiers.html).
     Ident,
 
-    /// A word that would be an identifier without the emoji in it.
+    /// A word that is not an identifier because it contains an emoji.
     InvalidIdent,
 
-    /// A raw identifier, like `r#while`.
+    /// A raw identifier, such as `r#while`.
     ///
-    /// Rust Reference, [Raw identifiers](https://doc.rust-lang.org/reference/identifiers.html#raw-identifiers).
+    /// Rust Reference: [raw identifiers](https://doc.rust-lang.org/reference/identifiers.html#raw-identifiers).
     RawIdent,
 
-    /// A forced keyword, like `k#while`.
+    /// A forced keyword, such as `k#while`.
     ForcedKeywordIdent,
 
-    /// An identifier directly before `#`, `"` or `'`, like the `z` of `z"a"`. That character is not part of the token.
+    /// An identifier directly before `#`, `"` or `'`, such as `z` in `z"a"`. That character is not part of the token.
     ///
-    /// Rust Reference, [Reserved prefixes](https://doc.rust-lang.org/reference/tokens.html#reserved-prefixes).
+    /// Rust Reference: [reserved prefixes](https://doc.rust-lang.org/reference/tokens.html#reserved-prefixes).
     UnknownPrefix,
 
-    /// A lifetime directly before `#`, like the `'z` of `'z#`. The `#` is not part of the token.
+    /// A lifetime directly before `#`, such as `'z` in `'z#`. The `#` is not part of the token.
     ///
-    /// Rust Reference, [Reserved prefixes](https://doc.rust-lang.org/reference/tokens.html#reserved-prefixes).
+    /// Rust Reference: [reserved prefixes](https://doc.rust-lang.org/reference/tokens.html#reserved-prefixes).
     UnknownPrefixLifetime,
 
-    /// A raw lifetime, like `'r#while`.
+    /// A raw lifetime, such as `'r#while`.
     ///
-    /// Rust Reference, [Lifetimes and loop
+    /// Rust Reference: [lifetimes and loop
     /// labels](https://doc.rust-lang.org/reference/tokens.html#lifetimes-and-loop-labels).
     RawLifetime,
 
-    /// `#"` or `##`, with which a guarded string may begin.
+    /// `#"` or `##`, which can start a guarded string.
     ///
-    /// Rust Reference, [Reserved guards](https://doc.rust-lang.org/reference/tokens.html#reserved-guards).
+    /// Rust Reference: [reserved guards](https://doc.rust-lang.org/reference/tokens.html#reserved-guards).
     GuardedStrPrefix,
 
-    /// A literal with its suffix, like `12u8` or `"note"`.
+    /// A literal with its suffix, such as `12u8` or `"note"`.
     ///
-    /// Rust Reference, [Literals](https://doc.rust-lang.org/reference/tokens.html#literals).
+    /// Rust Reference: [literals](https://doc.rust-lang.org/reference/tokens.html#literals).
     Literal {
         /// The kind of the literal.
         kind: LiteralKind,
-        /// The offset of the suffix, in bytes from the start of the token. If there is no suffix, it is the length of
-        /// the token.
+        /// The offset of the suffix, in bytes from the start of the token, or the length of the token if there is no
+        /// suffix.
         suffix_start: u32,
     },
 
-    /// A lifetime, like `'a`.
+    /// A lifetime, such as `'a`.
     ///
-    /// Rust Reference, [Lifetimes and loop
+    /// Rust Reference: [lifetimes and loop
     /// labels](https://doc.rust-lang.org/reference/tokens.html#lifetimes-and-loop-labels).
     Lifetime {
-        /// Whether its name is one that Rust does not allow: the name begins with an ASCII digit or an emoji, or a
-        /// later character of it is an emoji that may not continue an identifier.
+        /// Whether the name is invalid: it starts with an ASCII digit or an emoji, or it contains an emoji that cannot
+        /// continue an identifier.
         starts_with_number: bool,
     },
 
@@ -173,26 +174,26 @@ pub enum TokenKind {
     /// `%`
     Percent,
 
-    /// A character that begins no other token.
+    /// A character that starts no other token.
     Unknown,
 
-    /// The end of the text. Its length is 0.
+    /// The end of the text. The token has length 0.
     Eof,
 }
 
-/// The numbers of the kinds that have fields, as bits: a `match` would be a jump for each kind, which the processor cannot
-/// predict.
+/// The kinds that have fields, as bits at their numbers. A `match` would compile to a jump for each kind, which the
+/// processor cannot predict.
 const WITH_FIELDS: u64 = 1 << 1 | 1 << 2 | 1 << 4 | 1 << 13 | 1 << 14;
 
 impl TokenKind {
-    /// Returns the name of the kind, which is the name of its variant, like `Ident`.
+    /// Returns the name of the kind, which is the name of its variant, such as `Ident`.
     pub fn name(self) -> &'static str
         ensures { result.now ≡ (kind_entry self).1 }
     {
         self.entry().1
     }
 
-    /// Returns the number of the kind. Numbers begin at 1 and never change: a new kind gets a new number.
+    /// Returns the number of the kind. Numbers start at 1 and never change: a new kind gets a new number.
     #[inline(always)]
     pub fn number(self) -> u8
         ensures { result ≡ (kind_entry self).0 }
@@ -200,7 +201,7 @@ impl TokenKind {
         self.entry().0
     }
 
-    /// Returns whether the kind has fields: that of a comment, a frontmatter, a literal or a lifetime has.
+    /// Returns whether the kind has fields. Comments, frontmatters, literals and lifetimes do.
     #[inline(always)]
     pub fn has_fields(self) -> bool
         ensures { result ≡ has_fields self }
@@ -208,7 +209,7 @@ impl TokenKind {
         WITH_FIELDS >> self.number() & 1 == 1
     }
 
-    /// Returns whether a parser passes over the token: white space, or a comment that documents nothing.
+    /// Returns whether a parser skips the token: it is whitespace, or a comment that is not a doc comment.
     ///
     /// ```
     /// use rustc_lexer::{DocStyle, TokenKind};
@@ -230,7 +231,7 @@ impl TokenKind {
         )
     }
 
-    /// Returns whether the token opens a group: whether it is `(`, `[` or `{`.
+    /// Returns whether the token opens a group: it is `(`, `[` or `{`.
     ///
     /// ```
     /// use rustc_lexer::TokenKind;
@@ -246,7 +247,7 @@ impl TokenKind {
         )
     }
 
-    /// Returns whether the token closes a group: whether it is `)`, `]` or `}`.
+    /// Returns whether the token closes a group: it is `)`, `]` or `}`.
     ///
     /// ```
     /// use rustc_lexer::TokenKind;
@@ -317,9 +318,9 @@ impl TokenKind {
     }
 }
 
-/// Where a doc comment stands: before the item that it describes, or inside it.
+/// The style of a doc comment: before the item that it documents, or inside it.
 ///
-/// Rust Reference, [Doc comments](https://doc.rust-lang.org/reference/comments.html#doc-comments).
+/// Rust Reference: [doc comments](https://doc.rust-lang.org/reference/comments.html#doc-comments).
 #[derive(Clone, Copy, Debug, PartialEq, Eq)]
 pub enum DocStyle {
     /// `///` or `/**`
@@ -328,7 +329,7 @@ pub enum DocStyle {
     Inner,
 }
 
-/// The kind of a literal: a number, a character, a byte or a string, and whether it is whole. Its suffix does not
+/// The kind of a literal: a number, a character, a byte or a string, and whether it is complete. The suffix does not
 /// matter: `1f32` is an `Int`.
 ///
 /// ```
@@ -339,79 +340,79 @@ pub enum DocStyle {
 /// assert_eq!(kind.number(), 5);
 /// ```
 ///
-/// Rust Reference, [Literals](https://doc.rust-lang.org/reference/tokens.html#literals).
+/// Rust Reference: [literals](https://doc.rust-lang.org/reference/tokens.html#literals).
 #[derive(Clone, Copy, Debug, PartialEq, Eq, PartialOrd, Ord)]
 pub enum LiteralKind {
-    /// An integer, like `12u8` or `0x1F`.
+    /// An integer, such as `12u8` or `0x1F`.
     ///
-    /// Rust Reference, [Integer literals](https://doc.rust-lang.org/reference/tokens.html#integer-literals).
+    /// Rust Reference: [integer literals](https://doc.rust-lang.org/reference/tokens.html#integer-literals).
     Int {
-        /// The base of its digits.
+        /// The base of the digits.
         base: Base,
-        /// Whether no digit follows the prefix of the base, like in `0x`.
+        /// Whether no digit follows the prefix, as in `0x`.
         empty_int: bool,
     },
-    /// A number with a point or an exponent, like `1.5` or `2e9`.
+    /// A number with a point or an exponent, such as `1.5` or `2e9`.
     ///
-    /// Rust Reference, [Floating-point
+    /// Rust Reference: [floating-point
     /// literals](https://doc.rust-lang.org/reference/tokens.html#floating-point-literals).
     Float {
-        /// The base of its digits.
+        /// The base of the digits.
         base: Base,
-        /// Whether no digit follows the letter of the exponent, like in `2e`.
+        /// Whether the exponent has no digits, as in `2e`.
         empty_exponent: bool,
     },
-    /// A character, like `'a'`.
+    /// A character, such as `'a'`.
     Char {
-        /// Whether a quote closes it.
+        /// Whether the closing quote is present.
         terminated: bool,
     },
-    /// A byte, like `b'a'`.
+    /// A byte, such as `b'a'`.
     Byte {
-        /// Whether a quote closes it.
+        /// Whether the closing quote is present.
         terminated: bool,
     },
-    /// A string, like `"note"`.
+    /// A string, such as `"note"`.
     Str {
-        /// Whether a quote closes it.
+        /// Whether the closing quote is present.
         terminated: bool,
     },
-    /// A byte string, like `b"note"`.
+    /// A byte string, such as `b"note"`.
     ByteStr {
-        /// Whether a quote closes it.
+        /// Whether the closing quote is present.
         terminated: bool,
     },
-    /// A C string, like `c"note"`.
+    /// A C string, such as `c"note"`.
     CStr {
-        /// Whether a quote closes it.
+        /// Whether the closing quote is present.
         terminated: bool,
     },
-    /// A raw string, like `r"note"` or `r#"note"#`.
+    /// A raw string, such as `r"note"` or `r#"note"#`.
     RawStr {
-        /// How many hashes it has on each side. `None` if the string is refused.
+        /// The number of hashes on each side, or `None` if the string is malformed.
         n_hashes: Option<u8>,
     },
-    /// A raw byte string, like `br"note"` or `br#"note"#`.
+    /// A raw byte string, such as `br"note"` or `br#"note"#`.
     RawByteStr {
-        /// How many hashes it has on each side. `None` if the string is refused.
+        /// The number of hashes on each side, or `None` if the string is malformed.
         n_hashes: Option<u8>,
     },
-    /// A raw C string, like `cr"note"` or `cr#"note"#`.
+    /// A raw C string, such as `cr"note"` or `cr#"note"#`.
     RawCStr {
-        /// How many hashes it has on each side. `None` if the string is refused.
+        /// The number of hashes on each side, or `None` if the string is malformed.
         n_hashes: Option<u8>,
     },
 }
 
 impl LiteralKind {
-    /// Returns the name of the kind, which is the name of its variant, like `Int`.
+    /// Returns the name of the kind, which is the name of its variant, such as `Int`.
     pub fn name(self) -> &'static str
         ensures { result.now ≡ (literal_entry self).1 }
     {
         self.entry().1
     }
 
-    /// Returns the number of the kind. Numbers begin at 1 and never change: a new kind gets a new number.
+    /// Returns the number of the kind. Numbers start at 1 and never change: a new kind gets a new number.
     #[inline(always)]
     pub fn number(self) -> u8
         ensures { result ≡ (literal_entry self).0 }
@@ -441,42 +442,42 @@ impl LiteralKind {
     }
 }
 
-/// A guarded string: a string between hashes, like `#"note"#`.
+/// A guarded string, which is a string between hashes, such as `#"note"#`.
 ///
-/// Rust Reference, [Reserved guards](https://doc.rust-lang.org/reference/tokens.html#reserved-guards).
+/// Rust Reference: [reserved guards](https://doc.rust-lang.org/reference/tokens.html#reserved-guards).
 #[derive(Clone, Copy, Debug, PartialEq, Eq, PartialOrd, Ord)]
 pub struct GuardedStr {
-    /// How many hashes it has before the string.
+    /// The number of hashes before the string.
     pub n_hashes: u32,
-    /// Whether a quote closes the string.
+    /// Whether the closing quote is present.
     pub terminated: bool,
-    /// The length of the whole token in bytes, with the bytes that were pending.
+    /// The length of the whole token in bytes, including the bytes that were pending.
     pub token_len: u32,
 }
 
-/// The reason why a raw string is refused.
+/// The error of a malformed raw string.
 ///
-/// Rust Reference, [Raw string literals](https://doc.rust-lang.org/reference/tokens.html#raw-string-literals).
+/// Rust Reference: [raw string literals](https://doc.rust-lang.org/reference/tokens.html#raw-string-literals).
 #[derive(Clone, Copy, Debug, PartialEq, Eq, PartialOrd, Ord)]
 pub enum RawStrError {
-    /// There is neither a hash nor a quote where the string should begin, like in `r#~"note"#`.
+    /// There is no opening quote after the prefix and its hashes, as in `r#~"note"#`.
     InvalidStarter {
-        /// The character that is there, or U+0000 at the end of the text.
+        /// The character found there, or U+0000 at the end of the text.
         bad_char: char,
     },
-    /// Nothing closes the string, like in `r##"note"#`.
+    /// The string is unterminated, as in `r##"note"#`.
     NoTerminator {
-        /// How many hashes would close it.
+        /// The number of hashes that would terminate it.
         expected: u32,
-        /// The most hashes that follow a quote in it.
+        /// The maximum number of hashes that follow a quote in it.
         found: u32,
-        /// Where the first quote with `found` hashes after it ends: the number of bytes from the end of the prefix,
-        /// plus the length of the prefix. `None` if `found` is 0.
+        /// The end of the first quote with `found` hashes after it, or `None` if `found` is 0. It is the number of
+        /// bytes from the end of the prefix, plus the length of the prefix in characters.
         possible_terminator_offset: Option<u32>,
     },
-    /// The string has more than 255 hashes on each side.
+    /// There are more than 255 hashes on each side.
     TooManyDelimiters {
-        /// How many hashes it has on each side.
+        /// The number of hashes on each side.
         found: u32,
     },
 }
@@ -504,7 +505,7 @@ impl Error for RawStrError {}
 
 /// The base of a number.
 ///
-/// Rust Reference, [Integer literals](https://doc.rust-lang.org/reference/tokens.html#integer-literals).
+/// Rust Reference: [integer literals](https://doc.rust-lang.org/reference/tokens.html#integer-literals).
 #[derive(Clone, Copy, Debug, PartialEq, Eq, PartialOrd, Ord)]
 pub enum Base {
     /// Base 2, with the prefix `0b`.
@@ -517,13 +518,13 @@ pub enum Base {
     Hexadecimal = 16,
 }
 
-/// Whether a text may begin with a frontmatter.
+/// Whether a text may start with a frontmatter.
 ///
-/// [RFC 3503](https://rust-lang.github.io/rfcs/3503-frontmatter.html).
+/// Rust RFC 3503: [frontmatter](https://rust-lang.github.io/rfcs/3503-frontmatter.html).
 #[derive(Clone, Copy, PartialEq, Eq)]
 pub enum FrontmatterAllowed {
-    /// It may. The text is a file past its shebang line.
+    /// The text may start with a frontmatter: it is a file after its shebang line.
     Yes,
-    /// It may not. The text is a part of a document.
+    /// The text has no frontmatter: it is a fragment of a file.
     No,
 }

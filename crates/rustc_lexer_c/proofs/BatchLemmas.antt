@@ -1,4 +1,4 @@
--- A batch, by what `fill` says of the tokens that are left.
+-- A batch, from the contract of `fill`.
 use Rattle.std.proofs.Common.{◌≡◌, ℕ, ◌+◌, ◌-◌, ◌≤◌, List, length, drop, sym, ap, subst, ◌∙◌, arith, length-drop}
 use Rattle.std.proofs.Common.{IsCharBoundary}
 use Rattle.std.proofs.lemmas.{Grind.{common_steps}, Str.{IsCharBoundary-from_rest, IsUtf8-drop}}
@@ -15,7 +15,7 @@ use Rattle.rustc_lexer_c.specs.Numbers.{token_numbers}
 allowed_back : (allowed : FrontmatterAllowed) → allowed_of (allowed_number allowed) ≡ allowed
 allowed_back allowed = grind (arith, common_steps)
 
--- the number of a flag is that of what it asks for, in each edition
+-- The number of a flag equals the number of its mode, in each edition.
 number_of-mode : (allowed : FrontmatterAllowed) (edition : Edition)
     → allowed_number allowed ≡ mode_number (mode_in allowed edition)
 number_of-mode allowed edition = grind (arith, common_steps)

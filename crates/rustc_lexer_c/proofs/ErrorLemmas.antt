@@ -1,4 +1,4 @@
--- The kind that numbers stand for has the class and the error of each token with these numbers.
+-- Each token has the class and the error of the kind that `kind_of` returns for its numbers.
 use Rattle.std.proofs.Common.{◌≡◌, true, false, List, ℕ, None, Some, ap, arith, refl, sym, ◌∙◌}
 use Rattle.std.proofs.lemmas.Grind.{common_steps}
 use Rattle.rustc_lexer.specs.declared.{edition.{Edition.{Edition, TheVariants.{E2024}}}, token.Token.{Token}}

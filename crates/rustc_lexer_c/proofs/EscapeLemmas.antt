@@ -1,4 +1,4 @@
--- One more unit of a literal.
+-- Writing the units of a literal, one at a time.
 use Rattle.std.proofs.Common.{◌≡◌, ℕ, false, true≢false, ◌+◌, ◌≤◌, List, [], ◌∷◌, length, take, drop, min, max, sym, ap}
 use Rattle.std.proofs.Common.{◌∙◌, arith, Option, Some, None}
 use Rattle.std.proofs.lemmas.{Bool.{cond_both}, Grind.{common_steps}, List.{drop-drop, length-map, length-set}}
@@ -14,19 +14,19 @@ use Rattle.rustc_lexer_c.specs.{declared.escapes.CUnit.{CUnit}, Escapes.{IsUnits
 use Rattle.rustc_lexer_c.proofs.BufferLemmas.{all_taken, back_step, buffer_filled, count_second, few_step, front_step}
 use Rattle.rustc_lexer_c.proofs.BufferLemmas.{left_step}
 
--- what is left past one more, if there is one
+-- After one more unit, if there is one, the rest of the units is shorter by this unit.
 pub passed_step : {X : Type 0} (all at past : List X) (over : ℕ) (next : Option X) → at ≡ drop over all
     → TakesFirst at next past → past ≡ drop (over + 1) all
 passed_step all at past over None is taken = taken.1 ∙ (ap (drop 1) (sym taken.0 ∙ is) ∙ drop-drop 1 over all)
 passed_step all at past over (Some x) is taken = left_step all past over x (sym is ∙ taken)
 
--- what the buffer holds at the end
+-- At the end, the buffer contains the batch.
 pub units_done : (all : List CUnit) (passed : ℕ) (buffer old : List CUnit) (count : ℕ)
     → take count buffer ≡ take count (drop passed all) → drop count buffer ≡ drop count old
     → count ≡ min (length old) (length (drop passed all)) → IsUnits all passed old buffer count
 units_done all passed buffer old count front back is = grind (arith, common_steps, buffer_filled)
 
--- past all of them nothing is written
+-- If all units are skipped, nothing is written.
 pub none_left : (all at past : List CUnit) (over passed : ℕ) (buffer : List CUnit) (next : Option CUnit)
     → at ≡ drop over all → over ≤ passed → is_some next ≡ false → TakesFirst at next past
     → IsUnits all passed buffer buffer 0
@@ -38,7 +38,7 @@ unix-shorter [] = omega arith
 unix-shorter (c ∷ s) = let rest = unix-shorter s in
     by_either (ends_line c s) (λ e. rw e (omega (arith, rest))) (λ e. rw e (omega (arith, rest)))
 
--- there are no more of them than bytes, or one
+-- A text has at most as many units as bytes, or one if it is empty.
 pub units_few : (mode : Mode) (text : List ℕ) → IsUtf8 text → length (units_of mode text) ≤ max 1 (length text)
 units_few mode text is = grind (arith, common_steps, cond_both, le-max_left, items-few, le-max_right)
 

@@ -20,7 +20,7 @@ kind-back : (kind : TokenKind) (len : ℕ) → is_frontmatter kind ≡ true
 unfolding token_numbers first_of second_of
 kind-back kind len w2 = grind (arith, common_steps, bool-back)
 
--- the numbers of a frontmatter tell it, and so those of a head
+-- Converting a head to numbers and back gives the same head.
 back_with : (n end space : ℕ) (front : Option Token) → (front ≡ None → space ≡ 0)
     → ((t : Token) → front ≡ Some t → is_frontmatter t.kind ≡ true)
     → head_of (numbers_of_head (record { tokens_start = n; space_len = space; frontmatter = front; body = end })) ≡
@@ -39,11 +39,11 @@ back_with n end (suc m) (Some t) bare is =
     } in h) (kind-back t.kind t.len (is t refl))
 
 module _ (text : List ℕ) (is : IsText text) where
-  -- a head of the text has the numbers of the text
+  -- A head of the text has the numbers of the text.
   pub numbers_are : (head : Head) → IsHeadOf text head → numbers_of_head head ≡ head_numbers text
   numbers_are head h = cc (h.shebang_is, h.end_is, h.tokens_are)
 
-  -- the numbers of a text tell its head
+  -- The numbers of a text convert back to its head.
   pub head_back : IsHeadOf text (head_of (head_numbers text))
   head_back =
       let head = (some_head text is).1 in
@@ -55,14 +55,14 @@ module _ (text : List ℕ) (is : IsText text) where
 abbrev first : List ℕ → Token
 first = first_in newest
 
--- what `change_to` promises of each text before
+-- Holds if the contract of `change_to` holds for each text before the edit.
 abbrev pub Changes : CHead → CEdit → Head → Bool → Change → Type 0
 Changes c edit now keeps change = (first : List ℕ → Token) (before insert text : List ℕ) → IsGrammar first
     → IsEditOf before (change_of edit) insert text → IsHeadOf before (head_of c) → IsHeadOf text now
     → IsBodyChange first before (change_of edit) insert text keeps change
 
 module _ (text : List ℕ) (is : IsText text) (edit : CEdit) (c : CHead) (body : CEdit) (kept : ℕ) where
-  -- the old numbers tell the old head
+  -- The old numbers convert back to the old head.
   of_old : (before insert : List ℕ) → IsEditOf before (change_of edit) insert text → c ≡ head_numbers before
       → IsHeadOf before (head_of c)
   of_old before insert e same =

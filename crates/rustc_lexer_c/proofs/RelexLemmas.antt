@@ -1,4 +1,4 @@
--- How far a text is relexed, as numbers and back.
+-- The state of relexing as numbers, and back.
 use Rattle.std.specs.Prelude.{IfSome}
 use Rattle.std.proofs.Common.{◌≡◌, ◌≢◌, ℕ, ◌+◌, ◌-◌, ◌<◌, ◌≤◌, true, List, ◌++◌, length, map, take, drop, refl, sym, ap}
 use Rattle.std.proofs.Common.{◌∙◌, subst, arith, take-add, Option, Some, None}
@@ -6,7 +6,7 @@ use Rattle.std.proofs.lemmas.{Grind.{common_steps}, List.{length-map, length-tak
 use Rattle.rustc_lexer.specs.declared.{edition.Edition.{Edition}, relex.relexing.Relexed.{Relexed}}
 use Rattle.rustc_lexer.specs.declared.{relex.relexing.Relexing.{Relexing}, token.Token.{Token}}
 use Rattle.rustc_lexer.specs.{Tokens.{tokens_by, tokens_of}, Answers.{first_in}, LanguageText.{part}}
-use Rattle.rustc_lexer.specs.{Edits.{IsRelexed, part_by}, Relexing.{known}}
+use Rattle.rustc_lexer.specs.{Edits.{IsRelexed, fragment_by}, Relexing.{known}}
 use Rattle.rustc_lexer.specs.Relexing.{IsChange, IsMadeOf, IsUnderWay, IsWhole, CanContinue, TakesSteps, is_done}
 use Rattle.rustc_lexer.specs.{Classes.{IsText}, LanguageCalls.{edition_of_year}}
 use Rattle.rustc_lexer.specs.{Locality.{IsGrammar}, laws.Edition.{edition_grammar}}
@@ -17,7 +17,7 @@ use Rattle.rustc_lexer_c.specs.Numbers.{token_numbers}
 use Rattle.rustc_lexer_c.specs.Relex.{IsPassed, IsRelexBatch, MayRelex, Relexes, change_of, front_of, lexed_before}
 use Rattle.rustc_lexer_c.specs.Relex.{numbers_of, relexing_of, written}
 
--- what follows for the value of an `Option`, if there is one
+-- A property of the value of an `Option` can be replaced by a consequence.
 pub if_some : {X : Type 0} {P Q : X → Type 0} (r : Option X) → IfSome r P → ((x : X) → P x → Q x) → IfSome r Q
 if_some None p all = tt
 if_some (Some x) p all = all x p
@@ -30,12 +30,12 @@ if_each (Some x) p q r all = all x p q r
 pub none_some : {X : Type 0} {x : X} → Some x ≡ None → ⊥
 none_some e = grind (arith, common_steps)
 
--- the numbers are those of where it stands
+-- Converting a state to numbers and back gives the same state, if `met` is set exactly when relexing is done.
 relex_back : (text : List ℕ) (n : ℕ) (at : Relexing) → at.back.index ≤ n → is_done text at ≡ at.met
     → relexing_of n (numbers_of text n at) ≡ at
 relex_back text n at few over = grind (arith, common_steps)
 
--- what this call wrote comes behind what was written
+-- The tokens of this call follow the tokens that were written before.
 written_more : (new : List Token) (front before count lexed : ℕ) (buffer filled : List CToken) → lexed ≡ before + count
     → front + lexed ≤ length new
     → filled ≡ map token_numbers (take count (drop (front + before) new)) ++ drop count buffer
@@ -43,7 +43,7 @@ written_more : (new : List Token) (front before count lexed : ℕ) (buffer fille
 written_more new front before count lexed buffer filled sum inside e =
     grind (arith, common_steps, length-take-le, take-add)
 
--- the list that is put together is that of the new tokens
+-- The spliced list has the new tokens.
 list_whole : (tokens new : List Token) (at : Relexing) (n : ℕ) (old : List CToken) → n ≡ at.back.index
     → old ≡ map token_numbers tokens → IsWhole tokens new at
     → take at.front.index old ++ (written new at.front.index at.lexed ++ drop n old) ≡ map token_numbers new
@@ -85,7 +85,7 @@ module _ (edition : Edition) (text : List ℕ) (old : List CToken) (change : CEd
         let law = edition_grammar edition in
         let so = stands before insert is (begun first before insert law is passed) in
         let found = relexed_is law is.edit_of in
-        let counted = (counts_of (part_by first) is.edit_of found.0).1 found.1 in
+        let counted = (counts_of (fragment_by first) is.edit_of found.0).1 found.1 in
         let met = counts_met law is so.0 in
         let lexed = steps.lexed in
         let over = over_is before insert is so.0 in
@@ -113,14 +113,14 @@ module _ (edition : Edition) (text : List ℕ) (old : List CToken) (change : CEd
           counts = λ e. subst
               (λ (n : ℕ). let r : Relexed = record
               { kept_front = at.front.index; lexed = at.lexed; kept_back = n - at.back.index } in
-              IsRelexed (part_by first) before change.start change.old_end insert r) all
+              IsRelexed (fragment_by first) before change.start change.old_end insert r) all
               (met (grind (arith, common_steps))).0;
           list = λ e are. list_whole (tokens_by first before) (tokens_by first text) at
               (length old - (length old - at.back.index)) old back are (met (grind (arith, common_steps))).1;
         };
   }
 
-  -- a call that is done
+  -- A call that succeeds meets its contract.
   pub relexed : IsText text → (year : ℕ) → edition_of_year year ≡ Some edition
       → ¬ (¬ (IsChange text (change_of change) × MayRelex text (length old) c))
       → count ≤ length buffer → TakesSteps first text (change_of change).new_end begin count at

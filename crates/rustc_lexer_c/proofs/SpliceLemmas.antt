@@ -1,4 +1,4 @@
--- What a list holds once other items stand between its front and its back.
+-- The contents of a list after the items between its front and its back were replaced.
 use Rattle.std.proofs.Common.{◌≡◌, ℕ, ◌+◌, ◌-◌, ◌≤◌, List, ◌++◌, length, take, drop, sym, ap, ◌∙◌, arith, length-drop}
 use Rattle.std.proofs.lemmas.List.{drop-take, length-take-le, take-append-le, take-take, Edits.{take-paste}}
 use Rattle.std.proofs.Math.Seq.{drop-append_seam, paste, take-append-add}
@@ -8,7 +8,7 @@ module _ {X : Type 0} (xs ys : List X) (front back count : ℕ) (apart : front +
   abbrev end : ℕ
   end = front + length ys
 
-  -- the back, as the old list has it
+  -- Returns the back of the old list.
   abbrev last : List X
   last = take back (drop (count - back) xs)
 

@@ -1,4 +1,4 @@
--- Tokens in batches: as many as the buffer has room for, and where the next batch begins.
+-- Batches of tokens: a call writes as many tokens as the buffer has room for, and the position of the next batch.
 use Rattle.std.specs.Prelude.{ℕ, zero, suc, ◌≡◌, ◌≢◌, List, [], ◌∷◌, ◌++◌, length, map, take, drop, min, Some}
 use Rattle.std.specs.Str.{IsCharBoundary}
 use Rattle.rustc_lexer.specs.declared.edition.Edition.{Edition}
@@ -16,7 +16,7 @@ use Rattle.rustc_lexer_c.specs.Numbers.{token_numbers}
 use Rattle.rustc_lexer_c.specs.declared.status.Refusal.TheVariants.{BadPlace}
 use Rattle.rustc_lexer_c.specs.Status.{IsPlaceStatus, IsStatus, OK, refusal_number}
 
--- the flag for a number: 0 is `No`, and any other number is `Yes`
+-- Returns the flag with this number: 0 is `No`, and any other number is `Yes`.
 abbrev pub allowed_of : ℕ → FrontmatterAllowed
 allowed_of zero = No
 allowed_of (suc n) = Yes
@@ -25,22 +25,21 @@ abbrev pub allowed_number : FrontmatterAllowed → ℕ
 allowed_number No = 0
 allowed_number Yes = 1
 
--- whether the rest of the text may begin with a frontmatter: 1 at the start of source, 0 in a
--- part
+-- Returns whether the rest of the text can start with a frontmatter: 1 at the start of a document, 0 in a fragment.
 abbrev pub mode_number : Mode → ℕ
 mode_number (source edition) = 1
 mode_number (part edition) = 0
 
--- zeros, which stand for no token
+-- If there is no token, all fields are 0.
 abbrev pub no_token : CToken
 no_token = record { kind = 0; first = 0; second = 0; third = 0; suffix_start = 0; len = 0 }
 
--- the first of these tokens as numbers, or zeros if there is none
+-- Returns the first of the tokens as numbers, or zeros if there is none.
 abbrev pub first_numbers : List Token → CToken
 first_numbers [] = no_token
 first_numbers (token ∷ tokens) = token_numbers token
 
--- the state of a cursor at this offset in an edition, with nothing pending
+-- Returns the state of a cursor at a position, in an edition and with nothing pending.
 abbrev pub state_at : Edition → List ℕ → CPlace → State
 state_at edition text place = record {
   pending = 0;
@@ -48,9 +47,9 @@ state_at edition text place = record {
   mode = mode_in (allowed_of place.frontmatter_allowed) edition;
 }
 
--- the batch from a state on. The start of the buffer holds the next tokens as numbers, as many as
--- are left or as there is room for, and the rest of the buffer is unchanged. `place` is where the
--- next batch of the same edition begins, with the tokens that are still left
+-- Holds if a call wrote the batch of the tokens that are left in a state. The buffer starts with these tokens as
+-- numbers: all of them, or as many as there is room for. The rest of the buffer is unchanged. `place` is the position
+-- of the next batch in the same edition, and exactly the remaining tokens are left there.
 pub record IsBatch (text : List ℕ) (s : State) (buffer : List CToken) (place : CPlace)
     (filled : List CToken) (count : ℕ) : Type 0 where
   pub as_many : count ≡ min (length buffer) (length (tokens_left s))
@@ -60,15 +59,15 @@ pub record IsBatch (text : List ℕ) (s : State) (buffer : List CToken) (place :
   pub allowed : place.frontmatter_allowed ≡ mode_number (state_past count s).mode
   pub left : tokens_left (state_at (mode_edition s.mode) text place) ≡ drop count (tokens_left s)
 
--- a call that returns the tokens from a place on, whose offset must be between characters, in the
--- newest edition. If the call is refused, nothing is written
+-- A call writes the tokens from a position on, in the newest edition. The offset of the position must be a char
+-- boundary. If the call fails, the position and the buffer are unchanged, and the count is 0.
 pub record TakesTokens (text : List ℕ) (place place' : CPlace) (buffer filled : List CToken)
     (count status : ℕ) : Type 0 where
   pub status_is : IsStatus text (IsCharBoundary text place.at) (refusal_number BadPlace) status
   pub batch : status ≡ OK → IsBatch text (state_at newest text place) buffer place' filled count
   pub refused : status ≢ OK → (place' ≡ place) × (filled ≡ buffer) × (count ≡ 0)
 
--- the same in the edition of a year
+-- A call does the same in the edition of a year.
 pub record TakesTokensIn (text : List ℕ) (year : ℕ) (place place' : CPlace)
     (buffer filled : List CToken) (count status : ℕ) : Type 0 where
   pub status_is : IsPlaceStatus text place.at year status

@@ -17,7 +17,7 @@ use Rattle.rustc_lexer_highlight.specs.declared.errors.TokenError.{TokenError}
 use Rattle.rustc_lexer_highlight.specs.TokenError.{error_number}
 use Rattle.rustc_lexer_c.specs.declared.token.CToken.{CToken}
 
--- the number of an error, or 0 if there is none
+-- Returns the number of an error, or 0 if there is none.
 abbrev pub number_of : Option TokenError → ℕ
 number_of None = 0
 number_of (Some error) = error_number error
@@ -32,8 +32,8 @@ base_of number =
     else if nat_eq number 10 then Decimal
     else Hexadecimal
 
--- the kind of the literal, or of the token, with these numbers, as far as its class and its error
--- depend on it: all kinds with the same error are one, and so are all that are plain and have none
+-- Returns the kind of a literal or token with these numbers, as far as its class and its error depend on it. Kinds with
+-- the same class and error share one representative; for plain kinds without an error it is `Whitespace`.
 abbrev pub literal_of : CToken → LiteralKind
 literal_of token =
     let n_hashes = if is_set token.second then Some token.third else None in
@@ -65,7 +65,7 @@ kind_of token =
     else if nat_eq token.kind 42 then Unknown
     else Whitespace
 
--- the number of the class of a token in an edition, or 0 in none
+-- Returns the number of the token's class in an edition, or 0 if there is no edition.
 abbrev pub class_in : CToken → List ℕ → Option Edition → ℕ
 class_in token text None = 0
 class_in token text (Some edition) = class_number (class_of (kind_of token) text edition)

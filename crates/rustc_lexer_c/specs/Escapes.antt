@@ -1,4 +1,4 @@
--- What a literal stands for, as C sees it: its units in order, each as numbers with its range.
+-- The value of a literal, as C sees it: its units in order, each as numbers with its range.
 use Rattle.std.specs.Prelude.{ℕ, ◌≡◌, ◌≢◌, ◌≤◌, if◌then◌else◌, List, [], ◌∷◌, ◌++◌, length, map, take, drop, max, min}
 use Rattle.std.specs.Prelude.{nat_eq, Option, Some, None, Result, Ok, Err}
 use Rattle.std.specs.Option.{IsSomeAnd}
@@ -19,7 +19,7 @@ use Rattle.rustc_lexer_c.specs.declared.escapes.CUnit.{CUnit}
 use Rattle.rustc_lexer_c.specs.declared.status.Refusal.TheVariants.{BadMode}
 use Rattle.rustc_lexer_c.specs.Status.{IsStatus, OK, refusal_number}
 
--- the mode with this number. It is the number of the literal's kind in a token
+-- Returns the mode with this number, which is also the number of the literal's kind in a token.
 abbrev pub mode_of : ℕ → Option Mode
 mode_of number =
     if nat_eq number 3 then Some Char
@@ -32,7 +32,7 @@ mode_of number =
     else if nat_eq number 10 then Some RawCStr
     else None
 
--- the kinds of units, by the names that the header has for them
+-- The kinds of units have the same names as in the header.
 abbrev pub UNIT_CHAR : ℕ
 UNIT_CHAR = 1
 
@@ -55,7 +55,7 @@ unit_at place kind value =
 abbrev pub wrong_unit : Range ℕ → EscapeError → CUnit
 wrong_unit place error = unit_at place (wrong_kind error) (error_number error)
 
--- the unit of a character or of a byte
+-- Returns the unit of a character or a byte, or of its error.
 abbrev pub coded_unit : ℕ → Range ℕ → Result ℕ EscapeError → CUnit
 coded_unit kind place (Ok code) = unit_at place kind code
 coded_unit kind place (Err error) = wrong_unit place error
@@ -65,7 +65,7 @@ mixed_unit place (Ok (CharUnit c)) = unit_at place UNIT_CHAR c
 mixed_unit place (Ok (HighByte b)) = unit_at place UNIT_BYTE b
 mixed_unit place (Err error) = wrong_unit place error
 
--- the unit of an element between double quotes
+-- Returns the unit of an element between double quotes.
 abbrev pub item_unit : Mode → Item → CUnit
 item_unit Char item = coded_unit UNIT_CHAR item.0 (char_of item.1)
 item_unit Str item = coded_unit UNIT_CHAR item.0 (char_of item.1)
@@ -76,7 +76,7 @@ item_unit RawByteStr item = coded_unit UNIT_BYTE item.0 (byte_of item.1)
 item_unit CStr item = mixed_unit item.0 (unit_of item.1)
 item_unit RawCStr item = coded_unit UNIT_CHAR item.0 (raw_unit_of item.1)
 
--- the text between single quotes is one unit, whose range is the whole text
+-- Returns the range of the unit between single quotes, which is the whole text.
 abbrev pub whole : List ℕ → Range ℕ
 whole text = record { start = 0; end = length text }
 
@@ -84,18 +84,18 @@ abbrev pub single_unit : Mode → List ℕ → CUnit
 single_unit Byte text = coded_unit UNIT_BYTE (whole text) (byte_literal (chars text))
 single_unit mode text = coded_unit UNIT_CHAR (whole text) (char_literal (chars text))
 
--- the units of the text between a literal's quotes
+-- Returns the units of the text between the quotes of a literal.
 abbrev pub units_of : Mode → List ℕ → List CUnit
 units_of mode text =
     if is_single mode then single_unit mode text
     ∷ [] else map (item_unit mode) (items_of (is_raw mode) text)
 
--- the errors, in order, each with its range
+-- Returns the errors as units, in order.
 abbrev pub wrong_units : List Error → List CUnit
 wrong_units errors = map (λ (e : Error). wrong_unit e.0 e.1) errors
 
--- a batch of units: without the first `passed` ones, as many as there is room for. They are at the
--- start of the buffer, and the rest of it is unchanged
+-- Holds if a call wrote a batch of units, without the first `passed` ones: as many as there is room for. They are at
+-- the start of the buffer, and the rest of it is unchanged.
 pub record IsUnits (units : List CUnit) (passed : ℕ) (buffer filled : List CUnit) (count : ℕ) : Type
     0 where
   pub as_many : count ≡ min (length buffer) (length (drop passed units))
@@ -104,9 +104,9 @@ pub record IsUnits (units : List CUnit) (passed : ℕ) (buffer filled : List CUn
 abbrev pub wrong_units_of : Mode → List ℕ → List CUnit
 wrong_units_of mode text = wrong_units (escape_errors_in_file mode text)
 
--- a call that lists units of a text, in a mode that is given by a number. The list is never longer
--- than the text in bytes, but may have 1 unit for an empty text, so a buffer of that length is
--- enough. If the call is refused, nothing is written
+-- A call lists units of a text, in the mode with a number. The list has at most as many units as the text has bytes, or
+-- one if the text is empty, so a buffer of that length is enough. If the call fails, the buffer is unchanged and the
+-- count is 0.
 pub record Lists (list : Mode → List ℕ → List CUnit) (mode : Option Mode) (text : List ℕ)
     (passed : ℕ) (buffer filled : List CUnit) (count status : ℕ) : Type 0 where
   pub status_is : IsStatus text (mode ≢ None) (refusal_number BadMode) status

@@ -1,4 +1,4 @@
--- The head of a document, as C sees it, and how an edit of the document changes its body.
+-- The head of a document, as C sees it, and the change of the body by an edit of the document.
 use Rattle.std.specs.Prelude.{ℕ, zero, suc, ◌≡◌, ◌≢◌, ◌<◌, ◌≤◌, ◌^◌, Bool, not, nat_eq, List, [], ◌∷◌, length, drop}
 use Rattle.std.specs.Prelude.{get_or, Some, None}
 use Rattle.std.specs.Str.{IsUtf8}
@@ -18,31 +18,31 @@ use Rattle.rustc_lexer_c.specs.Relex.{change_of}
 use Rattle.rustc_lexer_c.specs.declared.status.Refusal.TheVariants.{BadEdit, NotUtf8, TooLong}
 use Rattle.rustc_lexer_c.specs.Status.{OK, refusal_number}
 
--- at most two tokens as numbers, filled up with zeros
+-- Returns the first two tokens as numbers, padded with zeros.
 abbrev pub two_of : List Token → List CToken
 two_of [] = no_token ∷ no_token ∷ []
 two_of (a ∷ []) = token_numbers a ∷ no_token ∷ []
 two_of (a ∷ b ∷ more) = token_numbers a ∷ token_numbers b ∷ []
 
--- a head as numbers, by its shebang line, the start of the body and its tokens
+-- Returns a head as numbers: the offset of its first token, the start of the body, and its tokens.
 abbrev pub numbers_by : ℕ → ℕ → List Token → CHead
 numbers_by shebang body tokens =
     record { tokens_start = shebang; body = body; count = length tokens; tokens = two_of tokens }
 
--- the head of a text as numbers
+-- Returns the head of a text as numbers.
 abbrev pub head_numbers : List ℕ → CHead
 head_numbers text = numbers_by (tokens_start text) (body_start text) (head_tokens text)
 
--- a head as numbers
+-- Returns a head as numbers.
 abbrev pub numbers_of_head : Head → CHead
 numbers_of_head head = numbers_by head.tokens_start head.body (tokens_of_head head)
 
--- the frontmatter that these numbers stand for
+-- Returns the frontmatter with these numbers.
 abbrev pub frontmatter_of : CToken → Token
 frontmatter_of c =
     record { kind = Frontmatter (not (nat_eq c.first 0)) (not (nat_eq c.second 0)); len = c.len }
 
--- the head that these numbers stand for
+-- Returns the head with this number of tokens, which are `a` and `b`.
 abbrev pub head_with : ℕ → Head → CToken → CToken → Head
 head_with zero bare a b = bare
 head_with (suc zero) bare a b = record bare { frontmatter = Some (frontmatter_of a) }
@@ -55,8 +55,8 @@ head_of c =
     record { tokens_start = c.tokens_start; space_len = 0; frontmatter = None; body = c.body } in
     head_with c.count bare (get_or c.tokens 0 no_token) (get_or c.tokens 1 no_token)
 
--- the status of a call that gets an edit of a document and the old head. An edit that made the text
--- is not refused
+-- Holds if a call that gets an edit of a document and the head before the edit returns this status. The call succeeds
+-- if the edit turned a text with this head into the current text.
 pub record IsHeadStatus (bytes : List ℕ) (edit : CEdit) (c : CHead) (status : ℕ) : Type 0 where
   pub ok : IsText bytes → (before insert : List ℕ) → IsEditOf before (change_of edit) insert bytes
       → c ≡ head_numbers before → status ≡ OK
@@ -66,9 +66,9 @@ pub record IsHeadStatus (bytes : List ℕ) (edit : CEdit) (c : CHead) (status : 
       → status ≡ refusal_number BadEdit
   pub no_other : IsText bytes → status ≢ OK → status ≡ refusal_number BadEdit
 
--- the call writes the head of the text, and an edit of the body from which relexing can begin. For
--- every old text that has the old head, and that the edit made into the present text, it is what
--- the edit means for the body. If the call is refused, nothing is written
+-- A call writes the head of the current text, and an edit of the body from which relexing can start. If the edit turned
+-- a text with the old head into the current text, the call writes the change of the body by that edit. If the call
+-- fails, it changes nothing.
 pub record FindsHead (text : List ℕ) (edit : CEdit) (c c' : CHead) (body body' : CEdit)
     (kept kept' status : ℕ) : Type 0 where
   pub status_is : IsHeadStatus text edit c status

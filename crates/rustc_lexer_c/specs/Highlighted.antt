@@ -1,4 +1,4 @@
--- Highlighted tokens, as C sees them: the numbers of the styles, and the status of the call.
+-- Highlighted tokens, as C sees them: the numbers of the formats, and the status of the call.
 use Rattle.std.specs.Prelude.{ℕ, ◌≡◌, ◌≤◌, ◌<◌, ◌^◌, ◌⊎◌, nat_eq, if◌then◌else◌, List, length, take, drop, Option, Some}
 use Rattle.std.specs.Prelude.{None}
 use Rattle.std.specs.Str.{IsUtf8}
@@ -11,7 +11,7 @@ use Rattle.rustc_lexer_c.specs.declared.status.Refusal.TheVariants.{BadEdition, 
 use Rattle.rustc_lexer_c.specs.declared.status.Refusal.TheVariants.{TooLong}
 use Rattle.rustc_lexer_c.specs.Status.{OK, refusal_number}
 
--- the format with this number. Numbers never change: a new format gets a new one
+-- Returns the format with this number. Numbers never change: a new format gets a new number.
 abbrev pub format_of : ℕ → Option Format
 format_of number =
     if nat_eq number 1 then Some Html
@@ -19,13 +19,13 @@ format_of number =
     else if nat_eq number 3 then Some NoColours
     else None
 
--- the bytes are at the start of the buffer, and the rest of it is unchanged
+-- Holds if the bytes are at the start of the buffer, and the rest of it is unchanged.
 pub record IsFront (bytes buffer filled : List ℕ) (written : ℕ) : Type 0 where
   pub within : written ≤ length filled
   pub front : take written filled ≡ bytes
   pub rest : drop written filled ≡ drop written buffer
 
--- the status of a call that takes a text, a format, a year and a buffer of any length
+-- Holds if a call that gets a text, a format, a year and a buffer of any length returns this status.
 pub record IsMarksStatus (bytes : List ℕ) (format year : ℕ) (status : ℕ) : Type 0 where
   pub ok : IsText bytes → (edition : Edition) → edition_of_year year ≡ Some edition → (kind : Format)
       → format_of format ≡ Some kind → (status ≡ OK) ⊎ (status ≡ refusal_number SmallBuffer)

@@ -8,7 +8,7 @@ pub mod Offsets
 pub mod Places
 pub mod RawStr
 pub mod Relex
-pub mod Seam
+pub mod Boundary
 pub mod Splice
 pub mod Buffer
 pub mod Status

@@ -1,4 +1,4 @@
--- The numbers that C gets for a token: that of its kind, and a byte for each field of the kind.
+-- A token as C sees it: the number of its kind, and one byte for each field of the kind.
 use Rattle.std.specs.Prelude.{ℕ, Bool, true, false, Option, Some, None}
 use Rattle.rustc_lexer.specs.declared.token.Base.{Base}
 use Rattle.rustc_lexer.specs.declared.token.Base.TheVariants.{Binary, Octal, Decimal, Hexadecimal}
@@ -29,17 +29,18 @@ abbrev pub bool_number : Bool → ℕ
 bool_number false = 0
 bool_number true = 1
 
--- 1 if there is a number, otherwise 0; and then the number, or 0
+-- Returns 1 if there is a number, otherwise 0.
 abbrev pub some_number : Option ℕ → ℕ
 some_number None = 0
 some_number (Some n) = 1
 
+-- Returns the number, or 0 if there is none.
 abbrev pub some_or_zero : Option ℕ → ℕ
 some_or_zero None = 0
 some_or_zero (Some n) = n
 
--- the fields of a kind of literal, one byte each, in order, after the number of the kind. The
--- hashes of a raw string take two bytes, and a byte without a field is 0
+-- Returns the field of a kind of literal after its number. Each field has one byte, in order, and the hashes of a raw
+-- string have two. A byte without a field is 0.
 unfoldable pub literal_second : LiteralKind → ℕ
 literal_second (Int base empty_int) = base_number base
 literal_second (Float base empty_exponent) = base_number base
@@ -60,8 +61,8 @@ literal_third (RawByteStr n_hashes) = some_or_zero n_hashes
 literal_third (RawCStr n_hashes) = some_or_zero n_hashes
 literal_third kind = 0
 
--- the fields of a kind of token, in the same way. For a literal, the first byte is the number of
--- its kind
+-- Returns the field of a kind of token, in the same way. The first byte of a literal is the number of the literal's
+-- kind.
 unfoldable pub first_of : TokenKind → ℕ
 first_of (LineComment doc_style) = style_number doc_style
 first_of (BlockComment doc_style terminated) = style_number doc_style
@@ -82,7 +83,7 @@ unfoldable pub third_of : TokenKind → ℕ
 third_of (Literal kind suffix_start) = literal_third kind
 third_of kind = 0
 
--- a token as numbers
+-- Returns a token as numbers.
 unfoldable pub token_numbers : Token → CToken
 token_numbers token = record {
   kind = (kind_entry token.kind).0;

@@ -1,4 +1,4 @@
--- From an offset to a token, among tokens of which C gives the numbers.
+-- The token at an offset, in a list of tokens as numbers.
 use Rattle.std.specs.Prelude.{ℕ, ◌≡◌, ◌+◌, ◌≤◌, Bool, true, false, List, length, map}
 use Rattle.rustc_lexer.specs.declared.relex.front.TokenStart.{TokenStart}
 use Rattle.rustc_lexer.specs.declared.token.Token.{Token}
@@ -6,9 +6,8 @@ use Rattle.rustc_lexer.specs.Offsets.{ArePlaced, ContainsByte}
 use Rattle.rustc_lexer.specs.Tokens.{bound}
 use Rattle.rustc_lexer_c.specs.declared.token.CToken.{CToken}
 
--- a call that looks for the token that contains the byte at `offset`, from the boundary `near` on.
--- If there is one, `at` is where it begins. If there is none, `at` is `near`, and the byte is
--- before or after all tokens
+-- A call searches for the token that contains the byte at `offset`, starting at the token boundary `near`. If there is
+-- such a token, `at` is its index and its start. Otherwise `at` is `near`, and the byte is before or after all tokens.
 pub record FindsToken (numbers : List CToken) (offset : ℕ) (near at : TokenStart) (found : Bool)
     : Type 0 where
   pub token : found ≡ true → (first : ℕ) (tokens : List Token)

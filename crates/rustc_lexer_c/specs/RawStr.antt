@@ -1,4 +1,4 @@
--- The numbers that C gets for the check of a raw string, and for a guarded string.
+-- The check of a raw string, and a guarded string, as numbers.
 use Rattle.std.specs.Prelude.{ℕ, List, Option, Some, None, Result, Ok, Err}
 use Rattle.rustc_lexer.specs.declared.token.GuardedStr.{GuardedStr}
 use Rattle.rustc_lexer.specs.declared.token.RawStrError.{RawStrError}
@@ -20,8 +20,7 @@ no_error =
       possible_terminator_offset = 0;
     }
 
--- the result of a check as numbers: why a raw string is refused. A field that the error does not
--- have is 0
+-- Returns the error of a raw string as numbers. A field that the error does not have is 0.
 abbrev pub answer_numbers : Result (Unit {0}) RawStrError → CRawStrError
 answer_numbers (Ok u) = no_error
 answer_numbers (Err (InvalidStarter bad_char)) = record no_error { error = 1; bad_char = bad_char }
@@ -35,7 +34,7 @@ answer_numbers (Err (NoTerminator expected found offset)) =
     }
 answer_numbers (Err (TooManyDelimiters found)) = record no_error { error = 3; found = found }
 
--- a guarded string as numbers, which are all 0 if there is none
+-- Returns a guarded string as numbers, which are all 0 if there is none.
 unfoldable pub guarded_numbers : Option GuardedStr → CGuardedStr
 guarded_numbers None = record { is_some = 0; n_hashes = 0; terminated = 0; token_len = 0 }
 guarded_numbers (Some s) =
@@ -46,7 +45,7 @@ guarded_numbers (Some s) =
       token_len = s.token_len;
     }
 
--- the numbers of the guarded string that a text begins with
+-- Returns the guarded string at the start of a text, as numbers.
 abbrev pub guarded_at : List ℕ → CGuardedStr
 guarded_at text =
     guarded_numbers (guarded record { pending = 0; rest = text; mode = part newest }).0

@@ -1,15 +1,15 @@
--- The tokens after an edit, put together in the caller's list.
+-- Splicing the tokens of an edit into the caller's list.
 use Rattle.std.specs.Prelude.{ℕ, ◌≡◌, ◌≢◌, ◌+◌, ◌-◌, ◌<◌, ◌≤◌, List, ◌++◌, length, take, drop}
 use Rattle.rustc_lexer_c.specs.declared.token.CToken.{CToken}
 use Rattle.rustc_lexer_c.specs.declared.status.Refusal.TheVariants.{BadEdit, SmallBuffer}
 use Rattle.rustc_lexer_c.specs.Status.{OK, refusal_number}
 
--- the list has `count` of the places in the buffer, and the front and the back are apart in it
+-- Holds if the list fits into the buffer, and its front and its back do not overlap.
 abbrev pub MaySplice : ℕ → ℕ → ℕ → ℕ → Type 0
 MaySplice places count kept_front kept_back = (count ≤ places) × (kept_front + kept_back ≤ count)
 
--- a call that puts other tokens in place of those between the front and the back of a list, which
--- has the first `count` places of the buffer. If it is refused, nothing is written
+-- A call replaces the tokens between the front and the back of a list, which is the first `count` tokens of the buffer.
+-- If the call fails, it changes nothing.
 pub record Splices (buffer : List CToken) (count kept_front kept_back : ℕ)
     (lexed buffer' : List CToken) (count' status : ℕ) : Type 0 where
   pub list : status ≡ OK → take count' buffer'

@@ -1,4 +1,4 @@
--- The statuses of calls from C.
+-- The statuses that calls return to C.
 use Rattle.std.specs.Prelude.{ℕ, ◌≡◌, ◌≢◌, ◌<◌, ◌≤◌, ◌^◌, List, length, Some, None}
 use Rattle.std.specs.Str.{IsCharBoundary, IsUtf8}
 use Rattle.rustc_lexer.specs.declared.edition.Edition.{Edition}
@@ -8,7 +8,7 @@ use Rattle.rustc_lexer_c.specs.declared.status.Refusal.{Refusal}
 use Rattle.rustc_lexer_c.specs.declared.status.Refusal.TheVariants.{NotUtf8, TooLong, BadPlace, NotRaw, BadEdition}
 use Rattle.rustc_lexer_c.specs.declared.status.Refusal.TheVariants.{BadEdit, BadMode, BadFormat, SmallBuffer}
 
--- the call was done
+-- The status 0 means that the call succeeded.
 abbrev pub OK : ℕ
 OK = 0
 
@@ -23,25 +23,25 @@ refusal_number BadMode = 7
 refusal_number BadFormat = 8
 refusal_number SmallBuffer = 9
 
--- why these bytes are not a text that can be lexed. Their length is tested first
+-- Holds if these bytes cannot be lexed for this reason. The length is checked before UTF-8.
 abbrev pub IsNoText : List ℕ → Refusal → Type 0
 IsNoText bytes TooLong = 2 ^ 32 ≤ length bytes
 IsNoText bytes NotUtf8 = (length bytes < 2 ^ 32) × ¬ (IsUtf8 bytes)
 IsNoText bytes refusal = ⊥
 
--- the status of a call that takes a text and requires something. If that does not hold, the status
--- is `number`
+-- Holds if a call that requires a text that can be lexed, and a condition, returns this status. If only the condition
+-- fails, the status is `number`.
 pub record IsStatus (bytes : List ℕ) (Asked : Type 0) (number status : ℕ) : Type 0 where
   pub ok : IsText bytes → Asked → status ≡ OK
   pub not_utf8 : length bytes < 2 ^ 32 → ¬ (IsUtf8 bytes) → status ≡ refusal_number NotUtf8
   pub too_long : 2 ^ 32 ≤ length bytes → status ≡ refusal_number TooLong
   pub refused : IsText bytes → ¬ Asked → status ≡ number
 
--- the status of a call that takes any text
+-- Holds if a call that accepts every text that can be lexed returns this status.
 abbrev pub IsTextStatus : List ℕ → ℕ → Type 0
 IsTextStatus bytes status = IsStatus bytes (Unit {0}) OK status
 
--- the status of a call that takes a text, an offset in it and a year
+-- Holds if a call that gets a text, an offset in it and a year returns this status.
 pub record IsPlaceStatus (bytes : List ℕ) (at year status : ℕ) : Type 0 where
   pub ok : IsText bytes → IsCharBoundary bytes at → (edition : Edition)
       → edition_of_year year ≡ Some edition → status ≡ OK
@@ -51,7 +51,7 @@ pub record IsPlaceStatus (bytes : List ℕ) (at year status : ℕ) : Type 0 wher
   pub bad_edition : IsText bytes → IsCharBoundary bytes at → edition_of_year year ≡ None
       → status ≡ refusal_number BadEdition
 
--- a call with such a status writes its answer, or `none` if it is refused
+-- A call with such a status writes its answer, or `none` if it fails.
 pub record Writes {X : Type 0} (bytes : List ℕ) (Asked : Type 0) (number : ℕ)
     (answer none written : X) (status : ℕ) : Type 0 where
   pub status_is : IsStatus bytes Asked number status

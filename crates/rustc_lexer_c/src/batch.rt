@@ -11,7 +11,7 @@ use crate::status::{Refusal, done, refuse, text_of, utf8_text_of};
 use crate::token::{CToken, token_numbers};
 use rustc_lexer::{Edition, FrontmatterAllowed, tokenize, tokenize_as};
 
-/// The position in a text from which the next tokens are lexed.
+/// A position in a text, at which lexing continues.
 #[repr(C)]
 #[derive(Clone, Copy, Debug, PartialEq, Eq)]
 pub struct CPlace {
@@ -22,10 +22,10 @@ pub struct CPlace {
 }
 
 /// Writes the tokens from a position on into the buffer, as many as there is room for, and their number into `count`.
-/// Moves the position to the end of these tokens, where the next call continues. After the last token the number is 0.
-/// The tokens are those of the newest edition.
+/// Lexes in the newest edition.
 ///
-/// Each call checks the whole text. `rustc_lexer_tokens_unchecked` does not.
+/// Moves the position to the end of these tokens, so the next call continues there. After the last token the number is
+/// 0. Each call checks the whole text. `rustc_lexer_tokens_unchecked` does not.
 #[unsafe(no_mangle)]
 pub extern "C" fn rustc_lexer_tokens(
     text: &[u8],
@@ -41,8 +41,7 @@ pub extern "C" fn rustc_lexer_tokens(
     }
 }
 
-/// Does what `rustc_lexer_tokens` does, without checking again that the text is UTF-8. `rustc_lexer_check` must have
-/// accepted it.
+/// Like `rustc_lexer_tokens`, but does not check that the text is UTF-8. `rustc_lexer_check` must have accepted it.
 #[unsafe(no_mangle)]
 pub extern "C" fn rustc_lexer_tokens_unchecked(
     text: &[u8],
@@ -63,7 +62,7 @@ pub extern "C" fn rustc_lexer_tokens_unchecked(
     done(fill(text, Edition::NEWEST, place, buffer), count)
 }
 
-/// Does what `rustc_lexer_tokens` does, in the edition of a year: 2015, 2018, 2021 or 2024.
+/// Like `rustc_lexer_tokens`, but lexes in the edition of a year: 2015, 2018, 2021 or 2024.
 #[unsafe(no_mangle)]
 pub extern "C" fn rustc_lexer_tokens_in(
     text: &[u8],
@@ -81,8 +80,7 @@ pub extern "C" fn rustc_lexer_tokens_in(
     }
 }
 
-/// Does what `rustc_lexer_tokens_in` does, without checking again that the text is UTF-8. `rustc_lexer_check` must
-/// have accepted it.
+/// Like `rustc_lexer_tokens_in`, but does not check that the text is UTF-8. `rustc_lexer_check` must have accepted it.
 #[unsafe(no_mangle)]
 pub extern "C" fn rustc_lexer_tokens_in_unchecked(
     text: &[u8],
@@ -138,7 +136,7 @@ fn first_token(text: &str, allowed: FrontmatterAllowed) -> CToken
         .map_or(NO_TOKEN, token_numbers)
 }
 
-/// Zeros, which are no token.
+/// The result at the end of a text: all fields are 0.
 pub(crate) const NO_TOKEN: CToken = CToken {
     kind: 0,
     first: 0,
@@ -148,8 +146,8 @@ pub(crate) const NO_TOKEN: CToken = CToken {
     len: 0,
 };
 
-/// Writes the batch at a character boundary. Returns its number of tokens. It is inlined because the newest edition
-/// is a constant in one caller, which then does not test the edition.
+/// Writes the next tokens from a char boundary on, and returns their number. Inlined, because one caller passes the
+/// newest edition as a constant and then does not test the edition.
 #[inline(always)]
 fn fill(text: &str, edition: Edition, place: &mut CPlace, buffer: &mut [CToken]) -> usize
     requires fits { Fits text.now }
@@ -167,7 +165,7 @@ fn fill(text: &str, edition: Edition, place: &mut CPlace, buffer: &mut [CToken])
     count
 }
 
-/// Returns whether a frontmatter is allowed, from a number.
+/// Returns the flag with this number: 0 means that no frontmatter is allowed.
 fn allowed_of(number: u32) -> FrontmatterAllowed
     ensures { result ≡ spec.allowed_of number }
 {
@@ -178,7 +176,7 @@ fn allowed_of(number: u32) -> FrontmatterAllowed
     }
 }
 
-/// Returns the number for whether a frontmatter is allowed.
+/// Returns the number of a flag: 1 if a frontmatter is allowed, otherwise 0.
 fn allowed_number(allowed: FrontmatterAllowed) -> u32
     ensures { result ≡ spec.allowed_number allowed }
 {

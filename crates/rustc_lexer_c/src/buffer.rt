@@ -1,10 +1,10 @@
-//! A caller's buffer, which is filled from its start.
+//! Writes texts into a caller's buffer, from its start on.
 ghost use Rattle.std.specs.Prelude.{◌≡◌, ◌↔◌, IsOk};
 ghost use Rattle.rustc_lexer_c.specs.Buffer.{Appends, HasRoom};
 
 use std::fmt;
 
-/// A caller's buffer, whose first `len` bytes are written.
+/// A caller's buffer with the number of bytes that are written.
 #[derive(Drop)]
 pub(crate) struct Buffer<'a> {
     pub(crate) bytes: &'a mut [u8],
@@ -25,7 +25,7 @@ impl<'a> Buffer<'a> {
 impl<'a> fmt::Write for Buffer<'a> {
     ghost write_str_gives = { Appends };
 
-    /// Appends a text, or returns an error if there is too little room for it.
+    /// Appends a text, or returns an error if there is not enough room for it.
     #[tactic(auto, using(crate::proofs::OutputLemmas::filled_within, crate::proofs::OutputLemmas::filled_front, crate::proofs::OutputLemmas::filled_rest, std::proofs::lemmas::Grind::common_steps))]
     fn write_str(&mut self, s: &str) -> fmt::Result
         ensures ok { IsOk result → Appends self.old s.now self.new }

@@ -1,4 +1,4 @@
-//! Classes of characters. A caller passes a character's code point.
+//! Character classes. C passes a character as its code point.
 ghost use Rattle.std.specs.Prelude.{◌≡◌, false};
 ghost use Rattle.std.specs.Char.{IsScalar};
 ghost use Rattle.std.specs.Str.{IsUtf8, chars};
@@ -27,7 +27,7 @@ pub extern "C" fn rustc_lexer_is_horizontal_whitespace(code: u32) -> bool
     matches!(char::from_u32(code), Some(c) if is_horizontal_whitespace(c))
 }
 
-/// Returns whether an identifier may begin with the character. Returns false for a number that is not a character.
+/// Returns whether an identifier can start with the character. Returns false for a number that is not a character.
 #[unsafe(no_mangle)]
 pub extern "C" fn rustc_lexer_is_id_start(code: u32) -> bool
     ensures class { IsScalar code → result ≡ Classes.is_id_start code }
@@ -36,8 +36,7 @@ pub extern "C" fn rustc_lexer_is_id_start(code: u32) -> bool
     matches!(char::from_u32(code), Some(c) if is_id_start(c))
 }
 
-/// Returns whether an identifier may continue with the character. Returns false for a number that is not a
-/// character.
+/// Returns whether an identifier can continue with the character. Returns false for a number that is not a character.
 #[unsafe(no_mangle)]
 pub extern "C" fn rustc_lexer_is_id_continue(code: u32) -> bool
     ensures class { IsScalar code → result ≡ Classes.is_id_continue code }
@@ -58,12 +57,12 @@ pub extern "C" fn rustc_lexer_is_ident(text: &[u8], is: &mut u32) -> u32
     }
 }
 
-/// Returns whether the text is an identifier. The text is UTF-8, of any length.
+/// Returns whether the text is an identifier. The text can have any length, and must be UTF-8.
 #[unsafe(no_mangle)]
 pub extern "C" fn rustc_lexer_is_ident_unchecked(text: &[u8]) -> bool
     requires utf8 { IsUtf8 text.now }
     ensures { result ≡ Classes.is_ident (chars text.now) }
 {
-    // The caller promises that the bytes are UTF-8.
+    // The caller guarantees that the bytes are UTF-8.
     is_ident(unsafe { std::str::from_utf8_unchecked(text) })
 }

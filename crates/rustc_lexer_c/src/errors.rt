@@ -68,7 +68,7 @@ fn number_of(error: Option<TokenError>) -> u32
     }
 }
 
-/// Returns the kind with these numbers, as far as a class or an error depends on it.
+/// Returns the kind with these numbers, as far as the class or the error depends on it.
 fn kind_of(token: &CToken) -> TokenKind
     ensures { result ≡ spec.kind_of token.now }
 {
@@ -103,7 +103,7 @@ fn kind_of(token: &CToken) -> TokenKind
     }
 }
 
-/// Returns the kind of literal with these numbers, as far as a class or an error depends on it.
+/// Returns the kind of literal with these numbers, as far as the class or the error depends on it.
 fn literal_of(token: &CToken) -> LiteralKind
     ensures { result ≡ spec.literal_of token.now }
 {

@@ -21,7 +21,7 @@ const UNIT_ERROR: u32 = 3;
 
 const UNIT_WARNING: u32 = 4;
 
-/// A unit of a literal's value, or an error or warning, with its span in bytes.
+/// A unit of a literal's value, or an error or warning, with its range in bytes.
 #[repr(C)]
 #[derive(Clone, Copy, Debug, PartialEq, Eq)]
 pub struct CUnit {
@@ -33,10 +33,10 @@ pub struct CUnit {
     pub value: u32,
 }
 
-/// Writes units of the text between the quotes of a literal into the buffer, as many as there is room for, and
+/// Writes the units of the text between the quotes of a literal into the buffer, as many as there is room for, and
 /// their number into `count`. Skips the first `passed` units.
 ///
-/// `mode` is the number of the literal's kind, 3 to 10. Between single quotes there is one unit, whose span is the
+/// `mode` is the number of the literal's kind, 3 to 10. Between single quotes there is one unit, whose range is the
 /// whole text. Each call checks the whole text and reads it from its start.
 #[unsafe(no_mangle)]
 pub extern "C" fn rustc_lexer_unescape(
@@ -55,8 +55,7 @@ pub extern "C" fn rustc_lexer_unescape(
     }
 }
 
-/// Does what `rustc_lexer_unescape` does, without checking again that the text is UTF-8. `rustc_lexer_check` must have
-/// accepted it.
+/// Like `rustc_lexer_unescape`, but does not check that the text is UTF-8. `rustc_lexer_check` must have accepted it.
 #[tactic(auto, using(crate::proofs::EscapeLemmas::units_few))]
 #[unsafe(no_mangle)]
 pub extern "C" fn rustc_lexer_unescape_unchecked(
@@ -80,11 +79,10 @@ pub extern "C" fn rustc_lexer_unescape_unchecked(
     }
 }
 
-/// Writes the errors and warnings of a literal in the same way as `rustc_lexer_unescape` writes its units. `text`
-/// is the text between the quotes. CRLF is one newline.
+/// Writes the errors and warnings of a literal, in the same way as `rustc_lexer_unescape` writes its units. `text` is
+/// the text between the quotes. CRLF is one newline.
 ///
-/// Between single quotes there is at most one error. Its span extends from 0 to the end of the character that causes
-/// it.
+/// Between single quotes there is at most one error. Its range starts at 0 and ends after the character that causes it.
 #[unsafe(no_mangle)]
 pub extern "C" fn rustc_lexer_literal_errors(
     text: &[u8],
@@ -102,8 +100,8 @@ pub extern "C" fn rustc_lexer_literal_errors(
     }
 }
 
-/// Does what `rustc_lexer_literal_errors` does, without checking again that the text is UTF-8. `rustc_lexer_check`
-/// must have accepted it.
+/// Like `rustc_lexer_literal_errors`, but does not check that the text is UTF-8. `rustc_lexer_check` must have accepted
+/// it.
 #[tactic(auto, using(crate::proofs::EscapeLemmas::errors_few))]
 #[unsafe(no_mangle)]
 pub extern "C" fn rustc_lexer_literal_errors_unchecked(
@@ -147,7 +145,7 @@ fn mode_of(number: u32) -> Option<Mode>
     }
 }
 
-/// Writes units in a mode. Returns their number.
+/// Writes the units of a text in a mode. Returns the number of units written.
 fn fill_units(text: &str, mode: Mode, passed: usize, buffer: &mut [CUnit]) -> usize
     ensures { spec.IsUnits (spec.units_of mode text.now) passed buffer.old buffer.new result }
 {
@@ -162,9 +160,9 @@ fn fill_units(text: &str, mode: Mode, passed: usize, buffer: &mut [CUnit]) -> us
     }
 }
 
-/// Writes units of the text between double quotes. Returns their number.
+/// Writes the units of the text between double quotes. Returns the number of units written.
 ///
-/// It is inlined into each arm of its caller, where the mode is a constant.
+/// Inlined into each arm of its caller, which passes the mode as a constant.
 #[inline(always)]
 fn fill_string(text: &str, mode: Mode, passed: usize, buffer: &mut [CUnit]) -> usize
     requires double { false ≡ is_single mode }
@@ -213,12 +211,12 @@ trait Units: Drop {
     /// The units that are left.
     ghost units: { Self → List CUnit };
 
-    /// Returns the next unit, or `None` past the last one.
+    /// Returns the next unit, or `None` after the last one.
     fn next_unit(&mut self) -> Option<CUnit>
         ensures { TakesFirst (units self.old) result (units self.new) };
 }
 
-/// The units of elements in a mode.
+/// Iterates over the units of the elements in a mode.
 #[derive(Drop)]
 struct Meanings<'a> {
     elements: Elements<'a>,
@@ -235,7 +233,7 @@ impl<'a> Units for Meanings<'a> {
     }
 }
 
-/// Only the errors and warnings.
+/// Iterates over the errors and warnings only.
 impl<'a> Units for EscapeErrorsInFile<'a> {
     ghost units = { λ errors. spec.wrong_units errors };
 
@@ -246,7 +244,7 @@ impl<'a> Units for EscapeErrorsInFile<'a> {
     }
 }
 
-/// Skips the first `passed` units and writes those that follow. Returns the number of units written.
+/// Skips the first `passed` units and writes the units after them. Returns the number of units written.
 #[inline(always)]
 #[tactic(auto, using(crate::proofs::EscapeLemmas::fill_lemmas))]
 fn fill_all<U: Units>(mut units: U, passed: usize, buffer: &mut [CUnit]) -> usize
@@ -270,7 +268,7 @@ fn fill_all<U: Units>(mut units: U, passed: usize, buffer: &mut [CUnit]) -> usiz
     count
 }
 
-/// Returns the value of an element between double quotes, as numbers.
+/// Returns the unit of an element between double quotes.
 #[inline(always)]
 fn item_unit(mode: Mode, place: Range<usize>, element: Element) -> CUnit
     ensures { result ≡ spec.item_unit mode (place, element) }
@@ -291,7 +289,7 @@ fn item_unit(mode: Mode, place: Range<usize>, element: Element) -> CUnit
     }
 }
 
-/// Returns a unit of the kind, or the error.
+/// Returns a unit of this kind, or the error as a unit.
 fn coded_unit(place: Range<usize>, kind: u32, meaning: Result<u32, EscapeError>) -> CUnit
     ensures { result ≡ spec.coded_unit kind place meaning }
 {
@@ -301,7 +299,7 @@ fn coded_unit(place: Range<usize>, kind: u32, meaning: Result<u32, EscapeError>)
     }
 }
 
-/// Returns a unit of a C string as numbers, or the error.
+/// Returns the unit of an element of a C string, or the error as a unit.
 fn mixed_unit(place: Range<usize>, element: Element) -> CUnit
     ensures { result ≡ spec.mixed_unit place (unit_of element) }
 {
@@ -311,7 +309,7 @@ fn mixed_unit(place: Range<usize>, element: Element) -> CUnit
     }
 }
 
-/// Returns a valid unit of a C string as numbers.
+/// Returns the unit of an element of a C string that has no error.
 fn sound_unit(place: Range<usize>, element: Element) -> CUnit
     requires sound { None ≡ result_err (unit_of element) }
     ensures { result ≡ spec.mixed_unit place (unit_of element) }
@@ -325,7 +323,7 @@ fn sound_unit(place: Range<usize>, element: Element) -> CUnit
     }
 }
 
-/// Returns an error or warning as numbers.
+/// Returns an error or warning as a unit.
 fn wrong_unit(place: Range<usize>, error: EscapeError) -> CUnit
     ensures { result ≡ spec.wrong_unit place error }
 {
@@ -344,7 +342,7 @@ fn unit_at(place: Range<usize>, kind: u32, value: u32) -> CUnit
     }
 }
 
-/// Returns the kind of the unit for an error or a warning.
+/// Returns the kind of unit for an error or a warning.
 fn wrong_kind(error: EscapeError) -> u32
     ensures { result ≡ spec.wrong_kind error }
 {

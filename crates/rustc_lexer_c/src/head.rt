@@ -9,7 +9,7 @@ use crate::status::{OK, Refusal, text_of, utf8_text_of};
 use crate::token::{CToken, token_numbers};
 use rustc_lexer::{Change, Head, Token, TokenKind};
 
-/// The head of a document: the shebang line and the frontmatter, which come before the body.
+/// The head of a document: everything before its body, such as a shebang line and a frontmatter.
 #[repr(C)]
 #[derive(Clone, Copy, Debug, PartialEq, Eq)]
 pub struct CHead {
@@ -26,9 +26,9 @@ pub struct CHead {
 /// Finds the head of the current text, and the change of the body by an edit of the document.
 ///
 /// Before the call, `head` is the head of the text before the edit, as the call for the previous edit left it. Zeros
-/// are the head of an empty text. Writes the current head there. Writes the change of the body into `body_edit`, by
-/// offsets from the start of the body, and 1 into `head_kept` if all tokens of the head stay, else 0. If the call
-/// fails, it writes nothing.
+/// are the head of an empty text. Overwrites it with the current head. Writes the change of the body into `body_edit`,
+/// as offsets from the start of the body, and 1 into `head_kept` if all tokens of the head are kept, otherwise 0. If
+/// the call fails, it writes nothing.
 #[unsafe(no_mangle)]
 pub extern "C" fn rustc_lexer_body_edit(
     text: &[u8],
@@ -46,8 +46,7 @@ pub extern "C" fn rustc_lexer_body_edit(
     }
 }
 
-/// Does what `rustc_lexer_body_edit` does, without checking again that the text is UTF-8. `rustc_lexer_check` must
-/// have accepted it.
+/// Like `rustc_lexer_body_edit`, but does not check that the text is UTF-8. `rustc_lexer_check` must have accepted it.
 #[unsafe(no_mangle)]
 pub extern "C" fn rustc_lexer_body_edit_unchecked(
     text: &[u8],

@@ -5,10 +5,10 @@ use crate::token::CToken;
 use rustc_lexer::{TokenStart, token_around};
 
 /// Finds the token that contains the byte at `offset`, and writes its index and the offset at which it starts. Returns
-/// whether there is one. If there is none, the two numbers stay unchanged.
+/// whether there is such a token. If there is none, the index and the start are unchanged.
 ///
-/// The search starts at the index and offset that the caller passes, which can be any token boundary. It reads the
-/// lengths of the tokens between there and `offset`. If they are no boundary, the result has no meaning.
+/// The search starts at the index and the start that the caller passes, which can be any token boundary. It reads the
+/// lengths of the tokens between this boundary and `offset`. If they are not a boundary, the result has no meaning.
 #[unsafe(no_mangle)]
 pub extern "C" fn rustc_lexer_token_start_at(
     tokens: &[CToken],

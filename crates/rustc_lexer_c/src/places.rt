@@ -22,8 +22,8 @@ pub extern "C" fn rustc_lexer_strip_shebang(text: &[u8], line_len: &mut usize) -
     }
 }
 
-/// Does what `rustc_lexer_strip_shebang` does, without checking again that the text is UTF-8. `rustc_lexer_check` must
-/// have accepted it.
+/// Like `rustc_lexer_strip_shebang`, but does not check that the text is UTF-8. `rustc_lexer_check` must have accepted
+/// it.
 #[unsafe(no_mangle)]
 pub extern "C" fn rustc_lexer_strip_shebang_unchecked(text: &[u8], line_len: &mut usize) -> u32
     requires utf8 { IsUtf8 text.now }
@@ -36,8 +36,8 @@ pub extern "C" fn rustc_lexer_strip_shebang_unchecked(text: &[u8], line_len: &mu
     }
 }
 
-/// Writes the byte offset up to which the tokens are final, whatever is appended: the end of the last token that at
-/// least two characters follow, or 0. No frontmatter is allowed.
+/// Writes the byte offset up to which the tokens are final, whatever is appended. It is the end of the last token that
+/// is followed by at least two characters, or 0 if there is none. No frontmatter is allowed.
 #[unsafe(no_mangle)]
 pub extern "C" fn rustc_lexer_settled(text: &[u8], end: &mut usize) -> u32
     ensures { TellsSettled text.now end.new result }
@@ -48,8 +48,7 @@ pub extern "C" fn rustc_lexer_settled(text: &[u8], end: &mut usize) -> u32
     }
 }
 
-/// Does what `rustc_lexer_settled` does, without checking again that the text is UTF-8. `rustc_lexer_check` must have
-/// accepted it.
+/// Like `rustc_lexer_settled`, but does not check that the text is UTF-8. `rustc_lexer_check` must have accepted it.
 #[unsafe(no_mangle)]
 pub extern "C" fn rustc_lexer_settled_unchecked(text: &[u8], end: &mut usize) -> u32
     requires utf8 { IsUtf8 text.now }

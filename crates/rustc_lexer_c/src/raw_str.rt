@@ -60,8 +60,8 @@ pub extern "C" fn rustc_lexer_validate_raw_str(
     }
 }
 
-/// Does what `rustc_lexer_validate_raw_str` does, without checking again that the text is UTF-8. It reads no more
-/// than the string. `rustc_lexer_check` must have accepted the text.
+/// Like `rustc_lexer_validate_raw_str`, but does not check that the text is UTF-8, and reads only the string.
+/// `rustc_lexer_check` must have accepted the text.
 #[unsafe(no_mangle)]
 pub extern "C" fn rustc_lexer_validate_raw_str_unchecked(
     text: &[u8],
@@ -82,22 +82,21 @@ pub extern "C" fn rustc_lexer_validate_raw_str_unchecked(
     done(answer_numbers(validate_raw_str(text, prefix_len)), error)
 }
 
-/// Returns whether character number `prefix_len` of the text, counted from 1, is an `r`. The text is UTF-8, of any
-/// length.
+/// Returns whether character number `prefix_len` of the text, counted from 1, is an `r`. The text can have any length,
+/// and must be UTF-8.
 ///
-/// For a text of at most `u32::MAX` bytes this is false exactly if `rustc_lexer_validate_raw_str` returns 4. For a
-/// longer one that call always returns 2.
+/// For a text of at most `u32::MAX` bytes, the result is false exactly if `rustc_lexer_validate_raw_str` returns 4. For
+/// a longer text that function always returns 2.
 #[unsafe(no_mangle)]
 pub extern "C" fn rustc_lexer_starts_raw_unchecked(text: &[u8], prefix_len: u32) -> bool
     requires utf8 { IsUtf8 text.now }
     ensures { IsTrue result ↔ StartsRaw text.now prefix_len }
 {
-    // The caller promises that the bytes are UTF-8.
+    // The caller guarantees that the bytes are UTF-8.
     starts_raw(unsafe { std::str::from_utf8_unchecked(text) }, prefix_len)
 }
 
-/// Writes the guarded string at the start of the text, or zeros if there is none. Hashes at the start are then part of
-/// the next token.
+/// Writes the guarded string at the start of the text, or zeros if there is none.
 #[unsafe(no_mangle)]
 pub extern "C" fn rustc_lexer_guarded_str(text: &[u8], string: &mut CGuardedStr) -> u32
     ensures { Writes text.now (Unit {0}) OK (spec.guarded_at text.now) (spec.guarded_numbers None)
@@ -109,8 +108,8 @@ pub extern "C" fn rustc_lexer_guarded_str(text: &[u8], string: &mut CGuardedStr)
     }
 }
 
-/// Does what `rustc_lexer_guarded_str` does, without checking again that the text is UTF-8. It reads no more than the
-/// string. `rustc_lexer_check` must have accepted the text.
+/// Like `rustc_lexer_guarded_str`, but does not check that the text is UTF-8, and reads only the string.
+/// `rustc_lexer_check` must have accepted the text.
 #[unsafe(no_mangle)]
 pub extern "C" fn rustc_lexer_guarded_str_unchecked(text: &[u8], string: &mut CGuardedStr) -> u32
     requires utf8 { IsUtf8 text.now }

@@ -12,8 +12,8 @@ use crate::status::{OK, Refusal, refuse, text_of, utf8_text_of};
 use crate::token::CToken;
 use rustc_lexer::{Change, Edition, Measured, Relex, Relexing, Steps, TokenStart};
 
-/// An applied edit, by its offsets in bytes. It replaced the bytes from `start` up to `old_end` of the old text with
-/// those from `start` up to `new_end` of the current text.
+/// An applied edit, as offsets in bytes. It replaced the bytes from `start` up to `old_end` of the old text with the
+/// bytes from `start` up to `new_end` of the current text.
 #[repr(C)]
 #[derive(Clone, Copy, Debug, PartialEq, Eq)]
 pub struct CEdit {
@@ -22,7 +22,7 @@ pub struct CEdit {
     pub new_end: u32,
 }
 
-/// The stages of relexing: before the first call, while tokens are left to write, and after the last one.
+/// The stages of relexing: before the first call, while tokens are left to write, and when all are written.
 const STAGE_BEGIN: usize = 0;
 
 const STAGE_MORE: usize = 1;
@@ -33,20 +33,20 @@ const STAGE_DONE: usize = 2;
 #[repr(C)]
 #[derive(Clone, Copy, Debug, PartialEq, Eq)]
 pub struct CRelexing {
-    /// The number of old tokens that stay at the front. At stage 0: the index of any token boundary of the old text,
-    /// at which the search for the front starts.
+    /// The number of old tokens that are kept at the front. At stage 0: the index of any token boundary of the old
+    /// text, at which the search for the front starts.
     pub kept_front: usize,
     /// The offset at which the tokens at the front end, in bytes.
     pub front_offset: usize,
-    /// The number of tokens that all calls have written.
+    /// The number of tokens that all calls together have written.
     pub lexed: usize,
-    /// The number of old tokens that stay at the back, at stage 2.
+    /// At stage 2: the number of old tokens that are kept at the back.
     pub kept_back: usize,
     /// The offset in the old text at which the tokens at the back start.
     pub back_offset: usize,
     /// The offset in the current text at which the written tokens end. At stage 2 the tokens at the back start there.
     pub at: usize,
-    /// 0 before the first call, 1 if there are more tokens to write, 2 if there are none.
+    /// 0 before the first call, 1 while tokens are left to write, 2 when all are written.
     pub stage: usize,
 }
 
@@ -58,12 +58,12 @@ impl Measured for CToken {
     }
 }
 
-/// Lexes the part of the current text that an edit changed. Writes its tokens into the buffer, as many as there is
-/// room for, and their number into `count`. They come between the old tokens that stay at the front and those that
-/// stay at the back.
+/// Lexes the part of the current text that an edit changed. Writes the new tokens into the buffer, as many as there is
+/// room for, and their number into `count`. They come between the old tokens that are kept at the front and the old
+/// tokens that are kept at the back.
 ///
-/// `old` has the tokens of the text before the edit, of which only the lengths are read. Any other tokens are safe,
-/// but then the result has no meaning.
+/// `old` contains the tokens of the text before the edit. Only their lengths are read. With any other tokens the call
+/// is safe, but the result has no meaning.
 #[unsafe(no_mangle)]
 pub extern "C" fn rustc_lexer_relex(
     text: &[u8],
@@ -83,8 +83,7 @@ pub extern "C" fn rustc_lexer_relex(
     }
 }
 
-/// Does what `rustc_lexer_relex` does, without checking again that the text is UTF-8. `rustc_lexer_check` must have
-/// accepted it.
+/// Like `rustc_lexer_relex`, but does not check that the text is UTF-8. `rustc_lexer_check` must have accepted it.
 #[unsafe(no_mangle)]
 pub extern "C" fn rustc_lexer_relex_unchecked(
     text: &[u8],
@@ -121,7 +120,7 @@ pub(crate) fn edition_of(year: u32) -> Option<Edition>
     Edition::try_from(u16::try_from(year).ok()?).ok()
 }
 
-/// Returns the change that the edit made.
+/// Returns the edit as a `Change`.
 pub(crate) fn change_of(edit: &CEdit) -> Change
     ensures { result ≡ spec.change_of edit.now }
 {
@@ -132,7 +131,7 @@ pub(crate) fn change_of(edit: &CEdit) -> Change
     }
 }
 
-/// Starts or resumes relexing, or returns `None` if the change cannot have resulted in the text, or no call can have
+/// Starts or resumes relexing. Returns `None` if the change cannot have resulted in the text, or if no call can have
 /// left these numbers.
 fn relex_at<'a>(
     text: &'a str,
@@ -161,7 +160,7 @@ fn relex_at<'a>(
     Relex::resume(text, old, change, state)
 }
 
-/// Returns the token boundary in the fields for the front.
+/// Returns the token boundary in the fields of the front.
 fn front_of(relexing: &CRelexing) -> TokenStart
     ensures { result ≡ spec.front_of relexing.now }
 {
@@ -171,7 +170,7 @@ fn front_of(relexing: &CRelexing) -> TokenStart
     }
 }
 
-/// Returns the state that the numbers stand for, or `None` if there are fewer old tokens than stay at the back.
+/// Returns the state with these numbers, or `None` if fewer old tokens exist than are kept at the back.
 fn state_of(relexing: &CRelexing, old_count: usize) -> Option<Relexing>
     ensures none { result ≡ None → old_count < relexing.now.kept_back }
     ensures some { IfSome result (λ state. (relexing.now.kept_back ≤ old_count)
@@ -192,7 +191,7 @@ fn state_of(relexing: &CRelexing, old_count: usize) -> Option<Relexing>
     })
 }
 
-/// Returns how far the text is relexed, as numbers.
+/// Returns the state of relexing as numbers.
 fn relexing_numbers(relex: &Relex<'_, CToken>) -> CRelexing
     ensures numbers { result
         ≡ spec.numbers_of relex.now.text (length relex.now.lengths) relex.now.at }

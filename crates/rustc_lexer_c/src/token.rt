@@ -1,14 +1,14 @@
-//! Tokens as numbers.
+//! Converts tokens to numbers.
 ghost use Rattle.std.specs.Prelude.{◌≡◌};
 ghost use Rattle.rustc_lexer.specs.Kinds.{kind_entry};
 ghost use Rattle.rustc_lexer_c.specs.Numbers as numbers;
 
 use rustc_lexer::{DocStyle, FromToken, LiteralKind, Token, TokenKind};
 
-/// A token as C sees it: its kind, the fields of the kind as one byte each, and its length. A byte without a field is
+/// A token as C sees it: its kind, the fields of the kind with one byte each, and its length. A byte without a field is
 /// 0.
 ///
-/// A `Token` in Rust whose enums were `repr(u8)` would have the same bytes, with the numbers of `specs/Numbers.antt`.
+/// With `repr(u8)` enums that have the numbers of `specs/Numbers.antt`, a `Token` in Rust would have the same bytes.
 #[repr(C)]
 #[derive(Clone, Copy, Debug, PartialEq, Eq)]
 pub struct CToken {
@@ -26,7 +26,7 @@ pub struct CToken {
     pub len: u32,
 }
 
-/// The record of a token is its numbers.
+/// Converts a token to numbers.
 impl FromToken for CToken {
     ghost use Rattle.rustc_lexer_c.specs.Numbers.{token_numbers};
 
@@ -142,7 +142,7 @@ fn literal_second(kind: LiteralKind) -> u8
     }
 }
 
-/// Returns the second field of a kind of literal, or the number of hashes, or 0.
+/// Returns the second field of a kind of literal as a number, or the number of hashes, or 0.
 #[inline(always)]
 #[tactic(auto, unfolding(crate::specs::Numbers::literal_third))]
 fn literal_third(kind: LiteralKind) -> u8

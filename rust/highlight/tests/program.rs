@@ -7,7 +7,7 @@ mod processes;
 
 use processes::{Row, check_builds, check_rows};
 
-/// The end of the message for an argument that the program does not take.
+/// The end of the message for an invalid argument.
 macro_rules! usage {
     () => {
         "it takes a source on standard input, as < FILE does, --html or --raw, --edition 2015, 2018, 2021 or 2024, \

@@ -10,7 +10,7 @@ use rattle_std::io::{Read, Write};
 use rustc_lexer::generated::Edition;
 use rustc_lexer_highlight::Format;
 
-/// Reads all of the input, then writes it with its tokens marked.
+/// Reads all of the input, then writes it with its tokens highlighted.
 ///
 /// `Ok` means that the output was flushed last.
 ///

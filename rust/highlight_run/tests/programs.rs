@@ -44,7 +44,7 @@ const SHOWN: [(&str, bool, Format, Edition); 25] = [
     ("--color=always|--raw|--edition|2018", true, Raw, E2018),
 ];
 
-/// Arguments that are rejected, and the one that the message names.
+/// Rejected arguments, and the argument that the message names.
 const REFUSED: [(&str, &str); 27] = [
     ("html", "html"),
     ("x|--html", "x"),
@@ -179,7 +179,7 @@ fn runs() {
     assert!(page.starts_with("<!DOCTYPE html>\n") && page.ends_with(end));
 }
 
-/// The end of the message for an argument that the program does not take.
+/// The end of the message for an invalid argument.
 const TAKEN: &str = "it takes a source on standard input, as < FILE does, --html or --raw, \
     --edition 2015, 2018, 2021 or 2024, --color auto, always or never, --help, --version";
 
@@ -198,7 +198,7 @@ const STOPPED: [(Process, &[u8], u8, &str); 8] = [
 
 /// A program that stops prints only its message.
 #[test]
-fn stops() {
+fn errors_and_statuses() {
     for (process, input, status, message) in STOPPED {
         let taken = if message.ends_with("; ") { TAKEN } else { "" };
         let line = format!("highlight: {message}{taken}\n");
@@ -207,7 +207,7 @@ fn stops() {
     }
 }
 
-/// Each call of a stream fails in turn. A closed output is no failure.
+/// Each call of a stream fails in turn. A closed output is not a failure.
 #[test]
 fn failing_streams() {
     Program {

@@ -45,7 +45,7 @@ const MAX_DIGITS: usize = 20;
 pub struct Buffer([u8; MAX_DIGITS]);
 
 impl Buffer {
-    /// Returns an empty buffer.
+    /// Creates a buffer.
     #[allow(clippy::new_without_default)]
     pub fn new() -> Buffer {
         Buffer([0; MAX_DIGITS])

@@ -11,14 +11,14 @@ use rustc_lexer::generated::{
     Steps, Token, TokenKind, strip_shebang, tokenize_as,
 };
 
-/// How many tokens are lexed at once.
+/// The number of tokens that are lexed at once.
 const BUFFER_LEN: usize = 256;
 
-/// Writes the lines of the tokens, the first of which begins at byte `start`, and flushes.
+/// Writes the lines of tokens that start at offset `start`, in bytes, and flushes.
 ///
 /// # Errors
 ///
-/// `Fault::Write` if a write or the flush failed. The output has taken a beginning of the lines.
+/// Returns `Fault::Write` if a write or the flush failed. A prefix of the lines has then been written.
 pub fn write_listing<W: Write>(
     output: &mut Watched<W>,
     start: u32,
@@ -29,7 +29,7 @@ pub fn write_listing<W: Write>(
     lines.finish()
 }
 
-/// Lists the tokens of a text in an edition. The text may have at most `u32::MAX` bytes.
+/// Lists the tokens of a text of at most `u32::MAX` bytes in an edition.
 pub fn list_tokens<W: Write>(
     lines: &mut BlockWriter<'_, W>,
     text: &str,
@@ -49,7 +49,7 @@ pub fn list_tokens<W: Write>(
     Ok(())
 }
 
-/// Adds the lines of the tokens, the first of which begins at byte `start`.
+/// Adds the lines of tokens that start at offset `start`, in bytes.
 fn push_lines<W: Write>(
     lines: &mut BlockWriter<'_, W>,
     start: u32,
@@ -88,7 +88,7 @@ pub fn edited(
     }
 }
 
-/// Returns the fault of edits that stopped.
+/// Returns the fault for a list of edits that stopped.
 fn stop_fault(stop: EditStop) -> Fault {
     match stop {
         EditStop::Range { at } => Fault::EditRange { at },
@@ -108,7 +108,7 @@ pub fn list_pieces<W: Write, S: Stepper>(
     Ok(())
 }
 
-/// Adds the line of a token that begins at byte `start`.
+/// Adds the line of a token that starts at offset `start`, in bytes.
 fn push_line<W: Write>(
     lines: &mut BlockWriter<'_, W>,
     start: u32,
@@ -120,7 +120,7 @@ fn push_line<W: Write>(
     lines.push("\n")
 }
 
-/// The most bytes that a start, a length and a space after each take.
+/// The maximum number of bytes of a start and a length, with a space after each.
 const PLACE: usize = 22;
 
 /// Adds the start and the length of a token, each with a space after it.

@@ -1,4 +1,4 @@
-//! Why a run stops, at input that it rejects or streams that fail, and the messages of the program.
+//! The errors of a run, for rejected input and for streams that fail, and the messages of the program.
 
 #[path = "../../program_io/tests/failing/mod.rs"]
 mod failing;
@@ -20,9 +20,9 @@ const STOPPED: [(&str, &[u8], Fault, u8); 6] = [
     ("edit|0|3||1|9|", b"ab cd", Fault::EditRange { at: 1 }, 5),
 ];
 
-/// For input that is rejected nothing is written or flushed, and no stream has failed.
+/// For rejected input, nothing is written or flushed, and no stream has failed.
 #[test]
-fn stops() {
+fn errors_and_statuses() {
     for (line, bytes, fault, wanted) in STOPPED {
         let words = words_of(line);
         let job = read_job(Global, &words).unwrap();
@@ -105,7 +105,7 @@ fn programs() {
 
 /// Each call of a stream fails in turn. A closed output is a failure.
 #[test]
-fn program_over_failing_ends() {
+fn program_with_failing_streams() {
     Program {
         run: &|input, output, errors| {
             let args = Some(words_of("").into_iter());

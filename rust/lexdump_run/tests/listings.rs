@@ -9,8 +9,8 @@ use rattle_std::alloc::Global;
 use rustc_lexer::Edition::E2024;
 use rustc_lexer::{Token, TokenKind};
 
-/// Arguments, a text, and the listing. The last texts have U+0000 or nothing after an opening, which a careless program
-/// lists wrong.
+/// Arguments, a text, and the listing. The last texts have U+0000 or nothing after an opening delimiter, which a
+/// careless program lists wrong.
 #[rustfmt::skip]
 const LISTED: [(&str, &str, &str); 21] = [
     ("", "fn main() {}\n", "0 2 Ident\n2 1 Whitespace\n3 4 Ident\n7 1 OpenParen\n8 1 CloseParen\n9 1 Whitespace\n\

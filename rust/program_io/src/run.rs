@@ -13,8 +13,8 @@ use rattle_std::io::{Read, Write};
 ///
 /// # Errors
 ///
-/// `Fault::Read` if a read failed, `Fault::TooLong` if there are more bytes, `Fault::NotUtf8` if
-/// they are not UTF-8, and `Fault::Memory` if an allocation failed. What was read is lost then.
+/// Returns `Fault::Read` if a read failed, `Fault::TooLong` if there are more bytes, `Fault::NotUtf8` if they are not
+/// UTF-8, and `Fault::Memory` if an allocation failed. The bytes that were read are then lost.
 pub fn read_text<R: Read>(alloc: Global, input: &mut Watched<R>) -> Result<String, Fault> {
     let bytes = read_all(alloc, input)?;
     String::from_utf8(bytes).map_err(|_| Fault::NotUtf8)
@@ -24,7 +24,7 @@ pub fn read_text<R: Read>(alloc: Global, input: &mut Watched<R>) -> Result<Strin
 ///
 /// # Errors
 ///
-/// `Fault::Write` if a write or the flush failed. The output has taken a beginning of the text.
+/// Returns `Fault::Write` if a write or the flush failed. A prefix of the text has then been written.
 pub fn put<W: Write>(output: &mut Watched<W>, text: &str) -> Result<(), Fault> {
     write_all(output, text.as_bytes())
 }

@@ -4,21 +4,20 @@
 use rattle_std::io;
 use rattle_std::io::{ErrorKind, Read, Write};
 
-/// A reader or a writer that records how it failed, and whether the last call was a flush that
-/// succeeded. It passes on each call, and each result.
+/// A reader or a writer that records its first failure, and whether the last call was a flush that succeeded. It passes
+/// on each call and each result.
 ///
-/// It has *failed* if a call once returned an error, or a write once took none of the bytes that
-/// it was given. It is *closed* if the first call that failed did because nobody reads the output
-/// any more.
+/// It has *failed* if a call once returned an error, or a write once wrote 0 of the bytes that it was given. It is
+/// *closed* if the first failure was that nobody reads the output any more.
 pub struct Watched<T> {
     inner: T,
-    /// The kind of the first failure, `WriteZero` if it was a write that took nothing.
+    /// The kind of the first failure; `WriteZero` if a write of some bytes wrote 0.
     failure: Option<ErrorKind>,
     flushed: bool,
 }
 
 impl<T> Watched<T> {
-    /// Wraps a reader or a writer. The new one has not failed.
+    /// Wraps a reader or a writer. The result has not failed.
     pub fn new(inner: T) -> Watched<T> {
         Watched {
             inner,
@@ -27,30 +26,29 @@ impl<T> Watched<T> {
         }
     }
 
-    /// Returns whether it has failed.
+    /// Returns whether the stream has failed.
     pub fn failed(&self) -> bool {
         self.failure.is_some()
     }
 
-    /// Returns whether it has failed only because nobody reads the output any more.
+    /// Returns whether the first failure was that nobody reads the output any more.
     pub fn closed(&self) -> bool {
         matches!(self.failure, Some(ErrorKind::BrokenPipe))
     }
 
-    /// Returns the reader or the writer itself.
+    /// Returns the reader or the writer inside.
     pub fn into_inner(self) -> T {
         self.inner
     }
 
-    /// Records how a call failed, if it did and none before it, and whether it was a flush that
-    /// succeeded.
+    /// Records the failure of a call, unless an earlier call failed, and whether the call was a flush that succeeded.
     fn note(&mut self, failure: Option<ErrorKind>, flushed: bool) {
         self.failure = self.failure.or(failure);
         self.flushed = flushed;
     }
 }
 
-/// Returns how a read or a flush failed, if it did.
+/// Returns the failure of a read or a flush, if it failed.
 fn failure_of<T>(answer: &io::Result<T>) -> Option<ErrorKind> {
     match answer {
         Ok(_) => None,

@@ -11,7 +11,7 @@ use rattle_std::env::Args;
 ///
 /// # Errors
 ///
-/// `AllocError` if an allocation failed.
+/// Returns `AllocError` if an allocation failed.
 pub fn past_name(alloc: Global, mut args: Args) -> Result<Vec<String>, AllocError> {
     let _ = args.next();
     let mut words = Vec::new(alloc);
@@ -25,8 +25,7 @@ pub fn past_name(alloc: Global, mut args: Args) -> Result<Vec<String>, AllocErro
 ///
 /// # Errors
 ///
-/// `AllocError` if an allocation failed. `None` stands for arguments that the program could not
-/// get because of that.
+/// Returns `AllocError` if an allocation failed, or if `args` is `None` because the arguments could not be read.
 pub fn given_words(alloc: Global, args: Option<Args>) -> Result<Vec<String>, AllocError> {
     past_name(alloc, args.ok_or(AllocError)?)
 }

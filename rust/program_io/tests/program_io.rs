@@ -1,4 +1,4 @@
-//! Watched streams, and reading and writing all; the arguments after the name; why a program stops.
+//! Watched streams; reading and writing to the end; the arguments after the name; the reasons why a program stops.
 
 mod failing;
 
@@ -49,7 +49,7 @@ fn watched_writer() {
     }
 }
 
-/// A write of 0 of some bytes is a failure, and so is a failed flush. A write of no bytes is not.
+/// Writing 0 of some bytes is a failure, and so is a failed flush. Writing no bytes is not a failure.
 #[test]
 fn failed_writer() {
     let mut output = BYTES.but_at(1, Turn::MovesNothing).writer();
@@ -61,7 +61,7 @@ fn failed_writer() {
 
 /// All bytes up to the end, or the error: a closed pipe is a failed read too.
 #[test]
-fn all_that_is_read() {
+fn reading_all_bytes() {
     let mut input = BYTES.reader(b"ab");
     let bytes = read_all(Global, &mut input).unwrap();
     assert!(bytes.as_slice() == b"ab" && !input.failed());
@@ -89,9 +89,9 @@ const WRITES: [(Call, usize); 5] = [
     (|output| put(output, "ab"), 1),
 ];
 
-/// All is written, or everything before a failed write, with no flush. A failed flush is an error too.
+/// Everything is written, or everything before a failed write, without a flush. A failed flush is an error too.
 #[test]
-fn all_that_is_written() {
+fn writing_all_bytes() {
     for (row, (call, flushes)) in WRITES.into_iter().enumerate() {
         let came_to = |script: Script| {
             let mut output = script.writer();
@@ -135,8 +135,8 @@ const FAULTS: [(Fault, u8, &str); 10] = [
     (Fault::Write, 7, "name: write failed\n"),
 ];
 
-/// The message is flushed, and the status is the same if it cannot be written. A run that succeeds has no message, and
-/// neither has a quiet one whose write failed.
+/// The message is flushed, and the status is the same if it cannot be written. A successful run has no message, and
+/// neither does a quiet run whose write failed.
 #[test]
 fn statuses_and_messages() {
     let told = |outcome, is_quiet, script: Script| {

@@ -1,9 +1,9 @@
 //! The parts of Rattle's `std` that programs use, on top of Rust's. This crate is hand-written and trusted: each item
 //! must meet the contract of the item with the same name in Rattle, which its comment here describes.
 //!
-//! Lists and texts are those of `rattle_support`, which return an error if an allocation fails. If one of Rust's own
-//! allocations fails, the process aborts. These happen at the start, before any input is read: in [`env::args`], in
-//! [`env::var`], and for the buffers of the standard streams, which are never used.
+//! Lists and texts come from `rattle_support`, and their methods return an error if an allocation fails. If an
+//! allocation of Rust's own `std` fails, the process aborts. These allocations happen at the start, before any input is
+//! read: in [`env::args`], in [`env::var`], and for the buffers of the standard streams, which are never used.
 
 #![deny(missing_docs, unsafe_code)]
 
@@ -11,7 +11,7 @@ pub mod env;
 pub mod io;
 pub mod rt;
 
-/// As in Rust.
+/// The same as in Rust.
 pub use std::{error, fmt, str};
 
 /// Memory allocation.
@@ -19,18 +19,18 @@ pub mod alloc {
     /// The allocator, and the error of a failed allocation.
     pub use rattle_support::{AllocError, Global};
 
-    /// An allocation failed, with the value that it was for.
+    /// The error of a failed allocation, with the value that it was for.
     pub struct AllocFailed<T>(pub T);
 }
 
 /// The process.
 pub mod process {
-    /// The status with which the process ends.
+    /// The exit status of the process.
     pub use std::process::ExitCode;
 }
 
 /// The prelude of Rattle: the names that each source file uses without an import.
 pub mod prelude {
-    /// A list and a text.
+    /// Lists and texts.
     pub use rattle_support::{String, Vec};
 }

@@ -1,4 +1,4 @@
-//! Arguments, one of which is not UTF-8. Rust's test harness rejects them, so this is a program without it that runs
+//! An argument that is not UTF-8. Rust's test harness rejects it, so this is a program without the harness that runs
 //! itself.
 
 #[cfg(unix)]

@@ -40,7 +40,7 @@ impl<T> Vec<T> {
         self.0.capacity()
     }
 
-    /// Reserves room for exactly that many more items.
+    /// Reserves capacity for exactly `more` items.
     pub fn reserve_exact(&mut self, more: usize) -> Result<(), AllocError> {
         Ok(self.0.try_reserve_exact(more)?)
     }
@@ -50,7 +50,8 @@ impl<T> Vec<T> {
         self.0.truncate(len);
     }
 
-    /// Moves the items to a buffer of their size. If the allocation fails, nothing changes; Rust's own method aborts.
+    /// Moves the items to a buffer of their size. If the allocation fails, nothing changes, whereas Rust's own method
+    /// aborts.
     pub fn shrink_to_fit(&mut self) {
         let mut fitting = alloc::vec::Vec::new();
         if self.0.len() < self.0.capacity() && fitting.try_reserve_exact(self.0.len()).is_ok() {
@@ -146,7 +147,7 @@ impl String {
         }
     }
 
-    /// Reserves room for that many more bytes.
+    /// Reserves capacity for at least `more` bytes.
     #[inline]
     pub fn reserve(&mut self, more: usize) -> Result<(), AllocError> {
         Ok(self.0.try_reserve(more)?)
@@ -155,7 +156,7 @@ impl String {
     /// Replaces the bytes of the range with a text.
     pub fn replace_range(&mut self, range: Range<usize>, with: &str) -> Result<(), AllocError> {
         self.0.try_reserve(with.len().saturating_sub(range.len()))?;
-        // `String::replace_range` inserts byte by byte, and a byte costs as much as moving some 32 bytes after it.
+        // `String::replace_range` inserts byte by byte, and each costs as much as moving about 32 bytes after it.
         let behind = self.0.len().saturating_sub(range.end);
         if range.is_empty() || with.len() > behind / 32 {
             let start = range.start;

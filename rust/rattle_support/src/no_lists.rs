@@ -46,7 +46,7 @@ impl<T> Vec<T> {
     }
 }
 
-/// Nothing needs no memory.
+/// Returns an error unless `len` is 0, which needs no memory.
 fn refused_but_for(len: usize) -> Result<(), AllocError> {
     if len == 0 { Ok(()) } else { Err(AllocError) }
 }

@@ -1,8 +1,8 @@
-//! 16, 32 and 64 bytes side by side, with the names of `std::simd`, on stable Rust: with SSE2, NEON or the vectors of
-//! WebAssembly; on other targets, or with the feature `portable`, with eight bytes in a word. The contracts are those
-//! of `std::simd` in Rattle.
+//! Vectors of 16, 32 and 64 bytes, with the names of `std::simd`, on stable Rust. They use SSE2, NEON or the vectors of
+//! WebAssembly and, on other targets or with the feature `portable`, eight bytes in a word. The contracts are the same
+//! as for `std::simd` in Rattle.
 
-/// What a file of lanes does to each lane: functions that are built into their callers.
+/// Declares functions on lanes, which are always inlined.
 macro_rules! lanewise {
     ($($name:ident($($lanes:ident),*) = $made:expr;)*) => {$(
         #[inline(always)]
@@ -12,7 +12,7 @@ macro_rules! lanewise {
     )*};
 }
 
-// On each other target `lanes.rs` has words.
+// On all other targets, this is `lanes.rs`, which uses words.
 #[cfg(feature = "portable")]
 mod lanes;
 #[cfg(not(feature = "portable"))]
@@ -30,7 +30,7 @@ mod lanes;
 )]
 mod lanes;
 
-// The tests have plain functions in their place.
+// The tests use plain functions instead.
 #[cfg(target_arch = "aarch64")]
 #[allow(unused_imports)]
 use core::arch::aarch64 as arch;
@@ -40,7 +40,7 @@ use core::arch::wasm32 as arch;
 use core::ops::{BitAnd, BitOr, Sub};
 use lanes::{COUNT, Lanes};
 
-/// Bytes side by side.
+/// A vector of bytes.
 #[derive(Clone, Copy)]
 pub struct Bytes<const N: usize>([Lanes; N]);
 
@@ -48,17 +48,18 @@ pub struct Bytes<const N: usize>([Lanes; N]);
 #[derive(Clone, Copy)]
 pub struct Mask<const N: usize>([Lanes; N]);
 
-/// 16 bytes side by side.
+/// A vector of 16 bytes.
 #[allow(non_camel_case_types)]
 pub type u8x16 = Bytes<{ 16 / COUNT }>;
-/// 32 bytes side by side.
+/// A vector of 32 bytes.
 #[allow(non_camel_case_types)]
 pub type u8x32 = Bytes<{ 32 / COUNT }>;
-/// 64 bytes side by side.
+/// A vector of 64 bytes.
 #[allow(non_camel_case_types)]
 pub type u8x64 = Bytes<{ 64 / COUNT }>;
 
-/// By a plain loop: a build without optimization makes some twenty calls for each lane of `core::array::from_fn`.
+/// Applies `f` to each pair of lanes. This is a plain loop, because a build without optimization makes about twenty
+/// calls for each lane of `core::array::from_fn`.
 #[inline(always)]
 fn both<const N: usize>(
     a: [Lanes; N],
@@ -80,7 +81,7 @@ impl<const N: usize> Bytes<N> {
         Bytes([lanes::splat(byte); N])
     }
 
-    /// The first bytes of the slice, which has at least as many.
+    /// Returns the first bytes of the slice. Panics if the slice is shorter than the vector.
     #[inline(always)]
     pub fn from_slice(bytes: &[u8]) -> Bytes<N> {
         let bytes = &bytes[..N * COUNT];
@@ -127,7 +128,7 @@ impl<const N: usize> BitOr for Bytes<N> {
     }
 }
 
-/// It wraps, as in `std::simd`.
+/// Subtraction wraps around, as in `std::simd`.
 impl<const N: usize> Sub for Bytes<N> {
     type Output = Bytes<N>;
 
@@ -138,7 +139,7 @@ impl<const N: usize> Sub for Bytes<N> {
 }
 
 impl<const N: usize> Mask<N> {
-    /// Bit k is set where lane k is.
+    /// Returns the lanes as bits. Bit k is set if lane k is.
     #[inline(always)]
     pub fn to_bitmask(self) -> u64 {
         lanes::bits(&self.0)

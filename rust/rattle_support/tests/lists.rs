@@ -1,4 +1,4 @@
-//! `Vec` and `String` next to those of `std`. If an allocation fails, a call returns an error and nothing changes.
+//! Tests `Vec` and `String`. If an allocation fails, a call returns an error and nothing changes.
 #![cfg(feature = "alloc")]
 
 mod refusing;
@@ -39,7 +39,7 @@ fn texts() {
         let mut held = text("aéb");
         assert_eq!(call(&mut held), Ok(()), "call {number}");
         assert_eq!(held.as_str(), wanted, "call {number}");
-        // There is no room left, so each call that appends allocates.
+        // The buffer is full, so each call that appends allocates.
         let mut held = text("aéb");
         let takes_none = number >= 7;
         let answer = given(0, || call(&mut held));
@@ -53,7 +53,7 @@ fn texts() {
     let mut held = text("aéb");
     given(0, || held.truncate(3));
     assert_eq!((held.as_str(), &*held.to_string()), ("aé", "aé"));
-    // A width counts characters, as for each text in Rust.
+    // A width counts characters, as for every text in Rust.
     assert_eq!(std::format!("{held:>4}|{held:-<3}"), "  aé|aé-");
     assert_eq!(std::string::String::from(held), "aé");
     let mut bytes = Vec::new(Global);
@@ -100,7 +100,7 @@ fn lists() {
         assert!(is_full, "call {number}: there is room for 100 more");
         let full = held.clone();
         let answer = given(0, || call(&mut held));
-        // The third needs more room only if there is little.
+        // The third call allocates only if the spare capacity is small.
         let takes_none = number >= 3;
         assert!(number == 2 || answer.is_ok() == takes_none, "call {number}");
         assert!(number >= 2 || held == full, "call {number}");
@@ -117,7 +117,7 @@ fn lists() {
     assert_eq!(full.len(), 0);
 }
 
-/// If there is room for only a part of what a call adds, the call fails and nothing changes.
+/// If a call has spare capacity for only a part of its input, it fails and nothing changes.
 #[test]
 fn too_little_room() {
     for left in 0..20 {
@@ -148,7 +148,7 @@ fn error_message() {
     assert_eq!(std::format!("{AllocError:>26}"), "memory allocation failed");
 }
 
-/// Reserved room needs no allocation, however long the list was before.
+/// Appending within reserved capacity does not allocate, however long the text was before.
 #[test]
 fn reserved_room() {
     let mut held = text(&"a".repeat(100));
@@ -157,7 +157,7 @@ fn reserved_room() {
     assert_eq!(given(0, || held.push_str(&more)), Ok(()));
 }
 
-/// Room grows by more than is needed, so a thousand appending calls allocate some ten times.
+/// Growth is amortized: a thousand appending calls allocate about ten times.
 #[test]
 fn amortized_growth() {
     type Call = fn(&mut String, &mut Vec<u8>) -> Result<(), AllocError>;
@@ -178,7 +178,7 @@ fn amortized_growth() {
     }
 }
 
-/// A short and a long text replace others, or none, before a long text.
+/// Replaces nothing, a short range or a long one, before a long text.
 #[test]
 fn replace_range() {
     let e = |count| "é".repeat(count);
@@ -197,7 +197,7 @@ fn replace_range() {
     }
 }
 
-/// Unused room is returned. If the smaller allocation fails, the larger one stays.
+/// Unused capacity is freed. If the smaller allocation fails, the larger one is kept.
 #[test]
 fn shrink_to_fit() {
     let mut held = text("aéb");
@@ -226,7 +226,7 @@ fn shrink_to_fit() {
     items.shrink_to_fit();
     assert_eq!(given(0, || held.push_str("1")), Err(AllocError));
     assert_eq!(given(0, || items.push(3)), Err(AllocError));
-    // Room for one element is returned as well.
+    // Capacity for a single element is freed as well.
     for len in [20, 1000] {
         let mut held = text(&"a".repeat(len));
         let mut items = list();

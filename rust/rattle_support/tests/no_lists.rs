@@ -1,4 +1,4 @@
-//! `Vec` and `String` without an allocator: calls that allocate fail, and others succeed.
+//! Tests `Vec` and `String` without an allocator: calls that would allocate fail, and all other calls succeed.
 #![cfg(not(feature = "alloc"))]
 
 use core::fmt::Write;

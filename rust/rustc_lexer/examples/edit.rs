@@ -1,4 +1,4 @@
-//! Prints the tokens of a file, then those that an edit changes: `cargo run --example edit` in a package with
+//! Prints the tokens of a file, and then the tokens that an edit changes: `cargo run --example edit` in a package with
 //! `src/main.rs`.
 use rustc_lexer::LexedDocument;
 

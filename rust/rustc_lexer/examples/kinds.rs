@@ -1,4 +1,4 @@
-//! Counts the tokens of standard input by kind, and literals by their own kind, like `Str`:
+//! Counts the tokens of standard input by kind, and literals by their own kind, such as `Str`:
 //! `cargo run --example kinds < FILE`.
 mod common;
 

@@ -29,7 +29,7 @@ fn count(text: &str) -> [usize; 3] {
             TokenKind::LineComment { .. } | TokenKind::BlockComment { .. } => Line::Comment,
             _ => Line::Code,
         };
-        // A token that ends with a line break, like `r#` without a quote, has nothing on the next line.
+        // A token that ends with a line break, such as `r#` without a quote, has nothing on the next line.
         for part in piece.text.split_inclusive('\n') {
             line = line.max(kind);
             if part.ends_with('\n') {

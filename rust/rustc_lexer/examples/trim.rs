@@ -1,7 +1,7 @@
 //! Removes spaces and tabs at the ends of lines: `cargo run --example trim < FILE > TRIMMED`. Then it lexes the result,
 //! and prints only a message if a token other than whitespace differs.
 //!
-//! Only whitespace between tokens is trimmed: a shebang line, a frontmatter, comments and literals stay as they are.
+//! Only whitespace between tokens is trimmed: a shebang line, a frontmatter, comments and literals are not changed.
 mod common;
 
 use rustc_lexer::{Edition, TokenKind, tokenize_document};

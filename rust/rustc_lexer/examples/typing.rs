@@ -1,5 +1,5 @@
 //! Updates the tokens of a file while you type: `cargo run --example typing -- FILE`. Inserts each line of standard
-//! input at the end of the file's first line, and prints the tokens that were lexed again.
+//! input at the end of the file's first line, and prints the tokens that were re-lexed.
 use rustc_lexer::LexedDocument;
 use std::error::Error;
 use std::io::{self, Write};

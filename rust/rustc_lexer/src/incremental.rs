@@ -1,12 +1,11 @@
 //! Incremental lexing for tokens in lists of your own: lexes only what an edit changed.
 //!
 //! [`LexedText`](crate::LexedText) and [`LexedDocument`](crate::LexedDocument) store a text with its tokens. If your
-//! program stores them in its own way, call [`Relex`], with [`Head`] for a whole file. `Relex` rejects a change that
-//! cannot have resulted in the text. It cannot check that the tokens are those of the old text: with any others the
-//! result has no meaning. `Head::change_to` checks nothing, and can panic with a head or an edit of another text.
+//! program stores them in its own way, use [`Relex`], with [`Head`] for a whole file.
 //!
-//! Arguments are not checked: with tokens or a head that do not belong to the old text, the new tokens may be wrong, or
-//! a call may panic.
+//! [`Relex::begin`] returns `None` if the change cannot have resulted in the text. It cannot check that the tokens are
+//! the tokens of the old text: with any others, the result has no meaning. [`Head::change_to`] checks nothing: with a
+//! head or an edit of another text, the result has no meaning either, or it panics.
 //!
 //! # Example: a whole file
 //!

@@ -11,7 +11,7 @@ use alloc::string::String;
 use core::fmt;
 use core::ops::{self, Range, RangeBounds};
 
-/// Returns the bounds of a range in a text or list of length `len`. They saturate at `usize::MAX`, which is past the
+/// Returns the bounds of a range in a text or list of length `len`. They saturate at `usize::MAX`, which is after the
 /// end of any text.
 fn range_in(range: &impl RangeBounds<usize>, len: usize) -> Range<usize> {
     let start = match range.start_bound() {
@@ -29,14 +29,14 @@ fn range_in(range: &impl RangeBounds<usize>, len: usize) -> Range<usize> {
 
 /// Returns the token range. Panics if it is out of bounds.
 #[track_caller]
-fn checked_range(numbers: &impl RangeBounds<usize>, tokens: &[Token]) -> Range<usize> {
-    let numbers = range_in(numbers, tokens.len());
+fn checked_range(range: &impl RangeBounds<usize>, tokens: &[Token]) -> Range<usize> {
+    let range = range_in(range, tokens.len());
     assert!(
-        numbers.start <= numbers.end && numbers.end <= tokens.len(),
-        "token range {numbers:?} out of range for {} tokens",
+        range.start <= range.end && range.end <= tokens.len(),
+        "token range {range:?} out of range for {} tokens",
         tokens.len()
     );
-    numbers
+    range
 }
 
 /// A text whose tokens are kept up to date as it is edited: a [`LexedText`] or a [`LexedDocument`], depending on `E`.
@@ -57,7 +57,7 @@ fn checked_range(numbers: &impl RangeBounds<usize>, tokens: &[Token]) -> Range<u
 ///
 /// A constructor, or a method that changes the text once, panics if the text is too long, the range is invalid or an
 /// allocation fails, and has a `try_` variant that returns an error; a method that takes a list of edits returns a
-/// `Result` under its plain name, since its error says which edit failed.
+/// `Result` under its plain name, since its error contains the index of the edit that failed.
 ///
 /// If a step panics in an edit, the text is poisoned: [`text`](Lexed::text) has the edit, but each method that needs
 /// the tokens panics until `set_text` lexes a text again. A clone of it is poisoned too.
@@ -70,8 +70,8 @@ pub struct Lexed<S: Stepper = Steps, E: Extent = Fragment> {
 
 /// A fragment of a file, with tokens that are kept up to date as it is edited.
 ///
-/// The tokens always equal those of lexing the text from scratch. With a stepper of your own, this holds if the stepper
-/// follows the rules of [`Stepper`]. An edit re-lexes only the tokens near it and keeps all others.
+/// After each edit, the tokens equal a full re-lex of the text. With a stepper of your own, this holds if the stepper
+/// follows the rules of [`Stepper`]. An edit re-lexes only the tokens near it and keeps the rest.
 ///
 /// A shebang line or a frontmatter is lexed as code. For a whole file, use [`LexedDocument`](crate::LexedDocument).
 ///
@@ -87,8 +87,8 @@ pub type LexedText<S = Steps> = Lexed<S, Fragment>;
 
 /// A whole file, with tokens that are kept up to date as it is edited.
 ///
-/// The tokens always equal those of [`tokenize_document`](crate::tokenize_document): they start after a byte order mark
-/// and a shebang line, and a frontmatter is one token.
+/// After each edit, the tokens equal those that [`tokenize_document`](crate::tokenize_document) returns: they start
+/// after a byte order mark and a shebang line, and a frontmatter is one token.
 ///
 /// It has the same methods as a [`LexedText`](crate::LexedText), which is for a fragment of a file. Byte order mark,
 /// shebang line and frontmatter are the *head*, and the text after them is the *body*. An edit of the body that does
@@ -195,7 +195,7 @@ impl<E: Extent> Lexed<Steps, E> {
         Ok(lexed)
     }
 
-    /// Returns the edition of the tokens. Edits do not change it.
+    /// Returns the edition in which the text is lexed. Edits do not change it.
     ///
     /// ```
     /// use rustc_lexer::{Edition, LexedText};
@@ -333,7 +333,7 @@ impl<S: Stepper, E: Extent> Lexed<S, E> {
         result
     }
 
-    /// Takes over `text` and lexes it with the current stepper. If an allocation fails, `text` is unchanged.
+    /// Moves `text` in and lexes it with the current stepper. If an allocation fails, `text` is unchanged.
     fn lex_anew(&mut self, text: &mut support::String) -> Result<Relexed, AllocError> {
         self.kept.lex_anew(text)?;
         self.is_poisoned = false;
@@ -352,7 +352,7 @@ impl<S: Stepper, E: Extent> Lexed<S, E> {
         self.kept.text()
     }
 
-    /// Returns the tokens, in order.
+    /// Returns the tokens, in order. A byte order mark and a shebang line of a whole file are not tokens.
     ///
     /// ```
     /// use rustc_lexer::{LexedText, TokenKind};
@@ -395,7 +395,7 @@ impl<S: Stepper, E: Extent> Lexed<S, E> {
         self.unpoisoned().pieces()
     }
 
-    /// Returns the pieces of a range of tokens, by index. After an edit, repaint those of `relexed.changed_tokens()`.
+    /// Returns the pieces of a range of tokens, by index. After an edit, repaint the range `relexed.changed_tokens()`.
     ///
     /// ```
     /// use rustc_lexer::LexedText;
@@ -410,14 +410,13 @@ impl<S: Stepper, E: Extent> Lexed<S, E> {
     ///
     /// Panics if the range is out of bounds.
     #[track_caller]
-    pub fn pieces_by_index(&self, numbers: impl RangeBounds<usize>) -> Pieces<'_> {
-        let numbers = checked_range(&numbers, self.tokens());
-        self.unpoisoned()
-            .pieces_by_index(numbers.start, numbers.end)
+    pub fn pieces_by_index(&self, range: impl RangeBounds<usize>) -> Pieces<'_> {
+        let range = checked_range(&range, self.tokens());
+        self.unpoisoned().pieces_by_index(range.start, range.end)
     }
 
-    /// Returns the index and the start of the token that contains the byte at `offset`. Returns `None` at and past the
-    /// end of the text, and in a shebang line, which is not a token.
+    /// Returns the index and the start of the token that contains the byte at `offset`. Returns `None` at and after the
+    /// end of the text, and in a byte order mark and a shebang line, which are not tokens.
     ///
     /// Only a few tokens are read, especially near the last edit.
     ///
@@ -435,7 +434,7 @@ impl<S: Stepper, E: Extent> Lexed<S, E> {
     }
 
     /// Returns the piece that contains the byte at `offset`, for example the one under a caret. Returns `None` at and
-    /// past the end of the text, and in a shebang line.
+    /// after the end of the text, and in a byte order mark and a shebang line.
     ///
     /// ```
     /// use rustc_lexer::LexedText;
@@ -453,7 +452,7 @@ impl<S: Stepper, E: Extent> Lexed<S, E> {
 
     /// Returns the pieces of the tokens that contain a byte of the range, for example of the visible lines.
     ///
-    /// The range may end anywhere, even past the end of the text. An empty range contains no pieces.
+    /// The range may end anywhere, even after the end of the text. An empty range contains no pieces.
     ///
     /// ```
     /// use rustc_lexer::LexedText;
@@ -582,11 +581,11 @@ impl<S: Stepper, E: Extent> Lexed<S, E> {
         self.apply(|kept| kept.edit_sequence(edits))
     }
 
-    /// Applies several edits at once, such as those of a rename or of several carets. All offsets refer to the current
-    /// text. The edits must be in order and must not overlap, but they may touch.
+    /// Applies several edits at once, for example to rename a variable or to type at several carets. All offsets refer
+    /// to the current text. The edits must be in order and must not overlap, but they may touch.
     ///
     /// They are applied as one edit, from the start of the first to the end of the last, and its counts are returned.
-    /// An empty list keeps all tokens in front.
+    /// An empty list keeps all tokens at the front.
     ///
     /// ```
     /// use rustc_lexer::{Edit, EditStop, LexedText, Relexed};
@@ -612,8 +611,8 @@ impl<S: Stepper, E: Extent> Lexed<S, E> {
     /// Replaces the text, for example with a formatter's output, and re-lexes only the part that differs.
     ///
     /// The common prefix of both texts is stripped, then their common suffix, and the rest is applied as one edit,
-    /// whose counts are returned. If the text is the same, all tokens are kept in front. If a step panicked before, the
-    /// whole text is lexed, and no token is kept.
+    /// whose counts are returned. If the text is the same, all tokens are kept at the front. If a step panicked before,
+    /// the whole text is lexed, and no token is kept.
     ///
     /// ```
     /// use rustc_lexer::{LexedText, Relexed};
@@ -787,7 +786,7 @@ impl<S: Stepper> Lexed<S, Document> {
 impl Relexed {
     /// Returns the indices of the tokens that were lexed, in the list of tokens after the edit.
     ///
-    /// The end saturates if the counts are those of no edit.
+    /// The end saturates if no edit can have these counts.
     ///
     /// ```
     /// use rustc_lexer::LexedText;

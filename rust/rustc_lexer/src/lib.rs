@@ -19,7 +19,7 @@
 //! | many tokens at once | [`Tokens::fill`], `Tokens::into_vec` |
 //! | one token after another, with lookahead | [`Cursor`] |
 //! | the tokens of a file while it is edited | [`LexedDocument`], or [`LexedText`] for a fragment |
-//! | several edits at once, such as those of a rename | [`LexedText::edit_batch`] |
+//! | several edits at once, for example to rename a variable | [`LexedText::edit_batch`] |
 //! | incremental lexing with your own data structures | the module [`incremental`] |
 //! | the final tokens of a text that is still arriving | [`LexedText::settled`]; [`settled_in`] lexes the whole text |
 //! | to print tokens so that they lex back to themselves | [`JoinedText`] |
@@ -27,12 +27,12 @@
 //!
 //! # What is proved
 //!
-//! The module `generated` is generated from a source in Rattle, which is Rust with contracts, by deleting the contracts.
-//! It is proved for that source that, for every text under 4 GiB, it returns the only tokens that a grammar of Rust
-//! allows. The rest of this crate is hand-written: its functions check the preconditions of the contracts, and where
-//! the tokens of a [`Stepper`] end. The module [`incremental`] cannot check that lists and heads belong to the old
-//! text; if they do not, tokens are wrong, or it panics. `docs/GENERATED.md` in the repository says what is claimed and
-//! what is trusted.
+//! The module `generated` is generated from a source in Rattle, which is Rust with contracts, by deleting the
+//! contracts. It is proved for that source that, for every text under 4 GiB, it returns the only tokens that a grammar
+//! of Rust allows. The rest of this crate is hand-written: its functions check the preconditions of the contracts, and
+//! where the tokens of a [`Stepper`] end. The module [`incremental`] cannot check that lists and heads belong to the
+//! old text; if they do not, the new tokens may be wrong, or a call may panic. `docs/GENERATED.md` in the repository
+//! lists what is claimed and what is trusted.
 #![cfg_attr(
     feature = "alloc",
     doc = "\n# A program that keeps the tokens of a file\n\n```no_run"
@@ -64,9 +64,10 @@ mod edit_error;
 mod extent;
 /// The proved source without its contracts, generated from `crates/rustc_lexer`.
 ///
-/// This is for packages that are generated in the same way, such as `rustc_lexer_highlight` and the programs, whose calls are proved to
-/// meet the preconditions. Nothing here checks preconditions; if they are not met, results are arbitrary, or it panics.
-/// Everything here can change with the source. Other callers use the functions at the crate's root.
+/// This is for packages that are generated in the same way, such as `rustc_lexer_highlight` and the programs. It is
+/// proved that their calls meet the preconditions. Nothing here checks preconditions: if they are not met, results are
+/// arbitrary, or a call panics. Everything here can change with the source. Other callers use the functions at the
+/// crate's root.
 // Only contracts use some of its imports, and Clippy would write some of it differently.
 #[allow(unused_imports, dead_code)]
 #[allow(
@@ -204,7 +205,8 @@ pub fn validate_raw_str(input: &str, prefix_len: u32) -> Result<(), RawStrError>
     generated::validate_raw_str(text, prefix_len)
 }
 
-/// Returns whether the tokens of a text are those of its part before `at`, followed by those of its part after `at`.
+/// Returns whether the tokens of a text are the tokens of its part before `at`, followed by the tokens of its part
+/// after `at`.
 ///
 /// Use it to find out whether two pieces of text in your own buffer would merge into one token.
 ///

@@ -108,7 +108,7 @@ impl<'a> Tokens<'a> {
 
     /// Writes the next tokens into the buffer until it is full or no token is left, and returns how many were written.
     ///
-    /// They are the same tokens that repeated calls of `next` would return.
+    /// These are the tokens that repeated calls of `next` would return.
     ///
     /// ```
     /// use rustc_lexer::{tokenize, FrontmatterAllowed, Token, TokenKind};
@@ -227,10 +227,10 @@ pub fn tokenize_as(
     Tokens { left, len }
 }
 
-/// Returns an iterator over the tokens of a whole file in an edition.
+/// Returns an iterator over the tokens of a whole file, lexed in the given edition.
 ///
 /// A file may start with a byte order mark (U+FEFF), then a shebang line, then a frontmatter. The mark and the shebang
-/// line are not tokens, so the first token starts after them. All offsets count them:
+/// line are not tokens, so the first token starts after them. Offsets are still in bytes from the start of the file:
 ///
 /// ```
 /// use rustc_lexer::{tokenize_document, Edition};

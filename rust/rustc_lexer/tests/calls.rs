@@ -42,7 +42,7 @@ fn guarded_strings() {
 }
 
 #[test]
-fn hashes_that_are_pending() {
+fn pending_hashes() {
     let mut cursor = Cursor::new("##x", FrontmatterAllowed::No);
     assert_eq!(cursor.guarded_double_quoted_string(), None);
     assert_eq!(cursor.advance_token(), token(TokenKind::Ident, 3));
@@ -55,7 +55,7 @@ fn hashes_that_are_pending() {
 }
 
 #[test]
-fn pending_hashes_stay_over_a_second_try() {
+fn pending_hashes_after_a_second_call() {
     let mut cursor = Cursor::new("##x y", FrontmatterAllowed::No);
     assert_eq!(cursor.guarded_double_quoted_string(), None);
     assert_eq!(cursor.guarded_double_quoted_string(), None);
@@ -82,7 +82,7 @@ fn pending_hashes_at_the_end() {
 }
 
 #[test]
-fn a_try_leaves_a_frontmatter_allowed() {
+fn guarded_string_call_keeps_a_frontmatter_allowed() {
     for (text, is_some) in [("---\na\n---\nb", false), ("\"\"---\na\n---\nb", true)] {
         let mut cursor = Cursor::new(text, FrontmatterAllowed::Yes);
         assert_eq!(cursor.guarded_double_quoted_string().is_some(), is_some);
@@ -312,9 +312,9 @@ fn all_ways_to_iterate_agree() {
     }
 }
 
-/// A call that reads only the start of a long text takes far less time than lexing it.
+/// A call that reads only the start of a long text is far faster than lexing it.
 #[test]
-fn the_rest_of_a_text_costs_nothing() {
+fn only_the_start_of_a_text_is_read() {
     let rest = " b".repeat(1 << 22);
     let start = std::time::Instant::now();
     assert_eq!(tokenize(&rest, FrontmatterAllowed::No).count(), 1 << 23);
@@ -351,8 +351,7 @@ fn the_remaining_text_outlives_its_iterator() {
     assert_eq!((by_tokens("a b"), by_cursor("a b")), (" b", " b"));
 }
 
-/// Offsets, ranges and texts of pieces, after any number of tokens was taken. In a document they start after the
-/// shebang line.
+/// Offsets, ranges and texts of pieces, after any number of tokens. In a document they start after the shebang line.
 #[test]
 fn offsets_of_pieces() {
     let text = "#!a\né +b";
@@ -466,7 +465,7 @@ fn prefixes_of_raw_strings() {
 
 /// Each offset is the end of the last token that two characters follow.
 #[test]
-fn what_is_settled() {
+fn settled_offsets() {
     for (text, end) in [
         ("ab cd ef", 6),
         ("a 😀 é", 6),
@@ -568,7 +567,7 @@ fn where_a_frontmatter_is_allowed() {
     }
 }
 
-/// A clone continues where it was made, independently of the original.
+/// A clone continues from its creation, independently of the original.
 #[test]
 fn clones() {
     let mut cursor = Cursor::new("##x y", FrontmatterAllowed::No);
@@ -582,7 +581,7 @@ fn clones() {
     assert_eq!(tokens.next().map(|token| token.len), Some(7));
 }
 
-/// Equal kinds have equal hashes, and different kinds are kept apart.
+/// Equal kinds have equal hashes, and different kinds are different elements of a set.
 #[test]
 fn kinds_in_a_set() {
     let text = "a b 'c' \"d\" 1 0x1 1.0 // \n/// \n/* */ /** */";
@@ -591,7 +590,7 @@ fn kinds_in_a_set() {
     let list: Vec<TokenKind> = kinds().collect();
     assert!(list.iter().all(|kind| set.contains(kind)));
     let apart = (0..list.len()).filter(|&n| !list[..n].contains(&list[n]));
-    // An identifier, white space, four literals without suffix, of which two differ in their ends, and four comments.
+    // An identifier, whitespace, five literals and four comments.
     assert_eq!((set.len(), apart.count()), (11, 11));
     // Tokens are equal by kind and length.
     let word = token(TokenKind::Ident, 1);
@@ -692,7 +691,7 @@ fn too_many_hashes() {
 
 #[test]
 #[should_panic(expected = "character number `prefix_len`, from 1, is not `r`")]
-fn a_text_that_is_no_raw_string() {
+fn not_a_raw_string() {
     let _ = validate_raw_str("b\"a\"", 2);
 }
 
@@ -828,7 +827,7 @@ fn fill_agrees_with_next() {
     }
 }
 
-/// Whatever an iterator has cached, each token is the first one that a new cursor finds in the remaining text.
+/// Whatever an iterator has cached, each token is the first token that a new cursor finds in the remaining text.
 #[test]
 fn cached_state_changes_no_token() {
     let line = "let x = 'r#a + b\"c\"; /* d */ fn éa(g: &'h str) { } 0x1f.i()  \u{2028}j // k\n";

@@ -1,5 +1,5 @@
-//! The calls that edit a `LexedText` next to their definition, with a stepper that counts: each call takes exactly the
-//! steps of the definition, also if an edit is rejected.
+//! The calls that edit a `LexedText`, compared with their definition, with a stepper that counts: each call makes
+//! exactly the steps of the definition, also if an edit is rejected.
 
 mod defined;
 mod made;
@@ -54,7 +54,7 @@ fn check<K: Kept>(
     );
 }
 
-/// Applies a list with `edit_all` and with `edit_sequence`. Returns what both made.
+/// Applies a list with `edit_all` and with `edit_sequence`. Returns the result of both.
 fn list<K: Kept>(held: &mut K, text: &str, language: Language, edits: &[Edit<'_>]) -> Made {
     let made = of_list::<K>(text, language, edits);
     let context = format!("{text:?} with {edits:?} in {language:?}");
@@ -109,7 +109,7 @@ fn bad_ranges(text: &str) -> Vec<Range<usize>> {
     ranges
 }
 
-/// Ranges with what each inserts.
+/// Ranges with their insertions.
 type Edits = Vec<(Range<usize>, String)>;
 
 fn as_edits(edits: &Edits) -> Vec<Edit<'_>> {
@@ -174,7 +174,7 @@ impl Random {
     }
 }
 
-/// Lists of edits, edits at once and new texts in turns.
+/// Lists of edits, batches and new texts in turns.
 fn rounds<K: Kept>(count: usize, seed: u64) {
     let mut random = Random(seed, BITS);
     let (mut edits_made, mut steps, mut stopped) = (0, 0, 0);
@@ -217,7 +217,7 @@ fn random_lists() {
     rounds::<Document>(count / 2, 12);
 }
 
-/// Lists and edits at once of many lengths, after each start of a text.
+/// Lists and batches of many lengths, after each start of a text.
 fn lengths<K: Kept>() {
     let mut random = Random(21, BITS);
     for len in (0..=70).chain(127..=130) {
@@ -289,8 +289,7 @@ fn invalid_edits_in_long_lists() {
 const NEWEST: Language = Some(Edition::E2024);
 
 /// Each allocation of a list fails, alone and with all after it: the edits before the failure stay applied, and the
-/// failed edit is not tried again and took no step that it would not take otherwise. Then the other edits can be
-/// applied.
+/// failed edit is not tried again and made no extra step. Then the remaining edits can be applied.
 fn list_refused<K: Kept>(text: &str, language: Language, edits: &[Edit<'_>]) {
     let made = |count: usize| of_list::<K>(text, language, &edits[..count]);
     let made: Vec<Made> = (0..=edits.len()).map(made).collect();
@@ -519,8 +518,8 @@ impl Stepper for Characters {
     }
 }
 
-/// Edits with their counts, by hand, by two steppers: one that counts takes one step for each token that is lexed, and
-/// one has a grammar of its own.
+/// Edits with hand-written counts, with two steppers: the counting one makes one step for each lexed token, and the
+/// other has a grammar of its own.
 #[test]
 fn edits_with_steppers() {
     use Edition::{E2018, E2024};

@@ -1,4 +1,4 @@
-//! What the lexer needs of `memchr` and `unicode-ident`, in the versions that Cargo picked, or of their stand-ins.
+//! The functions of `memchr` and `unicode-ident` that the lexer uses, in the selected versions, or in `stand_ins`.
 
 use memchr::{memchr, memchr2, memchr3, memmem, memrchr};
 use unicode_ident::{is_xid_continue, is_xid_start};

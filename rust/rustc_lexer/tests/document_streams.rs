@@ -20,7 +20,7 @@ const BITS: &[&str] = &[
     "a", "r#", "1.", "é", "😀", "\"", "'", "b'", "\\", "'r#", "##", "c\"",
 ];
 
-/// Texts that change what precedes them, if anything can.
+/// Texts that change the tokens before them, if any text can.
 #[rustfmt::skip]
 const CONTINUATIONS: &[&str] = &[
     "", "\u{feff}", "\u{feff}#!a\n", "#!a\n", "!a\n", "[a", "![a", "*/[a", "/[a", "!\n[a", "\n[a", "*/\n[a", "/\n[a",

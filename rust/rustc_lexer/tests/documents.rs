@@ -1,4 +1,4 @@
-//! A whole document that is kept with its tokens, against lexing it from scratch.
+//! Incrementally lexed documents, compared with a full re-lex.
 
 mod made;
 mod random;
@@ -13,11 +13,11 @@ use rustc_lexer::{
 };
 use std::ops::Range;
 
-/// A document with all that may stand in front, and where its body begins.
+/// A document with a shebang line and a frontmatter, and the offset of its body.
 const SCRIPT: &str = "#!/bin/sh\n---\na\n---\nb'c'";
 const BODY: usize = 19;
 
-/// What documents and edits are made of: pieces that begin, end and break a shebang line or a frontmatter.
+/// Random documents and edits consist of these: they start, end and break a shebang line or a frontmatter.
 #[rustfmt::skip]
 const BITS: &[&str] = &[
     "#!", "#", "!", "\u{feff}", "/", "[", "]", "#![", "bin/sh", "\n", "\n", "\n", "\r\n", "\r", " ", "\t", "\u{2028}",
@@ -33,7 +33,7 @@ impl Random {
         [line, front, &self.text(20)].concat()
     }
 
-    /// A range between characters, often at the front, and often short.
+    /// A range on char boundaries, often at the start, and often short.
     fn range(&mut self, text: &str) -> Range<usize> {
         let first = [24, text.len()][self.below(2)];
         let most = [0, 1, 9, text.len()][self.below(4)];
@@ -41,7 +41,7 @@ impl Random {
     }
 }
 
-/// Whether the edition is this one, and the tokens, and all that is told of them, are those of the text.
+/// Asserts that the edition is this one, and that the tokens and everything derived from them are correct for the text.
 fn check(lexed: &LexedDocument, edition: Edition, context: &str) {
     assert_eq!(lexed.edition(), edition, "{context}");
     check_tokens(lexed, edition, context);
@@ -73,7 +73,7 @@ fn check_tokens<S: Stepper>(lexed: &LexedDocument<S>, edition: Edition, context:
     assert_eq!((lexed.pieces().len(), start), (scratch.len(), text.len()));
 }
 
-/// What an edit of the body alone tells, where head and body stay where they are.
+/// The counts of an edit that keeps the head and the start of the body.
 fn of_body(
     before: &LexedDocument,
     after: &LexedDocument,
@@ -119,7 +119,7 @@ fn edit_and_check(lexed: &mut LexedDocument, range: Range<usize>, insert: &str) 
     assert!(painted.eq(all.take(relexed.lexed)), "{context}");
 }
 
-/// Ten thousand edits of documents in each edition, or as many as the variable EDITS says.
+/// Ten thousand edits of documents in each edition, or the number in the variable EDITS.
 #[test]
 fn random_edits_in_each_edition() {
     let asked = std::env::var("EDITS").map(|count| count.parse());
@@ -155,8 +155,8 @@ fn a_document_in_each_edition() {
     check(&tried, Edition::E2021, "where memory is given");
 }
 
-/// In another edition, a document with the same head has other tokens, both when it is created anew and by the call of
-/// the proved source. Unused memory is given back, and nothing else changes.
+/// In another edition, a document with the same head has other tokens, both as a new document and by the call of the
+/// proved source. Unused memory is freed, and nothing else changes.
 #[test]
 fn another_edition() {
     macro_rules! rows {
@@ -186,8 +186,8 @@ fn another_edition() {
     assert!(pieces.eq([(3, "\n"), (4, "---\n---")]));
 }
 
-/// Edits after the head, which is kept, and at each place that changes it: how many tokens are kept at the front, and
-/// where the body starts.
+/// Edits after the head, which is kept, and at each offset that changes it: the number of tokens kept at the front, and
+/// the start of the body.
 #[test]
 fn edits_of_the_head() {
     for (range, insert, front, body) in [
@@ -209,9 +209,9 @@ fn edits_of_the_head() {
     }
 }
 
-/// The frontmatter ends where it ended, and its first line is no bad one any more.
+/// The frontmatter has the same end, and its first line is now valid.
 #[test]
-fn an_edit_right_behind_the_head() {
+fn an_edit_right_after_the_head() {
     let mut lexed = LexedDocument::new("---");
     let kinds = |lexed: &LexedDocument| lexed.tokens()[0].kind;
     let before = kinds(&lexed);
@@ -237,9 +237,9 @@ fn a_list_of_edits() {
     check(&lexed, Edition::E2024, "a list of edits");
 }
 
-/// What lists of edits keep: behind the head, and where one of them changes it.
+/// The tokens that lists of edits keep: after the head, and if one edit changes the head.
 #[test]
-fn what_a_list_keeps() {
+fn tokens_kept_by_a_list() {
     for (edits, kept) in [
         ([edit(24, 24, "d"), edit(20, 20, "fn ")], counts(2, 4, 0)),
         ([edit(20, 20, "fn "), edit(14, 15, "bc")], counts(0, 5, 1)),
@@ -250,9 +250,10 @@ fn what_a_list_keeps() {
     }
 }
 
-/// Long lists with an edit that puts a frontmatter in front: the third, before the second, and the second itself.
+/// Long lists with an edit that inserts a frontmatter at the start: the third edit, before the second, and the second
+/// itself.
 #[test]
-fn a_long_list_that_makes_a_head() {
+fn a_long_list_that_creates_a_head() {
     let before = [edit(8, 8, "d"), edit(6, 6, "e"), edit(0, 0, "---\n---\n")];
     let itself = [edit(8, 8, "d"), edit(1, 1, "-"), edit(9, 9, "e")];
     for (text, first) in [("     a b c\n", before), ("-- a b c d\n", itself)] {
@@ -286,7 +287,7 @@ impl Stepper for Characters {
     }
 }
 
-/// A stepper that has no `fill` of its own, and one that has: the tokens that begin before the end, as many as fit.
+/// A stepper without a `fill` of its own, and a stepper with one: the tokens that start before the end, as many as fit.
 #[test]
 fn steppers_fill_up_to_an_end() {
     let mut buffer = [token(TokenKind::Eof, 0); 9];
@@ -315,7 +316,7 @@ fn steppers_fill_up_to_an_end() {
 }
 
 #[test]
-fn what_is_held() {
+fn contents_and_debug_output() {
     let lexed = LexedDocument::try_with(SCRIPT, Steps::new_in(Edition::E2018)).unwrap();
     check_tokens(&lexed, Edition::E2018, "by a stepper");
     let by_characters = LexedDocument::try_with("#!a\nbé", Characters(0)).unwrap();
@@ -336,7 +337,7 @@ fn what_is_held() {
     assert_eq!(shown, wanted);
 }
 
-/// Each call on a text whose tokens are by a stepper of the caller.
+/// Each call on a document with a stepper of the caller.
 #[test]
 fn calls_with_a_stepper() {
     macro_rules! calls {
@@ -374,7 +375,7 @@ fn tokens_of(head: Head) -> Vec<Token> {
 
 /// `ab cd ef` becomes `ab x y ef`, by a buffer of two tokens and by single steps.
 #[test]
-fn a_list_of_the_caller() {
+fn token_list_of_the_caller() {
     let [word, letter] = [2, 1].map(|len| token(TokenKind::Ident, len));
     let space = token(TokenKind::Whitespace, 1);
     let (old, text) = ([word, space, word, space, word], "ab x y ef");
@@ -400,9 +401,9 @@ fn a_list_of_the_caller() {
     assert!(format!("{relex:?}").starts_with("Relex"));
 }
 
-/// A change that cannot have resulted in the text, and states that no call leaves.
+/// Changes that cannot have resulted in the text, and states that no call produces.
 #[test]
-fn relexing_that_cannot_start() {
+fn invalid_changes_and_states() {
     let old = [1, 2].map(|len| token(TokenKind::Ident, len));
     let text = "aé";
     let change = |start, old_end, new_end| Change {
@@ -445,9 +446,9 @@ fn relexing_that_cannot_start() {
     }
 }
 
-/// On lists of one's own, an edit of the body gives the tokens and the counts of a `LexedDocument`.
+/// For token lists of the caller, an edit of the body has the tokens and the counts of a `LexedDocument`.
 #[test]
-fn lists_of_the_caller() {
+fn token_lists_of_documents() {
     let mut random = Random(55, BITS);
     for _ in 0..20_000 {
         let old = random.document();

@@ -332,15 +332,15 @@ fn a_list_of_edits() {
     assert_eq!(text.tokens().len(), 2 * MANY);
 }
 
-/// What all edits of a list keep, by hand. Each token has one byte.
+/// The tokens that all edits of a list keep, with hand-written counts. Each token has one byte.
 #[test]
-fn what_a_list_keeps() {
+fn tokens_kept_by_a_list() {
     for (edits, kept) in [
         // No edit: all tokens stay at the front.
         (&[][..], counts(13, 0, 0)),
         // One edit: the counts that `edit` returns.
         (&[edit(8, 9, "+")][..], counts(6, 3, 4)),
-        // The front of the later edit and the back of the earlier one, and the other way round.
+        // The front of the later edit and the back of the earlier one, and the reverse.
         (&[edit(8, 9, "+"), edit(4, 5, "-")], counts(2, 7, 4)),
         (&[edit(4, 5, "-"), edit(8, 9, "+")], counts(2, 7, 4)),
         // One edit makes three tokens of two, and one removes them again: tokens that were lexed are not old.
@@ -358,7 +358,7 @@ fn what_a_list_keeps() {
     }
 }
 
-/// `set_text` is one edit of what differs, on character boundaries. By hand.
+/// `set_text` is one edit of the part that differs, on char boundaries, with hand-written counts.
 #[test]
 fn set_text() {
     for (old, new, range, insert, kept) in [
@@ -426,9 +426,10 @@ fn random_new_texts() {
     others!(LexedDocument);
 }
 
-/// What two lists one after another keep of 13 tokens of one byte each, by hand. An empty list changes nothing.
+/// The tokens that two lists in a row keep, of 13 tokens of one byte each, with hand-written counts. An empty list
+/// changes nothing.
 #[test]
-fn what_two_lists_keep() {
+fn tokens_kept_by_two_lists() {
     let none = counts(13, 0, 0);
     assert_eq!(Relexed::all(13), none);
     let (one, other) = (edit(8, 9, "+"), edit(4, 5, "-"));
@@ -437,7 +438,7 @@ fn what_two_lists_keep() {
         (&[one][..], &[], counts(6, 3, 4)),
         (&[], &[one], counts(6, 3, 4)),
         (&[edit(8, 9, "+ 1")], &[], counts(6, 5, 4)),
-        // The front of the second and the back of the first, and the other way round.
+        // The front of the second and the back of the first, and the reverse.
         (&[one], &[other], counts(2, 7, 4)),
         (&[other], &[one], counts(2, 7, 4)),
         // The first leaves two more tokens at the back, and the second opens a comment over them.
@@ -509,7 +510,7 @@ fn random_lists_of_edits() {
     lists!(LexedDocument);
 }
 
-/// A long list, mostly in order, does what its edits do one by one.
+/// A long list, mostly in order, has the same effect as its edits one by one.
 #[test]
 fn long_lists_in_order() {
     macro_rules! lists {
@@ -546,7 +547,7 @@ fn long_lists_in_order() {
                 let back = back.min(new.len().min(old) - front);
                 let kept = counts(front, new.len() - front - back, back);
                 assert_eq!(relexed, kept, "{edits:?}");
-                // Its checkpoints are those of the new tokens.
+                // The checkpoints belong to the new tokens.
                 let range = random.range(text);
                 assert_eq!(lexed.edit(range.clone(), "b"), made.edit(range, "b"));
                 assert_eq!(lexed.tokens(), made.tokens(), "{edits:?}");
@@ -557,7 +558,7 @@ fn long_lists_in_order() {
     lists!(LexedDocument);
 }
 
-/// Of every two edits, the second is one character after what the first keeps, and changes the token there.
+/// In every pair, the second edit is one character after the tokens that the first keeps, and changes the token there.
 #[test]
 fn a_long_list_that_goes_back() {
     let inserts = (0..40).flat_map(|at| [(7 * at + 3, "9"), (7 * at + 2, "5")]);
@@ -568,9 +569,9 @@ fn a_long_list_that_goes_back() {
     check(&lexed, "a list that goes back");
 }
 
-/// The edits of a long list before one that is out of bounds stay applied, and their counts are returned.
+/// The edits of a long list before an edit that is out of bounds stay applied, and their counts are returned.
 #[test]
-fn a_long_list_that_stops() {
+fn a_long_list_with_a_rejected_edit() {
     macro_rules! stops {
         ($Kept:ident) => {
             for at in [0, 1, 2, 63, 64, 99] {
@@ -602,7 +603,7 @@ fn a_long_list_that_stops() {
 
 /// The edits before a rejected one stay applied. The error names the first rejected edit.
 #[test]
-fn a_list_of_edits_that_stops() {
+fn a_list_with_a_rejected_edit() {
     macro_rules! stops {
         ($lexed:expr, $at:expr, $edits:expr) => {
             let (mut lexed, stop) = ($lexed, EditStop::Range { at: $at });
@@ -746,7 +747,7 @@ fn kinds_of_ranges() {
     rows!(LexedDocument);
 }
 
-/// Constructors take a `&str` or a `String`.
+/// Constructors accept a `&str` or a `String`.
 #[test]
 fn conversions_from_strings() {
     let text = || String::from("a + b");
@@ -838,9 +839,9 @@ fn byte_order_marks_and_nul() {
     keeps_them!(LexedDocument, 1);
 }
 
-/// Edits at once agree with a text made by hand, with one edit, and with `edit_sequence` from the back.
+/// `edit_batch` agrees with the text built directly, with one edit, and with `edit_sequence` from the back.
 #[test]
-fn random_edits_at_once() {
+fn random_batches() {
     macro_rules! lists {
         ($Kept:ident) => {
             let mut random = Random(5, BITS);
@@ -894,9 +895,9 @@ fn random_edits_at_once() {
     lists!(LexedDocument);
 }
 
-/// Rejected edits at once change nothing. The error names the first edit that is out of order.
+/// A rejected batch changes nothing. The error has the index of the first edit that is out of order.
 #[test]
-fn edits_at_once_that_are_rejected() {
+fn rejected_batches() {
     for (edits, at) in [
         (&[edit(0, 8, "")][..], 0),
         (&[edit(2, 3, "")], 0),

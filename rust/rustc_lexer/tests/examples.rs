@@ -27,8 +27,8 @@ static EXAMPLES: LazyLock<PathBuf> = LazyLock::new(|| {
         let built = cargo.arg("--target-dir").arg(&target).output();
         built.unwrap().status.success()
     };
-    // The dependencies are in Cargo's cache or among the stand-ins. With other settings Cargo cannot find them here,
-    // and the examples are those that `cargo test` has built.
+    // The dependencies are in Cargo's cache or in `stand_ins`. With other settings Cargo cannot find them here, and the
+    // tests run the examples that `cargo test` has built.
     if build(&[]) || build(&["--config", "../../stand_ins/offline.toml"]) {
         target.join(profile).join("examples")
     } else {
@@ -145,7 +145,7 @@ fn arguments() {
     assert!(refuses("tokens", &[folder], "").contains(&format!("{folder}: ")));
 }
 
-/// A closed pipe, as after `| head -1`, is no error.
+/// A closed pipe, as after `| head -1`, is not an error.
 #[test]
 fn closed_pipes() {
     let path = file("piped", "fn f() {}\n");

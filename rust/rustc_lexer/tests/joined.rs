@@ -158,11 +158,11 @@ fn truncate() {
             assert_eq!(whole, text);
         }
         for len in (0..text.len()).filter(|len| !places.contains(len)) {
-            let seam = text.as_str().is_char_boundary(len)
+            let boundary = text.as_str().is_char_boundary(len)
                 && is_token_boundary(text.as_str(), len, edition);
             let cut = AssertUnwindSafe(|| whole.truncate(len));
-            assert_eq!(catch_unwind(cut).is_ok(), seam, "{len}");
-            assert!(seam || whole == text);
+            assert_eq!(catch_unwind(cut).is_ok(), boundary, "{len}");
+            assert!(boundary || whole == text);
             whole.clone_from(&text);
         }
     }
@@ -185,7 +185,7 @@ fn equality_formatting_and_length() {
 }
 
 #[test]
-fn seams() {
+fn token_boundaries() {
     for text in [
         "a+b", "1..2", "k#a", "z\"a\"", "'a#b", "'a'b", "// a\n b", "\"é\"s", "r#\"a\"#",
     ] {

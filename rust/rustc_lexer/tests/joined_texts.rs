@@ -1,5 +1,5 @@
-//! Joined texts next to their definition, which lexes the whole text for each separator. The tests take a few pairs and
-//! lists; `cargo test --release -p verified-rustc-lexer --test joined_texts -- --ignored` takes all of them, in a
+//! Joined texts next to their definition, which lexes the whole text for each separator. The tests join a few pairs and
+//! lists; `cargo test --release -p verified-rustc-lexer --test joined_texts -- --ignored` joins all of them, in a
 //! minute.
 
 #[allow(dead_code, reason = "the texts here are made of their own pieces")]
@@ -102,7 +102,7 @@ fn lists(count: usize, seed: u64) {
                 push(&mut text, &piece, edition);
             }
             if text.as_str().len() < 40 {
-                seams(text.as_str(), edition);
+                token_boundaries(text.as_str(), edition);
             }
         }
     };
@@ -113,7 +113,7 @@ fn lists(count: usize, seed: u64) {
     });
 }
 
-fn seams(text: &str, edition: Edition) {
+fn token_boundaries(text: &str, edition: Edition) {
     for at in (0..=text.len()).filter(|at| text.is_char_boundary(*at)) {
         let (left, right) = text.split_at(at);
         let parts = tokens(left, edition).chain(tokens(right, edition));

@@ -67,7 +67,7 @@ const ROWS: [Row<'_>; 15] = {
     ]
 };
 
-/// The rows, raw strings with 256 hashes, and the other calls.
+/// The test cases, raw strings with 256 hashes, and the remaining calls.
 #[test]
 fn tokens_and_checks() {
     let hashes = "#".repeat(256);
@@ -163,7 +163,7 @@ fn others_hold() -> bool {
 }
 
 #[test]
-fn seams() {
+fn token_boundaries() {
     for (text, at, touch) in [("a+", 1, true), ("ab", 1, false), ("\"é\"s", 4, false)] {
         assert_eq!(
             given(0, || is_token_boundary(text, at, Edition::E2024)),

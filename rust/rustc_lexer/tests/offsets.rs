@@ -1,4 +1,4 @@
-//! The token at an offset, by hand, and next to the sum of the lengths of the tokens.
+//! The token at an offset, with hand-written results, and compared with the sums of token lengths.
 
 mod random;
 
@@ -37,7 +37,7 @@ fn touched(starts: &[usize], range: &Range<usize>) -> Vec<usize> {
     (0..starts.len() - 1).filter(touches).collect()
 }
 
-/// The pieces in order, taken from either end at random.
+/// The pieces in order, from either end at random.
 fn from_both_ends<'a>(mut pieces: Pieces<'a>, random: &mut Random) -> Vec<Piece<'a>> {
     let (mut front, mut back) = (Vec::new(), Vec::new());
     for left in (0..pieces.len()).rev() {
@@ -209,7 +209,7 @@ fn told(mut pieces: Pieces<'_>) -> Vec<(u32, &str)> {
     told
 }
 
-/// All pieces, those of some tokens, those in a range, and the token at an offset, by hand.
+/// All pieces, pieces by index, pieces in a byte range, and the token at an offset, with hand-written results.
 #[test]
 fn pieces_by_hand() {
     let text = LexedText::new("a 😀 é");
@@ -248,8 +248,8 @@ fn pieces_by_hand() {
     );
 }
 
-/// Pieces at the end of a text of 2000 tokens, four in each 8 bytes: none, the last one, and those that an edit lexes
-/// and moves. After a frontmatter they are two tokens and 8 bytes later.
+/// Pieces at the end of a text of 2000 tokens, four in each 8 bytes: none, the last one, and the tokens that an edit
+/// lexes and moves. After a frontmatter they are two tokens and 8 bytes later.
 #[test]
 fn pieces_at_the_end_of_a_long_text() {
     macro_rules! rows {

@@ -8,7 +8,7 @@ use panics::panic_message;
 use rustc_lexer::{EditError, LexedDocument, LexedText, Relexed, Stepper, Token, TokenKind};
 use std::panic::{AssertUnwindSafe, catch_unwind};
 
-/// A stepper whose tokens have one byte, but this many at `!`.
+/// A stepper whose tokens have one byte, or this many bytes at `!`.
 #[derive(Clone, PartialEq)]
 struct Bytes(u32);
 
@@ -128,7 +128,7 @@ fn calls_of_documents_and_fragments() {
     assert_eq!(panic_message(|| lexed.settled()), LEFT);
 }
 
-/// `set_text` lexes the whole text, and then tokens are kept again.
+/// `set_text` lexes the whole text, and then the tokens are available again.
 #[test]
 fn set_text_after_a_panic() {
     let mut lexed = LexedText::try_with("ab!", Bytes(1)).unwrap();
@@ -161,7 +161,7 @@ fn a_panic_at_each_step() {
                 let text = || $Kept::try_with("abcde", Few(steps));
                 assert_eq!(panic_message(text), "no step is left");
             }
-            // Of six tokens, two are kept at the front and one at the back.
+            // There are six tokens: two are kept at the front and one at the back.
             let (mut panicked, mut edited) = (0, 0);
             for steps in 5..9 {
                 let mut lexed = $Kept::try_with("abcde", Few(steps)).unwrap();
@@ -180,7 +180,7 @@ fn a_panic_at_each_step() {
                 }
             }
             assert_eq!((panicked, edited), (3, 1));
-            // A list is applied edit by edit, so the text is that after one of them.
+            // A list is applied edit by edit, so the text is the text after one of them.
             let mut lexed = $Kept::try_with("a;".repeat(70), Few(140 + 90)).unwrap();
             let edits: Vec<_> = (0..70).map(|at| edit(3 * at, 3 * at, "b")).collect();
             assert_eq!(
@@ -192,7 +192,7 @@ fn a_panic_at_each_step() {
             let text = "ba;".repeat(made) + &"a;".repeat(70 - made);
             assert_eq!(lexed.text(), text);
             assert_eq!(panic_message(|| lexed.tokens().len()), LEFT);
-            // All edits at once have too few steps, and then the text includes all of them.
+            // A batch has too few steps, and then the text includes all of its edits.
             let mut lexed = $Kept::try_with("ab", Few(3)).unwrap();
             let edits = [edit(0, 0, "c"), edit(2, 2, "d")];
             assert_eq!(
@@ -200,7 +200,7 @@ fn a_panic_at_each_step() {
                 "no step is left"
             );
             has_no_tokens!(lexed, "cabd");
-            // The first edit of a list takes its two steps, and the second has none.
+            // The first edit of a list makes its two steps, and the second has none left.
             for each in [false, true] {
                 let mut lexed = $Kept::try_with("a", Few(3)).unwrap();
                 let edits = [edit(1, 1, "b"), edit(2, 2, "c"), edit(3, 3, "d")];
@@ -224,7 +224,7 @@ fn edits_without_a_step() {
     assert!(lexed.try_edit(0..9, "").is_err());
     assert!(lexed.edit_all(&[edit(9, 9, "")]).is_err());
     assert_eq!((lexed.text(), lexed.tokens().len()), ("ab", 2));
-    // The whole text is removed, which takes no step.
+    // The whole text is removed, which needs no step.
     lexed.edit(0..2, "");
     assert_eq!((lexed.text(), lexed.tokens().len()), ("", 0));
 }

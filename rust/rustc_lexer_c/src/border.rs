@@ -10,12 +10,12 @@ use crate::generated::token::CToken;
 use core::panic::PanicInfo;
 use core::slice::{from_raw_parts, from_raw_parts_mut};
 
-/// Limits a length to the maximum of a slice of `T`. No object is longer, so a valid length does not change.
+/// Limits a length to the maximum length of a slice of `T`. No object is longer, so a valid length does not change.
 fn short<T>(len: usize) -> usize {
     len.min(isize::MAX as usize / size_of::<T>())
 }
 
-/// Returns a slice of the items at a pointer, which can be null if the length is 0.
+/// Returns the items at a pointer as a slice. The pointer can be null if the length is 0.
 unsafe fn read<'a, T>(items: *const T, len: usize) -> &'a [T] {
     if len == 0 {
         return &[];
@@ -24,16 +24,17 @@ unsafe fn read<'a, T>(items: *const T, len: usize) -> &'a [T] {
     unsafe { from_raw_parts(items, short::<T>(len)) }
 }
 
-/// Returns a mutable slice of the items at a pointer, which can be null if the length is 0.
+/// Returns the items at a pointer as a mutable slice. The pointer can be null if the length is 0.
 unsafe fn write<'a, T>(items: *mut T, len: usize) -> &'a mut [T] {
     if len == 0 {
         return &mut [];
     }
-    // SAFETY: the caller guarantees `len` items, which nothing else uses.
+    // SAFETY: the caller guarantees `len` items, and that nothing else uses them.
     unsafe { from_raw_parts_mut(items, short::<T>(len)) }
 }
 
-/// Defines the functions of each module, from their parameters there. A slice is passed as a pointer and a length.
+/// Defines the exported functions of each module, with the signatures in Rust. C passes a slice as a pointer and a
+/// length.
 macro_rules! calls {
     ($($module:ident { $(fn $name:ident($($parameters:tt)*) -> $answer:ty;)* })*) => {
         $($(calls!(@ $module $name $answer [] [] $($parameters)*,);)*)*
@@ -46,11 +47,11 @@ macro_rules! calls {
         }
     };
     (@ $m:ident $n:ident $a:ty [$($c:tt)*] [$($p:tt)*] $item:ident: &[$type:ty], $($rest:tt)*) => {
-        // SAFETY: the header requires it of the caller.
+        // SAFETY: the caller meets the requirements of the header.
         calls!(@ $m $n $a [$($c)* $item: *const $type, len: usize,] [$($p)* unsafe { read($item, len) },] $($rest)*);
     };
     (@ $m:ident $n:ident $a:ty [$($c:tt)*] [$($p:tt)*] $item:ident: &mut [$type:ty], $($rest:tt)*) => {
-        // SAFETY: the header requires it of the caller.
+        // SAFETY: the caller meets the requirements of the header.
         calls!(@ $m $n $a [$($c)* $item: *mut $type, len: usize,] [$($p)* unsafe { write($item, len) },] $($rest)*);
     };
     (@ $m:ident $n:ident $a:ty [$($c:tt)*] [$($p:tt)*] $item:ident: $type:ty, $($rest:tt)*) => {
@@ -103,7 +104,7 @@ calls! {
         fn rustc_lexer_settled(text: &[u8], end: &mut usize) -> u32;
         fn rustc_lexer_settled_unchecked(text: &[u8], end: &mut usize) -> u32;
     }
-    seam {
+    boundary {
         fn rustc_lexer_is_token_boundary(text: &[u8], at: usize, edition: u32, is: &mut u32) -> u32;
     }
     splice {
@@ -152,7 +153,7 @@ calls! {
     }
 }
 
-// A shared library must name the C library, from which it uses `abort` and `memcpy`.
+// A shared library must link with the C library, because it uses `abort` and `memcpy`.
 #[cfg_attr(unix, link(name = "c"))]
 unsafe extern "C" {
     safe fn abort() -> !;

@@ -1,7 +1,7 @@
-//! The library as C programs see it: the names that it exports and imports, the header, and the programs of `c`, which
-//! are built here over the static and the shared library. A missing tool skips what needs it, and says so.
+//! Tests the library from C: the names that it exports and imports, the header, and the programs in `c`, which link
+//! with the static and the shared library. If a tool is missing, tests that need it are skipped with a message.
 //!
-//! With `LIBRARY=FILE` the programs link with that static library, like the one that Rattle builds.
+//! With `LIBRARY=FILE` the programs link with that static library, for example one that Rattle built.
 #![cfg(target_os = "linux")]
 
 use std::collections::BTreeSet;
@@ -35,7 +35,7 @@ fn top() -> &'static Path {
     TOP.get_or_init(|| fs::canonicalize("../..").unwrap())
 }
 
-/// A path in the folder that Cargo gives to tests.
+/// Returns a path in Cargo's folder for the temporary files of tests.
 fn room(name: &str) -> PathBuf {
     Path::new(env!("CARGO_TARGET_TMPDIR")).join(name)
 }
@@ -44,7 +44,7 @@ fn text(bytes: &[u8]) -> String {
     String::from_utf8_lossy(bytes).into_owned()
 }
 
-/// What a command prints, which has to succeed.
+/// Runs a command, which must succeed, and returns its output.
 fn printed(command: &mut Command) -> String {
     let done = command.output().unwrap();
     assert!(
@@ -56,7 +56,7 @@ fn printed(command: &mut Command) -> String {
     text(&done.stdout)
 }
 
-/// Whether all these tools are installed. If one is missing, this is printed, past the capture of the test's output.
+/// Returns whether all these tools are installed. Prints a missing one directly, so that the message is not captured.
 fn has(tools: &[&str]) -> bool {
     let missing = |tool: &&&str| Command::new(tool).arg("--version").output().is_err();
     let missing: Vec<_> = tools.iter().filter(missing).collect();
@@ -67,8 +67,8 @@ fn has(tools: &[&str]) -> bool {
     missing.is_empty()
 }
 
-/// Builds a package with Cargo into a folder of its own, and returns that. Cargo uses what this test's build fetched,
-/// or else the stand-ins.
+/// Builds a package with Cargo into a separate folder, and returns that folder. Cargo uses the dependencies that were
+/// fetched for this test, otherwise the stand-ins.
 fn built(package: &str, folder: &str, words: &[&str]) -> PathBuf {
     let build = |source: &[&str]| {
         let mut cargo = Command::new(env!("CARGO"));
@@ -89,7 +89,7 @@ fn built(package: &str, folder: &str, words: &[&str]) -> PathBuf {
     room(folder)
 }
 
-/// The folder with both libraries, where the shared one also has the name that programs ask for.
+/// Returns the folder with both libraries. The shared library also has the name that programs refer to.
 fn libraries() -> &'static Path {
     static FOLDER: OnceLock<PathBuf> = OnceLock::new();
     FOLDER.get_or_init(|| {
@@ -108,14 +108,14 @@ fn header() -> String {
     fs::read_to_string(top().join("c/rustc_lexer.h")).unwrap()
 }
 
-/// The name of the shared library, with the number of the interface.
+/// Returns the name of the shared library, which contains the ABI number.
 fn soname() -> String {
     let header = header();
     let number = header.split_once("#define RUSTC_LEXER_ABI ").unwrap().1;
     format!("librustc_lexer_c.so.{}", number.split(' ').next().unwrap())
 }
 
-/// Compiles sources of `c` into a program.
+/// Compiles source files in `c` into a program.
 fn compiled(program: &str, flags: &[&str], sources: &[&str], library: &Path) -> PathBuf {
     let mut compiler = Command::new("cc");
     compiler
@@ -129,7 +129,7 @@ fn compiled(program: &str, flags: &[&str], sources: &[&str], library: &Path) -> 
     room(program)
 }
 
-/// What `nm` lists: the last word of each line that these words allow.
+/// Returns the names that `nm` lists with these options.
 fn names(words: &[&str], library: &Path) -> BTreeSet<String> {
     let lines = printed(Command::new("nm").args(words).arg(library));
     let lines = lines.lines().filter(|line| line.contains(' '));
@@ -167,7 +167,7 @@ fn exports_the_calls_of_the_header() {
             .arg(&shared),
     );
     assert!(said.contains(&format!("soname: [{}]", soname())), "{said}");
-    // debuggers need the first to unwind through the library, and the second names the C library that it calls
+    // Debuggers need `.eh_frame_hdr` to unwind through the library, and the library calls the C library.
     assert!(said.contains(".eh_frame_hdr"), "{said}");
     assert!(
         said.lines()
@@ -183,7 +183,7 @@ fn imports_only_functions_that_compilers_insert() {
     }
     let inserted = ["memcpy", "memmove", "memset", "memcmp", "bcmp", "abort"];
     let shared = libraries().join("librustc_lexer_c.so");
-    // the linker's own tables, which a shared library may do without, are weak
+    // Names of the linker's own tables are weak: a shared library works without them.
     let imported = printed(Command::new("nm").args(["-D", "-u"]).arg(shared));
     let imported = imported
         .lines()
@@ -194,7 +194,7 @@ fn imports_only_functions_that_compilers_insert() {
             .collect::<Vec<_>>(),
         [""; 0]
     );
-    // Cargo's static library contains more of Rust's `core` than programs link
+    // Cargo's static library contains parts of Rust's `core` that programs do not link.
     if env::var_os("LIBRARY").is_some() {
         let own = names(&["--defined-only"], &static_library());
         let imported = names(&["-u"], &static_library());
@@ -271,7 +271,7 @@ fn programs_with_checks() {
     }
 }
 
-/// With debug assertions Rust checks what its unsafe calls require, like a slice of no items with no null pointer.
+/// With debug assertions Rust checks the preconditions of unsafe calls, for example that no slice has a null pointer.
 #[test]
 fn programs_over_debug_assertions() {
     let words = [
@@ -300,7 +300,7 @@ fn programs_over_debug_assertions() {
     );
 }
 
-/// The sources that git has in a folder.
+/// Returns the source files in a folder that git tracks.
 fn sources(folder: &str) -> Vec<PathBuf> {
     let files = printed(
         Command::new("git")
@@ -313,7 +313,8 @@ fn sources(folder: &str) -> Vec<PathBuf> {
         .collect()
 }
 
-/// Texts as files, with the argument of `lexdump` for each: the test vectors of the newest edition, and the sources.
+/// Returns texts as files, each with its argument for `lexdump`: the test vectors of the newest edition, and the
+/// sources.
 fn listed() -> Vec<(PathBuf, &'static str)> {
     let (mut texts, mut text) = (Vec::new(), String::new());
     for entry in tables::all::all()
@@ -401,7 +402,7 @@ fn shell(command: &str, program: &Path) -> Output {
         .unwrap()
 }
 
-/// Commands of the shell, in which `$P` is the program.
+/// Shell commands; `$P` is the program.
 const COMMANDS: [&str; 11] = [
     "head -c 5000000 /dev/zero | tr '\\0' ';' | $P",
     "printf '\\377' | $P",
@@ -411,7 +412,7 @@ const COMMANDS: [&str; 11] = [
     "$P < /",
     "head -c 70000 /dev/zero | tr '\\0' ';' | $P > /dev/full",
     "printf 'fn a' | $P > /dev/full",
-    // the listing has 4097 bytes, so the write of a block fails at its last byte, and none is left for the end
+    // The listing has 4097 bytes: the write of a block fails at the last byte, and nothing is left for the final write.
     "{ printf -- '-----'; head -c 377 /dev/zero | tr '\\0' +; } | $P > /dev/full",
     "$P < /dev/null > /dev/full",
     "(ulimit -v 24000; head -c 40000000 /dev/zero | $P)",

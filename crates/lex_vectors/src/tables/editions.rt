@@ -40,7 +40,7 @@ const SCRIPT_IN_2021: Ways = Ways::Documents(E2021, E2021);
 
 const SCRIPT_UNTIL_2018: Ways = Ways::Documents(E2015, E2018);
 
-/// Texts that begin with a frontmatter.
+/// Texts that start with a frontmatter.
 pub(crate) static SCRIPTS: &[Entry<Ways>] = rows! {
     SCRIPT_IN_2024: "---\n---\n'r#a #\"x\"" => [
         (FRONT, 7), SPACE, (RawLifetime, 4), SPACE, (GuardedStrPrefix, 2), (UnknownPrefix, 1), literal!(OPEN_STR, 1),

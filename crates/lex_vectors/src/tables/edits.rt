@@ -1,22 +1,22 @@
-//! Edits of a text that is kept with its tokens, in an edition.
+//! Edits of a lexed fragment in an edition.
 use crate::tables::kinds::*;
 use crate::tables::row::*;
 use rustc_lexer::TokenKind::*;
 use rustc_lexer::{Edition, Relexed, TokenKind};
 
-/// What a text of a row of edits is.
+/// The role of a text in a test case of edits.
 #[derive(Clone, Copy)]
 pub enum Role {
-    /// The text that is edited, in an edition. A row begins with it.
+    /// The edited text, in an edition. A test case starts with it.
     Before(Edition),
-    /// The text that is put between two offsets, with the counts of the edit, or none if it is refused.
+    /// The text that is inserted between two offsets, with the counts of the edit, or `None` if it is rejected.
     Edit(usize, usize, Option<Relexed>),
-    /// The text after the edits, with its tokens. A row ends with it.
+    /// The text after the edits, with its tokens. A test case ends with it.
     After,
 }
 
-/// Rows: `edition text (start..stop insert: kept_front, lexed, kept_back).. => text tokens`. An edit with no counts is
-/// refused. Texts are written as for `rows`, the last one with no brackets.
+/// Test cases: `edition text (start..stop insert: kept_front, lexed, kept_back).. => text tokens`. An edit without
+/// counts is rejected. Texts are written as for `rows`, except that the last one has no brackets.
 macro_rules! edits {
     ($($edition:ident $([$($part:literal $(* $times:literal)?),+])? $($text:literal)?
         $(($start:literal..$stop:literal $([$($new_part:literal $(* $new_times:literal)?),+])? $($new:literal)?
@@ -82,26 +82,26 @@ pub static SHORT: &[Entry<Role>] = edits! {
     E2015 "'r#foo" (6..6 "x": [2, 1, 0]) => "'r#foox" [(LIFETIME, 2), HASH, (Ident, 4)],
     E2024 "#\"a\"" (0..0 "#": [0, 2, 0]) => "##\"a\"" [(GuardedStrPrefix, 2), literal!(STR, 3)],
     E2021 "#\"a\"" (0..0 "#": [0, 1, 2]) => "##\"a\"" [HASH, HASH, literal!(STR, 3)],
-    // A later edit is one of the text after the earlier ones.
+    // A later edit applies to the text after the earlier ones.
     E2024 "cd efz" => "cd efz" [WORD, SPACE, (Ident, 3)],
     E2024 "ab cd ef" (8..8 "z": [4, 1, 0]) (0..3 "": [0, 0, 3]) => "cd efz" [WORD, SPACE, (Ident, 3)],
     E2024 "ab" (2..2 "c": [0, 1, 0]) (3..3 " d": [0, 3, 0]) => "abc d" [(Ident, 3), SPACE, LETTER],
-    // A range outside the text is refused, and one that cuts a character.
+    // A range that is out of bounds or splits a character is rejected.
     E2024 "ab cd" (0..3 "": [0, 0, 1]) (1..9 "") => "cd" [WORD],
     E2024 "é" (1..2 "") => "é" [WORD],
 };
 
 /// Long texts.
 pub static LONG: &[Entry<Role>] = edits! {
-    // A long insertion: 602 tokens, then the old ones again; and a comment with no end, which meets none of
-    // them.
+    // A long insertion: 602 tokens, then the old ones. Then an unterminated comment, which keeps none of them.
     E2024 "ab cd ef" (3..3 ["x " * 300]: [0, 602, 3]) => {
         "ab " => [WORD, SPACE], "x " * 300 => [LETTER, SPACE], "cd ef" => [WORD, SPACE, WORD]
     } [],
     E2024 "ab cd ef" (3..3 ["/*a " * 300]: [0, 3, 0]) => {"ab " => [], "/*a " * 300 => [], "cd ef" => []} [
         WORD, SPACE, (OPEN_BLOCK, 1205),
     ],
-    // An opening before many tokens, and away again; a closing and an opening after many tokens; an emoji less.
+    // `/*` is inserted before many tokens, and removed again; `*/` or `/*` is inserted after many tokens; an emoji is
+    // removed.
     E2024 ["x " * 50_000] (0..0 "/*": [0, 1, 0]) => {"/*" => [], "x " * 50_000 => []} [(OPEN_BLOCK, 100_002)],
     E2024 ["x " * 50_000] (0..0 "/*": [0, 1, 0]) (0..2 "": [0, 100_000, 0]) => {"x " * 50_000 => [LETTER, SPACE]} [],
     E2024 ["x " * 50_000] (100_000..100_000 "*/": [99_998, 4, 0]) => {
@@ -115,7 +115,7 @@ pub static LONG: &[Entry<Role>] = edits! {
 
 const ONE: (TokenKind, u32) = (Unknown, 1);
 
-/// The same if each character is one token.
+/// Test cases for a grammar whose tokens are single characters.
 pub static CHARACTERS: &[Entry<Role>] = edits! {
     E2024 "ab cd" (3..3 "é": [1, 3, 2]) => "ab écd" [ONE, ONE, ONE, (Unknown, 2), ONE, ONE],
 };

@@ -1,4 +1,4 @@
-//! Line comments, white space, identifiers and symbols.
+//! Line comments, whitespace, identifiers and symbols.
 use crate::tables::kinds::*;
 use crate::tables::row::*;
 use rustc_lexer::DocStyle::*;

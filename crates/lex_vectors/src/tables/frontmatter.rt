@@ -15,16 +15,16 @@ macro_rules! front {
 
 pub(crate) const FRONT: TokenKind = front!(false, false);
 
-/// A frontmatter whose infostring is not valid.
+/// A frontmatter with an invalid infostring.
 pub(crate) const BAD_INFOSTRING: TokenKind = front!(false, true);
 
-/// A frontmatter with white space before its dashes.
+/// A frontmatter with whitespace before its dashes.
 const SPACED: TokenKind = front!(true, false);
 
-/// A frontmatter with both faults.
+/// A frontmatter with both errors.
 const SPACED_BAD: TokenKind = front!(true, true);
 
-/// A script of the original's tests.
+/// A script of the tests of `rustc_lexer`.
 const SCRIPT: &str = "\n---cargo\n[dependencies]\nclap = \"4\"\n---\n\nfn main() {}\n";
 
 pub(crate) static NONE_ALLOWED: &[Entry<Ways>] = rows! {
@@ -42,7 +42,7 @@ pub(crate) static STARTS: &[Entry<Ways>] = rows! {
         SPACE, (FRONT, 38), (Whitespace, 2), (Ident, 2), SPACE, (Ident, 4), (OpenParen, 1), (CloseParen, 1), SPACE,
         (OpenBrace, 1), (CloseBrace, 1), SPACE,
     ],
-    // Where it begins.
+    // Where a frontmatter starts.
     "" => [],
     "  " => [(Whitespace, 2)],
     "--" => [DASH, DASH],
@@ -85,7 +85,7 @@ pub(crate) static INFOSTRINGS: &[Entry<Ways>] = rows! {
     "---\u{b}\n---" => [(BAD_INFOSTRING, 8)],
 };
 
-/// Where it ends.
+/// Where a frontmatter ends.
 pub(crate) static CLOSINGS: &[Entry<Ways>] = rows! {
     DOCUMENT:
     "---\n---" => [(FRONT, 7)],
@@ -120,7 +120,7 @@ pub(crate) static CLOSINGS: &[Entry<Ways>] = rows! {
     "---\n#![a]\nuse b" => [(FRONT, 9), SPACE, (Ident, 3), SPACE, LETTER],
 };
 
-/// Two places where it could end, in both orders.
+/// Two possible ends, in both orders.
 pub(crate) static PAIRS: &[Entry<Ways>] = rows! {
     DOCUMENT:
     "----\n----f\n---s" => [(FRONT, 10), SPACE, DASH, DASH, DASH, LETTER],
@@ -168,7 +168,8 @@ pub(crate) static PAIRS: &[Entry<Ways>] = rows! {
     ["-" * 70_000, "\na\n"] => [(FRONT, 70_003)],
 };
 
-/// Rows of a line with so many letters each, and one that closes it. A closing that is not seen gives another token.
+/// Test cases: a line with each number of letters, and then a closing fence. If the search misses the fence, the token
+/// differs.
 macro_rules! closed_behind {
     ($($letters:literal)*) => {
         rows! {
@@ -186,7 +187,7 @@ macro_rules! closed_behind {
     };
 }
 
-/// Its end at each of the places that are looked at together.
+/// The end at each of the offsets that are searched together.
 pub(crate) static PLACES: &[Entry<Ways>] =
     closed_behind!(0 1 2 3 4 5 6 7 8 9 10 11 12 13 14 15 16 17 31 32 33 100);
 

@@ -13,7 +13,7 @@ pub(crate) static ROWS: &[Entry<Ways>] = rows! {
     "###" => [(GuardedStrPrefix, 2), (Pound, 1)],
     "####" => [(GuardedStrPrefix, 2), (GuardedStrPrefix, 2)],
     "###\"a\"###" => [(GuardedStrPrefix, 2), (GuardedStrPrefix, 2), (UnknownPrefix, 1), literal!(OPEN_STR, 4)],
-    // What makes a hash no prefix.
+    // A hash that is not a prefix.
     "#" => [(Pound, 1)],
     "#[" => [(Pound, 1), (OpenBracket, 1)],
     "#![" => [(Pound, 1), (Bang, 1), (OpenBracket, 1)],

@@ -5,7 +5,7 @@ use rustc_lexer::TokenKind::*;
 
 pub(crate) static ROWS: &[Entry<Ways>] = rows! {
     PLAIN:
-    // Comments and white space.
+    // Comments and whitespace.
     ["/*" * 100_000] => [(OPEN_BLOCK, 200_000)],
     ["/*" * 100_000, "*/" * 100_000] => [(BLOCK, 400_000)],
     ["/*" * 100_000, "*/" * 100_001] => [(BLOCK, 400_000), (Star, 1), (Slash, 1)],

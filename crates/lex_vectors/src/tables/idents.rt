@@ -17,7 +17,7 @@ pub(crate) static ROWS: &[Entry<Ways>] = rows! {
     "cr" => [(Ident, 2)],
     "\0" => [(Unknown, 1)],
     "a\0b" => [(Ident, 1), (Unknown, 1), (Ident, 1)],
-    // Joiners and middle dots continue an identifier and begin none.
+    // Joiners and middle dots continue an identifier but cannot start one.
     "a\u{200d}b" => [(Ident, 5)],
     "a\u{200c}b" => [(Ident, 5)],
     "a\u{30fb}" => [(Ident, 4)],
@@ -64,7 +64,7 @@ pub(crate) static EMOJI: &[Entry<Ways>] = rows! {
     "😀a#" => [(InvalidIdent, 5), (Pound, 1)],
     "a😀\"" => [(InvalidIdent, 5), literal!(OPEN_STR, 1)],
     "👨\u{200d}👩" => [(InvalidIdent, 11)],
-    // A character that is an emoji and may begin an identifier begins one.
+    // An emoji that can start an identifier starts one.
     "\u{2139}" => [(Ident, 3)],
     "a\u{2139}" => [(Ident, 4)],
     "\u{2139}😀" => [(InvalidIdent, 7)],

@@ -1,4 +1,4 @@
-//! Short names for the kinds and tokens that rows name often.
+//! Short names for kinds and tokens in the tables.
 use rustc_lexer::Base::*;
 use rustc_lexer::DocStyle::*;
 use rustc_lexer::LiteralKind::*;
@@ -36,7 +36,7 @@ pub const LIFETIME: TokenKind = Lifetime {
     starts_with_number: false,
 };
 
-/// A lifetime that begins with a digit or has an emoji.
+/// A lifetime that starts with a digit or contains an emoji.
 pub const BAD_LIFETIME: TokenKind = Lifetime {
     starts_with_number: true,
 };
@@ -71,5 +71,5 @@ pub const OPEN_STR: LiteralKind = Str { terminated: false };
 
 pub const RAW_STR: LiteralKind = RawStr { n_hashes: Some(0) };
 
-/// A raw string that is not valid.
+/// An invalid raw string.
 pub const BAD_RAW_STR: LiteralKind = RawStr { n_hashes: None };

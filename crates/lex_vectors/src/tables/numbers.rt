@@ -85,12 +85,12 @@ pub(crate) static BEFORE_OTHERS: &[Entry<Ways>] = rows! {
     "1.\u{200d}" => [literal!(FLOAT, 2), (Unknown, 3)],
     "1.😀" => [literal!(FLOAT, 2), (InvalidIdent, 4)],
     "1. 2" => [literal!(FLOAT, 2), (Whitespace, 1), literal!(INT, 1)],
-    // Nor is one after a fraction, an exponent or only a prefix.
+    // Nor is a dot after a fraction, an exponent or a prefix without digits.
     "1.2.3" => [literal!(FLOAT, 3), (Dot, 1), literal!(INT, 1)],
     "1e1.0" => [literal!(FLOAT, 3), (Dot, 1), literal!(INT, 1)],
     "0b.0" => [literal!(Int { base: Binary, empty_int: true }, 2), (Dot, 1), literal!(INT, 1)],
     "0o_." => [literal!(Int { base: Octal, empty_int: true }, 3), (Dot, 1)],
-    // Signs, and what begins no suffix.
+    // Signs, and characters that start no suffix.
     ".5" => [(Dot, 1), literal!(INT, 1)],
     "-1" => [(Minus, 1), literal!(INT, 1)],
     "0xE+1" => [literal!(HEXADECIMAL, 3), (Plus, 1), literal!(INT, 1)],

@@ -1,4 +1,4 @@
-//! The texts of the original crate's tests.
+//! The texts of the tests of `rustc_lexer`.
 use crate::tables::kinds::*;
 use crate::tables::row::*;
 use rustc_lexer::Base::*;

@@ -13,7 +13,7 @@ pub(crate) static STRINGS: &[Entry<Ways>] = rows! {
     r#""/*""# => [literal!(STR, 4)],
     r#"b"a"x"# => [literal!(ByteStr { terminated: true }, 4, 5)],
     r#"c"a"_x"# => [literal!(CStr { terminated: true }, 4, 6)],
-    // A quote after an odd run of backslashes closes nothing.
+    // A quote after an odd number of backslashes does not close the string.
     r#""a\"b"c"# => [literal!(STR, 6, 7)],
     r#""a\\"b"# => [literal!(STR, 5, 6)],
     r#""\""# => [literal!(OPEN_STR, 3)],
@@ -21,14 +21,14 @@ pub(crate) static STRINGS: &[Entry<Ways>] = rows! {
     r#""\\\""# => [literal!(OPEN_STR, 5)],
     r#"b"a\"""# => [literal!(ByteStr { terminated: true }, 6)],
     r#"c"a\"""# => [literal!(CStr { terminated: true }, 6)],
-    // Not terminated.
+    // Unterminated.
     r#"""# => [literal!(OPEN_STR, 1)],
     r#""\"# => [literal!(OPEN_STR, 2)],
     "\"\0" => [literal!(OPEN_STR, 2)],
     r#"b""# => [literal!(ByteStr { terminated: false }, 2)],
     r#"b"a"# => [literal!(ByteStr { terminated: false }, 3)],
     r#"c""# => [literal!(CStr { terminated: false }, 2)],
-    // What begins no suffix.
+    // Characters that start no suffix.
     r#""a""b""# => [literal!(STR, 3), literal!(STR, 3)],
     r#""a"'b'"# => [literal!(STR, 3), literal!(CHAR, 3)],
     r#""a"1"# => [literal!(STR, 3), literal!(INT, 1)],
@@ -67,7 +67,7 @@ pub(crate) static CHARACTERS: &[Entry<Ways>] = rows! {
     "'éa'" => [literal!(CHAR, 5)],
     "'a😀'" => [literal!(CHAR, 7)],
     "'ab'x" => [literal!(CHAR, 4), (Ident, 1)],
-    // Not terminated.
+    // Unterminated.
     "'" => [literal!(OPEN_CHAR, 1)],
     r"'\" => [literal!(OPEN_CHAR, 2)],
     r"'\'" => [literal!(OPEN_CHAR, 3)],
@@ -75,7 +75,7 @@ pub(crate) static CHARACTERS: &[Entry<Ways>] = rows! {
     "'\0" => [literal!(OPEN_CHAR, 2)],
     "'\u{200d}" => [literal!(OPEN_CHAR, 4)],
     "' a" => [literal!(OPEN_CHAR, 3)],
-    // A slash and the end of a line stop them.
+    // A slash or the end of a line ends them.
     "'\n" => [literal!(OPEN_CHAR, 1), (Whitespace, 1)],
     "'\nx" => [literal!(OPEN_CHAR, 1), (Whitespace, 1), (Ident, 1)],
     "'(\nx" => [literal!(OPEN_CHAR, 2), (Whitespace, 1), (Ident, 1)],
@@ -118,7 +118,7 @@ pub(crate) static LIFETIMES: &[Entry<Ways>] = rows! {
     "'a😀" => [(BAD_LIFETIME, 6)],
     "'\u{2139}" => [(BAD_LIFETIME, 4)],
     "'\u{2139}😀" => [(BAD_LIFETIME, 8)],
-    // Prefixes, and raw ones.
+    // Prefixes, and raw lifetimes.
     "'a#" => [(UnknownPrefixLifetime, 2), (Pound, 1)],
     "'😀#" => [(UnknownPrefixLifetime, 5), (Pound, 1)],
     "'\u{2139}#" => [(UnknownPrefixLifetime, 4), (Pound, 1)],

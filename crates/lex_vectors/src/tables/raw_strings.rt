@@ -1,4 +1,4 @@
-//! Raw strings and their check.
+//! Raw strings and their validation.
 use crate::tables::kinds::*;
 use crate::tables::row::*;
 use RawStrError::*;
@@ -24,7 +24,7 @@ pub(crate) static ROWS: &[Entry<Ways>] = rows! {
     "br##\"a\"##" => [literal!(RawByteStr { n_hashes: Some(2) }, 9)],
     r#"cr"a""# => [literal!(RawCStr { n_hashes: Some(0) }, 5)],
     "cr#\"a\"#b" => [literal!(RawCStr { n_hashes: Some(1) }, 7, 8)],
-    // What begins no suffix.
+    // Characters that start no suffix.
     "r##\"a\"###" => [literal!(RawStr { n_hashes: Some(2) }, 8), (Pound, 1)],
     "r\"a\"\"#" => [literal!(RAW_STR, 4), literal!(OPEN_STR, 2)],
     "r#\"a\"#\"b\"" => [literal!(RawStr { n_hashes: Some(1) }, 6), literal!(STR, 3)],
@@ -32,7 +32,7 @@ pub(crate) static ROWS: &[Entry<Ways>] = rows! {
     "r\"a\"\n" => [literal!(RAW_STR, 4), (Whitespace, 1)],
 };
 
-/// Raw strings that are not terminated.
+/// Unterminated raw strings.
 pub(crate) static UNCLOSED: &[Entry<Ways>] = rows! {
     PLAIN:
     r#"r""# => [literal!(BAD_RAW_STR, 2)],
@@ -63,7 +63,7 @@ pub(crate) static UNCLOSED: &[Entry<Ways>] = rows! {
     ["r", "#" * 256, "\"abc\"", "#" * 255, "x"] => [literal!(BAD_RAW_STR, 518)],
 };
 
-/// What the check answers for a text that is not terminated.
+/// The error for an unterminated raw string.
 macro_rules! open {
     ($expected:expr, $found:expr, $offset:expr) => {
         Err(NoTerminator {
@@ -74,7 +74,7 @@ macro_rules! open {
     };
 }
 
-/// The length of the prefix of a text, and what the check answers.
+/// The length of the prefix of a text, and the result of the validation.
 pub(crate) type Check = (u32, Result<(), RawStrError>);
 
 macro_rules! checks {
@@ -107,10 +107,10 @@ pub(crate) static CHECKS: &[Entry<Check>] = checks! {
     "r##\"abc#", 1 => open!(2, 0, None),
     "r##\"abc\"#", 1 => open!(2, 1, Some(8)),
     "r##\"é\"#", 1 => open!(2, 1, Some(7)),
-    // The first of the quotes with the most hashes.
+    // The first of the quotes with the largest number of hashes.
     "r##\"a\"#b\"#", 1 => open!(2, 1, Some(6)),
     "r###\"a\"#b\"##c\"#", 1 => open!(3, 2, Some(10)),
-    // A prefix of characters that are longer than a byte.
+    // A prefix with a character of more than one byte.
     "ér##\"a\"#", 2 => open!(2, 1, Some(7)),
     "ééér##\"a\"#\"", 4 => open!(2, 1, Some(9)),
     "éér#\"a", 3 => open!(1, 0, None),

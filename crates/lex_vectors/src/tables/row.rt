@@ -1,14 +1,14 @@
-//! What tables are made of, and the macros for them. A row is a text with its tokens, by some calls.
+//! The entries of tables, and the macros that write them. A test case is a text with its tokens, for some calls.
 use rustc_lexer::{Edition, FrontmatterAllowed, TokenKind};
 
-/// An entry of a table, which is one flat list, since the prover takes long for lists in lists.
+/// An entry of a table. A table is one flat list, because nested lists are slow to prove.
 #[derive(Clone, Copy)]
 pub enum Entry<M> {
-    /// A part of a text, and how often it is repeated. The tokens before it end in it each time.
+    /// A part of a text, and the number of its repetitions. The tokens listed before it end in each repetition.
     Fragment(&'static str, u32),
     /// A token of the text, by kind and length.
     Token((TokenKind, u32)),
-    /// The end of the text, and what it is for.
+    /// The end of the text, and its purpose.
     End(M),
 }
 
@@ -38,7 +38,7 @@ impl Way {
     ];
 }
 
-/// The calls that give exactly the tokens of a row.
+/// The calls that return exactly the tokens of a test case.
 #[derive(Clone, Copy)]
 pub enum Ways {
     /// `tokenize`.
@@ -50,7 +50,7 @@ pub enum Ways {
 }
 
 impl Ways {
-    /// Returns whether this call is one of them.
+    /// Returns whether this call is included.
     pub fn has(self, way: Way) -> bool {
         match (self, way) {
             (Ways::Newest(allowed), Way::Newest(other)) => allowed == other,
@@ -66,12 +66,12 @@ impl Ways {
 /// The call for a text without a frontmatter.
 pub const PLAIN: Ways = Ways::Newest(FrontmatterAllowed::No);
 
-/// The call for a text that may begin with a frontmatter.
+/// The call for a text that may start with a frontmatter.
 pub const DOCUMENT: Ways = Ways::Newest(FrontmatterAllowed::Yes);
 
-/// The rows of a table: the calls, or for each row its own before it, and texts with their tokens. A text is a literal
-/// or the name of one; or, in brackets, literals with how often each is repeated; or, in braces, the same with the
-/// tokens that end in it each time.
+/// The test cases of a table: the calls, for all test cases or before each, and texts with their tokens. A text is a
+/// literal or its name; or, in brackets, literals with the number of repetitions; or, in braces, the same with the
+/// tokens that end in each repetition.
 macro_rules! rows {
     ($($ways:ident: $({$($each:literal $(* $each_times:literal)? => [$($of_each:expr),*]),+})?
         $([$($part:literal $(* $times:literal)?),+])? $($text:literal)? $($name:ident)?
@@ -90,7 +90,7 @@ macro_rules! rows {
     };
 }
 
-/// A literal of a row: its kind, where its suffix begins, and its length if it is given.
+/// A literal token: its kind, the start of its suffix, and its length, by default the same.
 macro_rules! literal {
     ($kind:expr, $len:expr) => {
         $crate::tables::row::literal!($kind, $len, $len)

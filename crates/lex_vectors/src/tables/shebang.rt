@@ -1,8 +1,8 @@
 //! Shebang lines.
 
-/// Texts, and the length of their shebang line.
+/// Texts, and the lengths of their shebang lines.
 pub(crate) static ROWS: &[(&str, Option<usize>)] = &[
-    // The texts of the original crate's tests.
+    // The texts of the tests of `rustc_lexer`.
     ("#!/bin/bash", Some(11)),
     ("#!    /bin/bash", Some(15)),
     ("#! /* blah */  /bin/bash", Some(24)),
@@ -17,7 +17,7 @@ pub(crate) static ROWS: &[(&str, Option<usize>)] = &[
     ("#!\n[attribute]", None),
     ("\n#!/bin/bash", None),
     ("\n#![attribute]", None),
-    // The text has to begin with `#!`.
+    // The text must start with `#!`.
     ("", None),
     ("#", None),
     ("fn", None),
@@ -43,10 +43,10 @@ pub(crate) static ROWS: &[(&str, Option<usize>)] = &[
     ("#!/***/[a]", None),
     ("#!/**/[a]", None),
     ("#!/* /* */ */[a]", None),
-    // A block comment that is not terminated takes the bracket.
+    // An unterminated block comment includes the bracket.
     ("#!/* a\n[b]", Some(6)),
     ("#!/* [", Some(6)),
-    // Other tokens, white space outside ASCII, and what is not white space.
+    // Other tokens, whitespace outside ASCII, and characters that are not whitespace.
     ("#!]", Some(3)),
     ("#!\"[", Some(4)),
     ("#!\r\n[a]", None),

@@ -1,4 +1,4 @@
--- Where a block comment ends: the definition finds the end that the grammar has.
+-- The end of a block comment: the model finds the end that the grammar defines.
 use Rattle.std.proofs.Common.{◌≡◌, ℕ, zero, suc, ◌+◌, ◌≤◌, ◌<◌, false, List, [], ◌∷◌, ◌++◌, length, take, codes, refl}
 use Rattle.std.proofs.Common.{sym, ap, ◌∙◌, subst, arith, append_assoc, length-append, take_at, Option, Some}
 use Rattle.std.proofs.lemmas.Grind.{common_steps}
@@ -13,11 +13,11 @@ use Rattle.rustc_lexer.specs.laws.LanguageRuns.{decided-front}
 use Rattle.rustc_lexer.specs.laws.Least.{more-more}
 use Rattle.rustc_lexer.specs.laws.Reach.{IsDecidedBy, begins-decided}
 
--- the style is decided by two characters
+-- The first two characters decide the doc style.
 pub style_decided : IsDecidedBy 2 block_doc_style
 style_decided w0 = grind (arith, common_steps)
 
--- a character that begins neither `*/` nor `/*`
+-- A character that starts neither `*/` nor `/*` is skipped.
 pub out_of-plain : (depth c : ℕ) (s : List ℕ) → 0 < depth → at_closing (c ∷ s) ≡ false → at_opening (c ∷ s) ≡ false
     → out_of depth (c ∷ s) ≡ more 1 (out_of depth s)
 unfolding out_of
@@ -25,17 +25,17 @@ out_of-plain zero c s some e f = absurd (omega arith)
 out_of-plain (suc depth) c [] some e f = refl
 out_of-plain (suc depth) c (d ∷ s) some e f = rw (e, f) refl
 
--- `*/` has two characters, so the rest of each comment has
+-- `*/` has two characters, so the rest of a comment has at least two.
 pub rest-long : {w : List ℕ} → IsCommentRest w → 2 ≤ length w
 rest-long w0 = grind (arith, common_steps, length-append)
 
--- whether two characters begin here, the rest of a comment tells
+-- The rest of a comment decides whether the text starts with two given characters.
 begins-rest : (a b c : ℕ) {w : List ℕ} → IsCommentRest w → (next : List ℕ) → begins (a ∷ b ∷ []) (c ∷ w ++ next) ≡
     begins (a ∷ b ∷ []) (c ∷ w)
 begins-rest a b c {w} p next = decided-front 2 (begins (a ∷ b ∷ [])) (begins-decided (a ∷ b ∷ [])) (c ∷ w) next
     (omega (arith, rest-long p))
 
--- the rest of a comment leads out of it
+-- After the rest of a comment, the depth is one less.
 out_of-rest : {w : List ℕ} → IsCommentRest w → (depth : ℕ) (next : List ℕ) → out_of (suc depth) (w ++ next) ≡
     more (length w) (out_of depth next)
 unfolding out_of
@@ -56,7 +56,7 @@ pub comment_end-found : {w : List ℕ} → IsCommentRest w → (next : List ℕ)
 unfolding out_of
 comment_end-found p next = out_of-rest p 0 next ∙ ap Some (omega arith)
 
--- and what leads out of so many comments is the rest of each
+-- Holds if the first n characters are one rest for each open comment.
 abbrev AreRests : ℕ → List ℕ → ℕ → Type 0
 AreRests zero s n = n ≡ 0
 AreRests (suc depth) s n = (w : List ℕ) × (next : List ℕ) × (m : ℕ) × (s ≡ w ++ next) × (n ≡ length w + m)

@@ -1,4 +1,4 @@
--- How many bytes one character more takes.
+-- The length in bytes after one more character.
 use Rattle.std.proofs.Common.{◌≡◌, ℕ, suc, ◌+◌, List, ◌∷◌, length, take, drop, ap, ◌∙◌, length-append}
 use Rattle.std.proofs.Math.Seq.{take-add}
 use Rattle.std.specs.{Char.{encode_utf8}, Str.{encode_utf8_all}}

@@ -1,4 +1,4 @@
--- Cutting a text: locality of lists of tokens, and what follows a bound.
+-- Cutting a text: locality of lists of tokens, and the text after a token boundary.
 use Rattle.std.proofs.lemmas.Grind.{common_steps}
 use Rattle.std.proofs.Common.{◌≡◌, ℕ, zero, suc, ◌+◌, ◌<◌, ◌≤◌, List, [], ◌∷◌, ◌++◌, length, take, drop, refl, sym, ap}
 use Rattle.std.proofs.Common.{◌∙◌, arith, length-drop, IsUtf8, chars, drop-drop, take-add, take-take, take-append-drop}
@@ -10,11 +10,11 @@ use Rattle.rustc_lexer.specs.Classes.{IsText}
 use Rattle.rustc_lexer.specs.laws.Reach.{past as alike_past}
 use Rattle.rustc_lexer.specs.laws.Texts.{agree_inside, left_text}
 
--- the first characters of a text, two at most
+-- Returns the first two characters of a text, or fewer at its end.
 abbrev pub look : List ℕ → List ℕ
 look text = take 2 (chars text)
 
--- what is left of a text past its first token
+-- The text after the first token is a text.
 pub past_first : {first : List ℕ → Token} (law : IsGrammar first) (text : List ℕ) → IsText text → 0 < length text
     → IsText (drop (first text).len text)
 past_first law text is some =
@@ -24,7 +24,7 @@ pub shorter : {first : List ℕ → Token} (law : IsGrammar first) (text : List 
     → length (drop (first text).len text) < length text
 shorter {first} law text is some = omega (arith, length-drop (first text).len text, law.not_empty text is some)
 
--- any count that is large enough gives the same tokens
+-- Every sufficiently large step count gives the same tokens.
 pub cut-enough : {first : List ℕ → Token} (law : IsGrammar first) (m n : ℕ) (text : List ℕ) → IsText text
     → length text ≤ m → length text ≤ n → cut_by first m text ≡ cut_by first n text
 cut-enough law zero zero [] is a b = refl
@@ -42,14 +42,15 @@ pub tokens-nil : (first : List ℕ → Token) → tokens_by first [] ≡ []
 unfolding tokens_by
 tokens-nil first = refl
 
--- the tokens of a text: its first one, and those of what is left
+-- The tokens of a text are the first token and the tokens of the rest.
 pub tokens-cons : {first : List ℕ → Token} (law : IsGrammar first) (text : List ℕ) → IsText text → 0 < length text
     → tokens_by first text ≡ first text ∷ tokens_by first (drop (first text).len text)
 unfolding tokens_by
 tokens-cons law [] is some = absurd (omega arith)
 tokens-cons {first} law (c ∷ cs) is some = grind (arith, common_steps, shorter, cut-enough, past_first)
 
--- a bound of a text: it is inside, the text may be cut there, and the tokens past it are those of what is left
+-- Holds if token boundary k is in bounds, the text can be cut there, and the tokens after it are the tokens of the
+-- rest.
 pub record IsCutAt (first : List ℕ → Token) (text : List ℕ) (tokens : List Token) (k : ℕ) : Type 0 where
   pub inside : bound tokens k ≤ length text
   pub front : IsUtf8 (take (bound tokens k) text)
@@ -82,12 +83,12 @@ at_bound {first} law (suc k) (c ∷ cs) is =
           ∙ ap (tokens_by first) whole;
     }
 
--- what two texts show past a common front follows from what they show past it
+-- If two texts start with the same two characters, they still do after a common prefix.
 pub look-append : (xs ys zs : List ℕ) → IsUtf8 xs → look ys ≡ look zs → look (xs ++ ys) ≡ look (xs ++ zs)
 look-append xs ys zs is same =
     rw (chars-append xs ys is, chars-append xs zs is) (alike_past 2 (chars xs) (chars zs) (chars ys) same)
 
--- texts that agree past an offset agree past each offset before it
+-- Texts that agree after an offset agree after every earlier offset.
 pub agree_before : (n m : ℕ) (text other : List ℕ) → IsUtf8 (take m (drop n text)) → AgreePast (n + m) text other
     → AgreePast n text other
 agree_before n m text other front agree =
@@ -112,7 +113,7 @@ agree_left n m text other agree = record {
   past = rw (drop-drop m n text, drop-drop m n other) agree.past;
 }
 
--- locality: texts that agree past bound k of one of them have the same first k tokens
+-- Locality: if two texts agree after token boundary k of one of them, their first k tokens are the same.
 pub tokens_local : {first : List ℕ → Token} (law : IsGrammar first) (k : ℕ) (text other : List ℕ) → IsText text
     → IsText other → k ≤ length (tokens_by first text) → AgreePast (bound (tokens_by first text) k) text other
     → take k (tokens_by first other) ≡ take k (tokens_by first text)

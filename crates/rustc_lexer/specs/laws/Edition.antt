@@ -1,4 +1,4 @@
--- Two characters past its end are enough for the first token of an edition.
+-- Two characters after its end decide the first token of an edition.
 use Rattle.std.proofs.Common.{◌≡◌, ℕ, ◌≤◌, ◌<◌, List, ◌∷◌, length, take, drop, refl, sym, ap, ◌∙◌, subst, arith, chars}
 use Rattle.std.specs.Str.{IsCharBoundary}
 use Rattle.std.proofs.lemmas.{Str.{length-le-encodes}, Grind.{common_steps}}
@@ -24,7 +24,7 @@ two-alike : {next w : List ℕ} {kind : TokenKind} → IsTokenBefore next kind w
     → take 2 other ≡ take 2 next → IsTokenBefore other kind w
 two-alike {next} {w} {kind} p other e = token-alike p other (cut (reach kind w) 2 other next (reach-two kind w) e)
 
--- a token of an edition stays one before a text that begins alike
+-- A token of an edition is the same token before any text that starts with the same two characters.
 in-alike : {edition : Edition} {next w : List ℕ} {kind : TokenKind} → IsTokenIn edition next kind w → (other : List ℕ)
     → take 2 other ≡ take 2 next → IsTokenIn edition other kind w
 in-alike (kept le p) other e = kept le (two-alike p other e)
@@ -35,7 +35,7 @@ in-alike {next = next} (lifetime_r lt goes) other e =
     lifetime_r lt (decided_same 2 2 begins_hash_ident other next begins_hash_ident-decided (omega arith) e ∙ goes)
 
 module _ (edition : Edition) where
-  -- a text is its first token, and the rest
+  -- A text consists of its first token and the rest.
   record Parts (text : List ℕ) : Type 0 where
     at : Front edition (chars text) (first_token_in edition text)
     len : (first_token_in edition text).len ≡ bytes (at.c ∷ at.w)

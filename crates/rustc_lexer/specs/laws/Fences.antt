@@ -1,4 +1,4 @@
--- Searches of a frontmatter's closing.
+-- Searches for the closing fence of a frontmatter.
 use Rattle.std.proofs.Common.{◌≡◌, ℕ, zero, suc, ◌+◌, ◌-◌, ◌<◌, ◌≤◌, ◌==◌, ◌&&◌, nat_lt, Bool, true, false, true≢false}
 use Rattle.std.proofs.Common.{if◌then◌else◌, List, [], ◌∷◌, ◌++◌, length, take, drop, get_or, refl, sym, ap, ◌∙◌, subst}
 use Rattle.std.proofs.Common.{arith, Option, Some, None, length-drop, drop-drop, inl, inr}
@@ -22,7 +22,7 @@ begins-whole (c ∷ cs) [] e = absurd (true≢false (sym e))
 begins-whole (c ∷ cs) (d ∷ text) e =
     grind (arith, common_steps, and_parts, eqb-true, begins-whole cs text (and_parts (d == c) (begins cs text) e).1)
 
--- the run up to the first newline, as a search answers it
+-- If a search finds no newline, the line extends to the end.
 run-none : (s : List ℕ) → ((k : ℕ) → k < length s → is_newline (get_or s k 0) ≡ true → ⊥)
     → run_len is_inline s ≡ length s
 run-none [] none = refl
@@ -41,7 +41,7 @@ run-some (c ∷ s) (suc k) l e none =
 pub line-some : (s : List ℕ) (k : ℕ) → IsFirstByte (is_byte 10) s (Some k) → run_len is_inline s ≡ k
 line-some s k at = run-some s k at.0.high at.1 (λ j l e. at.0.before j (omega arith) l e)
 
--- the same from an offset on
+-- The same holds from an offset on.
 pub line_end-none : (rest cut : List ℕ) (offset : ℕ) → offset ≤ length rest → cut ≡ drop offset rest
     → IsFirstByte (is_byte 10) cut None → length rest ≡ line_end offset rest
 line_end-none rest cut offset inside e none = grind (arith, common_steps, run-none, length-drop)
@@ -50,13 +50,13 @@ pub line_end-some : (rest cut : List ℕ) (offset step : ℕ) → cut ≡ drop o
     → IsFirstByte (is_byte 10) cut (Some step) → offset + step ≡ line_end offset rest
 line_end-some rest cut offset step e at = ap (λ n. offset + n) (sym (line-some cut step at) ∙ ap (run_len is_inline) e)
 
--- places that no match begins at are passed over
+-- A search can skip positions at which no match starts.
 module _ (p : ℕ → Bool) (test : List ℕ → Bool) (fails : (c : ℕ) (s : List ℕ) → p c ≡ true → test (c ∷ s) ≡ false) where
   pub skip_run : (s : List ℕ) → least_offset test s ≡ more (run_len p s) (least_offset test (drop (run_len p s) s))
   skip_run [] = refl
   skip_run (c ∷ s) = grind (arith, common_steps, offset-on, one_more-more, more-zero, skip_run s)
 
--- so many dashes at the front, or more
+-- A text with at least n dashes in front starts with a fence of n dashes.
 pub begins-enough : (n : ℕ) (s : List ℕ) → n ≤ run_len is_dash s → begins (fence n) s ≡ true
 begins-enough zero s le = refl
 begins-enough (suc n) [] le = absurd (omega arith)
@@ -81,14 +81,14 @@ begins-dashes n s e =
           enough
     ]
 
--- ---- lone dashes, as the code searches for them
+-- ---- the search for lone dashes
 
--- what comes last
+-- The last character of a line, together with the characters before it, decides whether the line is blank.
 blank-last : (blank : Bool) (w : List ℕ) (c : ℕ) → blank_over blank (w ++ c ∷ []) ≡ blank_past (blank_over blank w) c
 blank-last blank [] c = refl
 blank-last blank (d ∷ w) c = blank-last (blank_past blank d) w c
 
--- back over a byte
+-- Whether the line is blank up to `start`, by the byte before `start`.
 module _ (end start : ℕ) (rest : List ℕ) (past_end : end < start) (inside : start ≤ length rest) where
   blank-back : blank_over true (take (start - end) (drop end rest)) ≡
       blank_past (blank_over true (take (start - 1 - end) (drop end rest))) (get_or rest (start - 1) 0)
@@ -121,7 +121,7 @@ lone-none blank (c ∷ s) e = by_either (begins (fence 3) (c ∷ s))
     (lone-none (blank_past blank c) s
     (one_more-none (first (fence 3) s) (sym (offset-on (begins (fence 3)) c s t) ∙ e)))))
 
--- by the first three dashes
+-- A search for lone dashes goes from one group of three dashes to the next.
 pub lone-three : (blank : Bool) (k : ℕ) (s : List ℕ) → first (fence 3) s ≡ Some k
     → first_lone blank 0 s ≡
     (if blank_over blank (take k s) then Some k else more (k + 3) (first_lone true 0 (drop (k + 3) s)))
@@ -159,7 +159,7 @@ lone-three blank k (c ∷ s) e = by_either (begins (fence 3) (c ∷ s))
         ∙ ap (λ (n : ℕ). if blank_over blank (take n (c ∷ s)) then Some n else more (k + 3)
         (first_lone true 0 (drop (k + 3) (c ∷ s)))) (sym same)))
 
--- the loop over the places stands at `end`
+-- Holds at the start of each iteration: the loop is at offset `end`, and there are no lone dashes before.
 pub record IsWalking (rest : List ℕ) (end : ℕ) : Type 0 where
   pub inside : end ≤ length rest
   pub left : first_lone true 0 rest ≡ more end (first_lone true 0 (drop end rest))

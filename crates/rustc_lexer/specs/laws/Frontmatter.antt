@@ -1,4 +1,4 @@
--- The opening of a frontmatter, and where the token ends.
+-- The opening of a frontmatter, and the end of the token.
 use Rattle.std.proofs.Common.{◌≡◌, ℕ, zero, suc, ◌+◌, ◌-◌, ◌<◌, ◌≤◌, ◌&&◌, ◌||◌, nat_lt, not, Bool, true, false}
 use Rattle.std.proofs.Common.{if◌then◌else◌, List, [], ◌∷◌, ◌++◌, codes, length, take, drop, get_or, refl, sym, ap, ◌∙◌}
 use Rattle.std.proofs.Common.{subst, arith, Some, None, length-append, length-drop, length-take, append_assoc}
@@ -28,7 +28,7 @@ use Rattle.rustc_lexer.specs.laws.Scan.{length-run, next_is-cons, next_is-nil}
 use Rattle.rustc_lexer.specs.laws.Past.{past-zero, split_past, past-past, past-drop, chars-past, IsUtf8-past}
 use Rattle.rustc_lexer.specs.laws.Past.{length-past}
 
--- past one length, and then another
+-- Skipping one length and then another is skipping both.
 pub past-then : (f g : List ℕ → ℕ) (text mid left : List ℕ) → IsUtf8 text → mid ≡ past (f (chars text)) text
     → left ≡ past (g (chars mid)) mid → left ≡ past (then_len f g (chars text)) text
 past-then f g text mid left is e h = grind (arith, common_steps, chars-past, past-past)
@@ -45,11 +45,11 @@ module _ (rest : List ℕ) (is : IsUtf8 rest) where
 
 pub ruleset infostring_lemmas = (infostring-yes, infostring-no, next_is-cons, next_is-nil)
 
--- what begins with neither a dash nor white space opens none
+-- A text that starts with neither a dash nor whitespace opens no frontmatter.
 pub opens-other : (s : List ℕ) → next_is (λ c. is_dash c || is_whitespace c) s ≡ false → opens s ≡ false
 opens-other s w1 = grind (arith, common_steps, or_parts)
 
--- the byte before an offset is a newline where the last character before it is
+-- The byte before an offset is a newline exactly if the last character before it is a newline.
 last_byte : (cs text rest : List ℕ) → text ≡ encode_utf8_all cs ++ rest
     → (nat_lt 0 (length (encode_utf8_all cs)) && is_newline (get_or text (length (encode_utf8_all cs) - 1) 0)) ≡
     ends_line cs
@@ -88,13 +88,13 @@ last_byte (c ∷ d ∷ s) text rest e =
     ap (λ b. b && is_newline (get_or text (length (encode_utf8_all (c ∷ d ∷ s)) - 1) 0)) both
     ∙ (ap (λ k. nat_lt 0 (length (encode_utf8_all (d ∷ s))) && is_newline k) there ∙ last_byte (d ∷ s) tail rest refl)
 
--- dashes, in bytes
+-- Dashes have one byte each.
 fence-encode : (n : ℕ) → encode_utf8_all (fence n) ≡ fence n
 fence-encode zero = refl
 fence-encode (suc n) = ap (λ (w : List ℕ). w ++ encode_utf8_all (fence n)) (encode_ascii 45 (omega arith))
     ∙ ap (λ (w : List ℕ). 45 ∷ w) (fence-encode n)
 
--- a text, past the white space in front, and past the dashes after that
+-- A text, the text after its leading whitespace, and the text after the dashes that follow.
 module _ (text fence label : List ℕ) (is : IsUtf8 text) (fence_is : fence ≡ past (spaces_len (chars text)) text)
     (label_is : label ≡ past (run_len is_dash (chars fence)) fence) where
   count : run_len is_dash (chars fence) ≡ fence_len (chars text)
@@ -174,7 +174,7 @@ if_found_some offset end otherwise = refl
 pub if_found_none : (end : ℕ → ℕ) (otherwise : ℕ) → if_found None end otherwise ≡ otherwise
 if_found_none end otherwise = refl
 
--- the closing, by what the searches answer
+-- The results of the searches determine the end of the closing fence.
 pub closing_end_is : (n : ℕ) (rest : List ℕ)
     → closing_end n rest ≡ if_found (first (newline ∷ fence n) rest) (λ offset. line_end (offset + 1) rest)
     (if_found (first (codes "\n---") rest) (λ offset. line_end (offset + 1) rest)
@@ -184,7 +184,7 @@ pub closing_end_is : (n : ℕ) (rest : List ℕ)
 unfolding closing_end
 closing_end_is n rest = refl
 
--- a frontmatter is not empty, and ends between characters
+-- Holds if the token is not empty, is in bounds, and ends at a char boundary, as a frontmatter does.
 pub record IsCutOff (text : List ℕ) (token : Token) : Type 0 where
   pub not_empty : 0 < token.len
   pub inside : token.len ≤ length text
@@ -218,7 +218,8 @@ frontmatter-cut text is e =
 
 pub ruleset cut_lemmas = (frontmatter-cut)
 
--- what holds of the frontmatter, where one opens, and of the token of each edition holds of the token
+-- The token at the front of a text has a property if the frontmatter has it whenever one opens, and the token of each
+-- edition has it.
 pub token_at-either : (P : Token → Type 0) (mode : Mode) (text : List ℕ)
     → ((edition : Edition) → P (first_token_in edition text)) → (opens (chars text) ≡ true → P (frontmatter text))
     → P (token_at mode text)

@@ -1,6 +1,4 @@
--- What is read at the front of a text is a token of the language, a token of the language is what is read, and how far
--- it
--- looks.
+-- The scanner at the front of a text reads exactly the tokens of the language; and how far a token looks ahead.
 use Rattle.std.proofs.Common.{◌≡◌, ℕ, ◌==◌, Bool, true, false, List, [], ◌∷◌, ◌++◌, length, take, drop, codes, refl}
 use Rattle.std.proofs.Common.{sym, ap, ◌∙◌, subst, take-append-drop, arith, bytes_eq}
 use Rattle.std.proofs.{Math.Seq.{take-append_seam}, lemmas.Bool.{and_parts, or_parts, or_from, eqb-true}}
@@ -47,7 +45,7 @@ use Rattle.rustc_lexer.specs.model.Quoted.{byte_body, byte_str_body, c_str_body}
 use Rattle.rustc_lexer.specs.model.Raw.{raw_literal}
 use Rattle.rustc_lexer.specs.model.Scan.{after, begins}
 
--- ---- what is read is a token
+-- ---- the scanner reads a token of the language
 
 abbrev SoundAll : ℕ → (List ℕ → TokenKind × ℕ) → Type 0
 SoundAll c scan = (s : List ℕ) → Sound c s (scan s)
@@ -59,7 +57,7 @@ r-sound s =
 k-sound : SoundAll 107 letter_k
 k-sound s = grind (arith, common_steps, keyword-sound, ident-sound, letters-start, no-opening)
 
--- an `r` and what opens a raw string after it, past one letter
+-- After one letter, an `r` and a character that opens a raw string can be read as a raw string.
 raw-parts : (c : ℕ) (scan : List ℕ → TokenKind × ℕ)
     → ((s : List ℕ) → NextIs opens_raw s → Sound c (114 ∷ s) (scan (114 ∷ s))) → (s : List ℕ) → begins_raw s ≡ true
     → Sound c s (scan s)
@@ -116,7 +114,7 @@ word-sound : (c : ℕ) → is_id_start c ≡ true → SoundAll c (word c)
 word-sound c start =
     by_letter SoundAll c r-sound k-sound b-sound c-sound (λ r k b d s. ident-sound c start s (rw (r, k, b, d) refl))
 
--- what is read past a character that chooses this family
+-- Holds if everything that the scanner of this family reads after the character c is a token.
 abbrev Reads : ℕ → Family → Type 0
 Reads c f = SoundAll c (read_by f c)
 
@@ -140,7 +138,7 @@ pub lexeme-sound : (s : List ℕ) → IsTokenBefore (drop (lexeme s).1 s) (lexem
 lexeme-sound [] = the.end refl
 lexeme-sound (c ∷ s) = each-sound c s
 
--- ---- a token is what is read
+-- ---- the scanner reads every token of the language
 
 literal-reads : {next : List ℕ} {kind : LiteralKind} {takes : Bool} {w : List ℕ} → IsLiteralBefore next kind takes w
     → ReadsLiteral next kind takes w
@@ -183,7 +181,7 @@ token-read {next} (the.pound stop) = pound-read next stop
 token-read {next} (the.guarded_prefix {c} is) = guarded-read c next is
 token-read {next} (the.symbol {c} is) = symbol-read c next is
 
--- ---- how far a token looks
+-- ---- how far a token looks ahead
 
 pub token-alike : {next : List ℕ} {kind : TokenKind} {w : List ℕ} → IsTokenBefore next kind w → (other : List ℕ)
     → take (reach kind w) other ≡ take (reach kind w) next → IsTokenBefore other kind w
@@ -227,7 +225,7 @@ token-alike {next} (the.symbol is) other e = the.symbol is
 
 -- ---- both
 
--- each text begins with one
+-- Each text has exactly one token at its front.
 pub begins-one : (s : List ℕ) → TheOnly (Unit {0}) (BeginsWith s)
 begins-one s = record {
   answer = ((lexeme s).0, take (lexeme s).1 s);

@@ -1,4 +1,4 @@
--- The end of a frontmatter is the one that the language has, and it is the same in characters and in bytes.
+-- The end of a frontmatter is the end that the language defines, both in characters and in bytes.
 use Rattle.std.proofs.Common.{◌≡◌, ℕ, zero, suc, ◌+◌, ◌≤◌, ◌<◌, ◌==◌, ◌&&◌, nat_lt, not, get_or, inl, inr, Bool, true}
 use Rattle.std.proofs.Common.{false, List, [], ◌∷◌, ◌++◌, length, take, drop, codes, refl, sym, ap, ◌∙◌, subst, arith}
 use Rattle.std.proofs.Common.{append_assoc, length-append, length-take, take-append-drop, Option, Some, None}
@@ -24,12 +24,12 @@ use Rattle.rustc_lexer.specs.laws.LanguageLone.{lone_at, lone-decided, decided-l
 use Rattle.rustc_lexer.specs.laws.Reach.{begins-length, run_all, run_len-in, least-is, least-none, least-some}
 use Rattle.rustc_lexer.specs.laws.Reach.{none-least}
 
--- ---- what is found in the bytes
+-- ---- searches in bytes
 
 abbrev is_ascii : ℕ → Bool
 is_ascii c = nat_lt c 128
 
--- a newline and more, in ASCII
+-- Whether the pattern starts with a newline and is ASCII.
 abbrev is_pattern : List ℕ → Bool
 is_pattern pattern = begins (codes "\n") pattern && list_all is_ascii pattern
 
@@ -50,7 +50,7 @@ points-all : (p : ℕ → Bool) (s : List ℕ) → ((n : ℕ) → n < length s �
 points-all p [] each = refl
 points-all p (c ∷ s) each = rw (each 0 (omega arith), points-all p s (λ n lt. each (suc n) (omega arith))) refl
 
--- no byte of a character that is not in ASCII is in ASCII
+-- No byte of a character outside ASCII is ASCII.
 high-bytes : (c : ℕ) → 128 ≤ c → AreAll is_high (encode_utf8 c)
 high-bytes c le = points-all is_high (encode_utf8 c) (λ k lt. by_either (is_ascii (get_or (encode_utf8 c) k 0))
     (λ e. absurd (let same : c ≡ get_or (encode_utf8 c) k 0 = inside_one c [] (encode_utf8 c) k
@@ -58,7 +58,7 @@ high-bytes c le = points-all is_high (encode_utf8 c) (λ k lt. by_either (is_asc
     omega (arith, ltb-true (get_or (encode_utf8 c) k 0) 128 e)))
     (λ e. rw e refl))
 
--- a text goes on by a byte in ASCII, or by bytes that are not
+-- Holds if the text starts with one ASCII byte, or with bytes that are not ASCII.
 data Encoded (c : ℕ) (s : Chars) : Type 0 where
   one : c < 128 → encode_utf8_all (c ∷ s) ≡ c ∷ encode_utf8_all s → Encoded c s
   high : 128 ≤ c → AreAll is_high (encode_utf8 c) → 0 < length (encode_utf8 c) → Encoded c s
@@ -84,7 +84,7 @@ begins-high d ds (b ∷ w) s all some f =
 ge-high : (c : ℕ) → 128 ≤ c → is_high c ≡ true
 ge-high c le = by_either (is_ascii c) (λ e. absurd (let lt = ltb-true c 128 e in omega arith)) (λ e. rw e refl)
 
--- over such bytes
+-- A search skips bytes that are not ASCII.
 first-high : (d : ℕ) (ds w s : List ℕ) → is_ascii d ≡ true → AreAll is_high w
     → first (d ∷ ds) (w ++ s) ≡ more (length w) (first (d ∷ ds) s)
 first-high d ds [] s f all = more-zero (first (d ∷ ds) s)
@@ -128,7 +128,7 @@ run-high [] s all = omega arith
 run-high (b ∷ w) s all = let parts = and_parts (is_high b) (list_all is_high w) all in
     rw (high-other b 10 parts.0 (omega arith)) (omega (arith, run-high w s parts.1))
 
--- what is found in the characters, in bytes
+-- Returns the result of a search in characters as an offset in bytes.
 abbrev in_bytes : Chars → Option ℕ → Option ℕ
 in_bytes s None = None
 in_bytes s (Some k) = Some (bytes_of k s)
@@ -217,9 +217,10 @@ run-encode (c ∷ s) =
       run-encode s,
     )
 
--- ---- the first place
+-- ---- the first match
 
--- a test tells the places that are such, none is at the end of the text, and a search of the bytes finds the first
+-- Holds if `test` decides at which offsets there is a match, no match is at the end of the text, and the search in
+-- bytes finds the first match.
 record Tells (IsSuch : Chars → Chars → Type 0) (test : Chars → ℕ → Bool) (search_for : List ℕ → Option ℕ) : Type 0 where
   decided : (u v : Chars) → IsSuch u v → test (u ++ v) (length u) ≡ true
   some : (u v : Chars) → IsSuch u v → 0 < length v
@@ -264,9 +265,9 @@ pattern-tells pattern w1 = grind (arith, common_steps, drop-append_seam, begins-
 lone-tells : Tells IsLone (λ s i. lone_at [] i s) (first_lone true 0)
 lone-tells = grind (arith, common_steps, lone-decided, decided-lone, begins-length, lone-encode, lone-first)
 
--- ---- what the language has is found
+-- ---- the searches find the matches of the language
 
--- where the line of an offset ends
+-- The line of an offset ends before the text that stops it.
 at-line : (u line next : Chars) → AreAll is_inline line → NextIsNot is_inline next
     → line_end (bytes u) (encode_utf8_all (u ++ (line ++ next))) ≡ bytes (u ++ line)
 at-line u line next all stop =
@@ -315,9 +316,9 @@ pub body-read : (n : ℕ) {body next : Chars} → IsBodyBefore next (endings n) 
 unfolding closing_end
 body-read n is = end-read is (endings-patterns n)
 
--- ---- and each text has such a body
+-- ---- each text has a body of a frontmatter
 
--- a text up to the end of its first line
+-- A text consists of its first line and the text after it.
 record Lined (s : Chars) : Type 0 where
   line : Chars
   next : Chars

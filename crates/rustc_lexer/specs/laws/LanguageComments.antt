@@ -1,4 +1,4 @@
--- Comments, white space and symbols are in their languages, and what is there is read so.
+-- Comments, whitespace and symbols: the scanners read exactly the language.
 use Rattle.std.proofs.Common.{◌≡◌, ℕ, suc, ◌==◌, ◌&&◌, not, Bool, true, false, true≢false, if◌then◌else◌, List, [], ◌∷◌}
 use Rattle.std.proofs.Common.{◌++◌, length, take, drop, codes, refl, sym, ap, ◌∙◌, subst, arith, take-append-drop}
 use Rattle.std.proofs.Common.{take_all, Option, Some, None}
@@ -21,7 +21,7 @@ use Rattle.rustc_lexer.specs.Language.{IsStyle, inner, outer, no_outer, neither,
 use Rattle.rustc_lexer.specs.model.Lexeme.{whitespace, symbol, symbol_kind}
 use Rattle.rustc_lexer.specs.model.Scan.{after, begins, gives, next_is, run_len}
 
--- ---- white space and symbols
+-- ---- whitespace and symbols
 
 pub space-sound : (c : ℕ) → is_whitespace c ≡ true → (s : List ℕ) → Sound c s (whitespace s)
 space-sound c e s = the.whitespace (rw e (run_all is_whitespace s)) (run-stops is_whitespace s)
@@ -83,11 +83,11 @@ IsLineStyle style w = IsStyle 47 (codes "/") style w
 line-style : (w : List ℕ) → line_doc_style w ≡ doc_style 47 (codes "/") w
 line-style w0 = grind (arith, common_steps)
 
--- the style of a comment is decided by the comment
+-- The text of a line comment alone decides its style.
 line_doc_style-own : (s : List ℕ) → line_doc_style (take (run_len is_inline s) s) ≡ line_doc_style s
 line_doc_style-own w0 = grind (arith, common_steps, eqb-true)
 
--- the style that is decided is the one of the language
+-- The model's style is the style that the language defines.
 line-styled : (w : List ℕ) → IsLineStyle (line_doc_style w) w
 line-styled w = subst (λ (style : Option DocStyle). IsLineStyle style w) (sym (line-style w)) (styled 47 (codes "/") w)
 

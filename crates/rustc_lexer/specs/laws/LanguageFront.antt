@@ -1,4 +1,4 @@
--- Texts and their characters, and the token of the grammar at the front of a text.
+-- Texts and their characters, and the grammar's token at the front of a text.
 use Rattle.std.proofs.Common.{◌≡◌, ℕ, ◌<◌, ◌≤◌, List, [], ◌∷◌, ◌++◌, length, take, drop, refl, sym, ap, ◌∙◌, subst}
 use Rattle.std.proofs.Common.{arith, take_at, drop_at, take-append-drop, length-append}
 use lib.Utf8.{scalars}
@@ -19,7 +19,7 @@ use Rattle.rustc_lexer.specs.model.Lexeme.{first_token}
 pub empty-text : (text : List ℕ) → IsText text → chars text ≡ [] → text ≡ []
 empty-text text is e = sym (encodes-chars text is.utf8) ∙ ap encode_utf8_all e
 
--- a text in two parts
+-- Holds if the text consists of the characters w and `next`, in characters and in bytes.
 pub record Split (text w next : List ℕ) : Type 0 where
   pub left : drop (bytes w) text ≡ encode_utf8_all next
   pub front : take (bytes w) text ≡ encode_utf8_all w
@@ -57,12 +57,12 @@ split text w next is e =
           ∙ scalars-drop (length w) (chars text) (scalars-chars text is.utf8));
     }
 
--- where the front ends
+-- The end of the first part is a char boundary.
 pub split-boundary : {text w next : List ℕ} → IsText text → Split text w next → IsCharBoundary text (bytes w)
 split-boundary {text} {w} is cut =
     IsCharBoundary-from_take text (bytes w) is.utf8 cut.inside (subst IsUtf8 (sym cut.front) cut.front_utf8)
 
--- a text that begins with the same bytes begins with the same characters
+-- A text that starts with the same bytes starts with the same characters.
 pub split-same : {text w next : List ℕ} (other : List ℕ) → Split text w next
     → take (bytes w) text ≡ take (bytes w) other → chars other ≡ w ++ chars (drop (bytes w) other)
 split-same {w = w} other cut same =

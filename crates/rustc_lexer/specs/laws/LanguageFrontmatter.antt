@@ -1,4 +1,4 @@
--- The opening of a frontmatter is in its language, and what is there is read so.
+-- The opening of a frontmatter: the model reads exactly the language.
 use Rattle.std.proofs.lemmas.Grind.{common_steps}
 use Rattle.std.proofs.Common.{◌≡◌, ℕ, zero, suc, ◌+◌, ◌≤◌, not, Bool, true, false, true≢false, List, [], ◌∷◌, ◌++◌}
 use Rattle.std.proofs.Common.{length, take, drop, codes, refl, sym, ap, ◌∙◌, arith, append_assoc, length-append}
@@ -19,7 +19,7 @@ use Rattle.rustc_lexer.specs.model.Scan.{begins, next_is, run_len}
 
 -- ---- classes
 
--- blanks begin no identifier
+-- No identifier starts with horizontal whitespace.
 blank-no_start : (c : ℕ) → is_horizontal_whitespace c ≡ true → is_id_start c ≡ false
 unfolding unicode_ident
 blank-no_start c e = none-among is_id_start (0x9 ∷ 0x20 ∷ []) refl c e
@@ -30,7 +30,7 @@ start-no_blank c e =
 
 -- ---- lines
 
--- what ends with a newline
+-- A text that ends with a newline ends a line.
 line-ends : (u : List ℕ) → ends_line (u ++ 10 ∷ []) ≡ true
 line-ends [] = refl
 line-ends (c ∷ []) = refl
@@ -70,7 +70,7 @@ stops-dash s w1 = grind (arith, common_steps)
 fence-no_space : (n : ℕ) (v : List ℕ) → 3 ≤ n → NextIsNot is_whitespace (fence n ++ v)
 fence-no_space n v w2 = grind (arith, common_steps)
 
--- ---- what is there is read
+-- ---- the model reads every opening
 
 blanks-none : (s : List ℕ) → NextIsNot is_horizontal_whitespace s → blanks_len s ≡ 0
 blanks-none s w1 = grind (arith, common_steps, run_len-out)
@@ -78,7 +78,7 @@ blanks-none s w1 = grind (arith, common_steps, run_len-out)
 info-none : (s : List ℕ) → NextIsNot is_id_start s → infostring_len s ≡ 0
 info-none s stop = rw stop refl
 
--- one length, then the next of what follows it
+-- The length of two parts is the length of the first and then of the second.
 then-read : (first next : List ℕ → ℕ) (u v s : List ℕ) → s ≡ u ++ v → first s ≡ length u
     → then_len first next s ≡ length u + next v
 then-read first next u v s e f = grind (arith, common_steps, drop-append_seam)
@@ -109,7 +109,7 @@ label-read {next} (the.named u c v w blanks start info info_stops more stop) =
       length-append v w,
     )
 
--- what is read of an opening
+-- Holds if the model reads w, before `next`, as an opening with n dashes.
 pub record ReadsOpening (n : ℕ) (bad_label : Bool) (w next : List ℕ) : Type 0 where
   pub opens_here : opens (w ++ next) ≡ true
   pub len : opening_len (w ++ next) ≡ length w
@@ -162,7 +162,7 @@ opening-read {next} (the.opening n space label spaces no_line many is stop) =
     some-front p [] next le = absurd (omega arith)
     some-front p (c ∷ w) next le = refl
 
--- ---- and what is read is there
+-- ---- everything that the model reads is an opening
 
 record Labelled (s : List ℕ) : Type 0 where
   label : List ℕ
@@ -256,7 +256,7 @@ opened s e =
           (stops-dash (l.label ++ l.rest) stop);
     }
 
--- none opens, said in both ways
+-- A text in which the model finds no opening has none.
 pub opens-none : (s : List ℕ) → opens s ≡ false → OpensNone s
 opens-none s e n bad_label w next f is = let r = opening-read is in
     either-way (opens (w ++ next)) r.opens_here (ap opens (sym f) ∙ e)

@@ -1,4 +1,4 @@
--- What is taken as a guarded string is what the language says, and nothing else is.
+-- Guarded strings: the model reads exactly the language.
 use Rattle.std.proofs.Common.{◌≡◌, ◌↔◌, ℕ, zero, suc, ◌+◌, ◌<◌, ◌≤◌, ◌==◌, min, inl, inr, Bool, true, false}
 use Rattle.std.proofs.Common.{if◌then◌else◌, List, [], ◌∷◌, ◌++◌, length, take, drop, codes, refl, sym, ap, ◌∙◌, subst}
 use Rattle.std.proofs.Common.{arith, append_assoc, length-append, take-append-drop, Option, Some}
@@ -43,9 +43,9 @@ past-one : (n c : ℕ) (s : List ℕ) → drop (suc n) (hashes n ++ c ∷ s) ≡
 past-one zero c s = refl
 past-one (suc n) c s = past-one n c s
 
--- ---- what is there is taken
+-- ---- the model reads every guarded string
 
--- a string past its hashes and its quote
+-- After its hashes and its quote, a string ends where its body ends.
 string-past : (n : ℕ) (y : List ℕ) (t : Bool) (m : ℕ) → guarded_body n y ≡ (t, m) → string_past n (hashes n ++ 34 ∷ y) ≡
     Some (t, bytes_of (suc n + m) (hashes n ++ 34 ∷ y))
 string-past n y t m e = grind (arith, common_steps, past-guard, past-one)
@@ -79,7 +79,7 @@ record GuardedRead (n : ℕ) (t : Bool) (w next : List ℕ) : Type 0 where
   count : hash_run (w ++ next) ≡ n
   read : string_past n (w ++ next) ≡ Some (t, bytes w)
 
--- a text past its hashes, a quote and so much more
+-- The model reads hashes, a quote, and the body of a guarded string.
 read-parts : (n : ℕ) (t : Bool) (v next : List ℕ) (m : ℕ) → guarded_body n (v ++ next) ≡ (t, m) → m ≡ length v
     → GuardedRead n t (hashes n ++ 34 ∷ v) next
 read-parts n t v next m e f =
@@ -117,7 +117,7 @@ unfolding spec.take_guarded
 takes-read {s} (holds.string {n} {terminated} {w} {next} e is) = grind (arith, common_steps, guarded-read)
 takes-read {s} (holds.none n next e stop) = grind (arith, common_steps, guard-hashes, no-hash, past-guard, no-quote)
 
--- ---- and something is there
+-- ---- the model always has a result
 
 record Taken (s : State) : Type 0 where
   answer : Option GuardedStr × State
@@ -174,7 +174,7 @@ taken s = let g = guarded (chars s.rest) in by_left g.count g.left (sym g.whole)
           is = holds.none n (c ∷ u) e (or_from (c == 34) _ f (or_from (c == 35) false stop refl));
         })
 
--- this and nothing else
+-- The model's result is the only result that the language allows.
 pub guarded-answer : (s : State) (other : Option GuardedStr × State) → TakesGuarded s other
     ↔ (other ≡ spec.take_guarded s)
 guarded-answer s other = (

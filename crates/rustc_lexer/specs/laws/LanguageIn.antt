@@ -1,4 +1,4 @@
--- The token at the front of a text in an edition is the one that its language has there.
+-- The token at the front of a text in an edition is the token that the language of this edition has there.
 use Rattle.std.proofs.Common.{◌≡◌, ◌≢◌, ◌↔◌, ℕ, ◌+◌, ◌<◌, ◌≤◌, ◌==◌, Bool, true, false, true≢false, List, [], ◌∷◌, ◌++◌}
 use Rattle.std.proofs.Common.{length, take, drop, codes, refl, sym, ap, ◌∙◌, subst, arith, take-append-drop}
 use lib.Utf8.{encode}
@@ -23,12 +23,12 @@ use Rattle.rustc_lexer.specs.laws.LanguageWords.{hash_ident-sound}
 use Rattle.rustc_lexer.specs.laws.LanguageFront.{empty-text, first-is}
 use Rattle.rustc_lexer.specs.laws.LanguageLifetimes.{hash-stops}
 
--- ---- what an edition keeps
+-- ---- tokens that an edition keeps
 
 kept_2021 : (kind : TokenKind) (len : ℕ) → lexed_since kind < 2024 → before_2024 kind len ≡ token kind len
 kept_2021 kind len w2 = grind (arith, common_steps)
 
--- no edition is older
+-- No edition is older than 2015.
 pub oldest : (edition : Edition) → 2015 ≤ year edition
 oldest w0 = grind (arith, common_steps)
 
@@ -44,7 +44,7 @@ before : (edition : Edition) (cs : List ℕ) (t : Token) → year edition < 2021
     → changed edition cs t ≡ before_2021 cs t.kind t.len
 before edition cs t lt = grind (arith, common_steps, leb-true)
 
--- ---- the tokens that an edition may not keep, as the grammar has them
+-- ---- the tokens of the grammar, by whether an older edition can change them
 
 data View (next : List ℕ) : TokenKind → List ℕ → Type 0 where
   cut_hash : {c : ℕ} → View next GuardedStrPrefix (35 ∷ c ∷ [])
@@ -65,12 +65,12 @@ view (the.guarded_prefix is) = cut_hash
 view (the.symbol {c} is) = other (symbol-old c)
 view whole = other refl
 
--- what no hash begins is in 2021 as in 2024
+-- A token that does not start with a hash is the same in 2021 and 2024.
 pub unhashed : {next : List ℕ} {kind : TokenKind} {c : ℕ} {w : List ℕ} → IsTokenBefore next kind (c ∷ w) → c ≢ 35
     → (len : ℕ) → before_2024 kind len ≡ token kind len
 unhashed p none len = grind (arith, common_steps, view, kept_2021)
 
--- whether a name is invalid
+-- Whether a name is invalid.
 name-bad : (c : ℕ) (w next : List ℕ) → AreAll is_word_continue w → NextIs (is_among (codes "#")) next
     → has_bad_name (39 ∷ c ∷ w ++ next) ≡ is_bad_name (c ∷ w)
 name-bad c w next all hash = grind (arith, common_steps, run_len-here, hash-stops, take-append_seam)
@@ -79,7 +79,7 @@ lifetime-bad : {next : List ℕ} {kind : TokenKind} {c : ℕ} {w : List ℕ} →
     → kind ≡ UnknownPrefixLifetime → has_bad_name (39 ∷ c ∷ w ++ next) ≡ is_bad_name (c ∷ w)
 lifetime-bad w0 w1 = grind (arith, common_steps, name-bad)
 
--- ---- a token of an edition is what is read in it
+-- ---- the scanner reads every token of an edition
 
 hash-one : bytes (35 ∷ []) ≡ 1
 unfolding encode
@@ -89,7 +89,7 @@ r-two : bytes (39 ∷ 114 ∷ []) ≡ 2
 unfolding encode
 r-two = refl
 
--- a raw lifetime stands where one begins
+-- Holds if `'r` followed by w is a raw lifetime before `next`.
 abbrev IsRawBefore : List ℕ → List ℕ → Type 0
 IsRawBefore next w = IsTokenBefore next RawLifetime (39 ∷ 114 ∷ w)
 
@@ -127,9 +127,9 @@ token-read-in {edition} {next} (lifetime {c} {w} lt p) text e =
     grind (arith, common_steps, first-is, before, lifetime-bad, view)
 token-read-in {edition} {next} (lifetime_r lt goes) text e = grind (arith, common_steps, before, raw-first, r-two)
 
--- ---- what is read in an edition is a token of it
+-- ---- everything that the scanner reads is a token of the edition
 
--- a token, and the front of these characters that it is
+-- Holds if the token is at the front of the characters, and consists of c and w.
 pub record Front (edition : Edition) (cs : List ℕ) (t : Token) : Type 0 where
   pub kind : TokenKind
   pub c : ℕ
@@ -156,7 +156,7 @@ keep edition next kind c w le p = front-is kind c w next refl (keeps edition (c 
 goes-name : (w next : List ℕ) → is_ident w ≡ true → begins_ident_after (codes "#") (35 ∷ w ++ next) ≡ true
 goes-name w next w2 = grind (arith, common_steps, and_parts)
 
--- by which of them an edition has
+-- A proof can distinguish the order of two years.
 by_year : {A : Type 0} (a b : ℕ) → (a ≤ b → A) → (b < a → A) → A
 by_year {A} a b le lt = grind (arith, common_steps, leb-true, leb-false)
 

@@ -1,4 +1,4 @@
--- Characters and lifetimes are in their languages, and what is there is read so.
+-- Characters and lifetimes: the scanners read exactly the language.
 use Rattle.std.proofs.Common.{◌≡◌, ℕ, zero, suc, ◌+◌, ◌==◌, ◌&&◌, ◌||◌, not, Bool, true, false, true≢false}
 use Rattle.std.proofs.Common.{if◌then◌else◌, List, [], ◌∷◌, ◌++◌, length, take, drop, codes, refl, sym, ap, ◌∙◌, subst}
 use Rattle.std.proofs.Common.{arith, append_assoc, length-append, take-append-drop, take-add}
@@ -37,7 +37,7 @@ backslash-none : (is_name_start 92 ≡ false) × (is_name_start 47 ≡ false) ×
 unfolding unicode_ident is_emoji emoji_ranges
 backslash-none = (refl, refl, refl)
 
--- a word does not begin with what ends a prefix, nor does what follows it
+-- If the text after a word does not start with a character that ends a prefix, the text with the word does not either.
 word-begins : (d : ℕ) (w next : List ℕ) → ends_prefix d ≡ true → AreAll is_word_continue w
     → begins (d ∷ []) next ≡ false → begins (d ∷ []) (w ++ next) ≡ false
 word-begins d [] next is_end all none = none
@@ -48,7 +48,7 @@ word-begins d (c ∷ w) next is_end all none =
 
 -- ---- lifetimes
 
--- a name that is no character and not raw
+-- A name that is neither a character nor raw is read up to its end.
 plain-read : (c : ℕ) (w next : List ℕ) (kind : TokenKind) (n : ℕ) → is_name_start c ≡ true
     → begins (codes "'") (w ++ next) ≡ false → is_raw c (w ++ next) ≡ false → AreAll is_word_continue w
     → NextIsNot is_word_continue next → past_name c w next ≡ (kind, n)
@@ -56,7 +56,7 @@ plain-read : (c : ℕ) (w next : List ℕ) (kind : TokenKind) (n : ℕ) → is_n
 plain-read c w next kind n start none no_raw all stop e =
     grind (arith, common_steps, read-first, chooses-quote, run_len-here, take-append_seam, drop-append_seam)
 
--- `r` is raw before a hash and the start of an identifier alone
+-- `r` is raw only before a hash and the start of an identifier.
 no_raw-word : (c : ℕ) (w next : List ℕ) → AreAll is_word_continue w
     → (begins (codes "#") next ≡ true → (c == 114) ≡ false) → is_raw c (w ++ next) ≡ false
 no_raw-word c w next all other = grind (arith, common_steps, word-begins)
@@ -82,7 +82,7 @@ hash-stops next w1 = grind (arith, common_steps, prefix_end-stops, or_left)
 hash-no_quote : (next : List ℕ) → begins (codes "#") next ≡ true → begins (codes "'") next ≡ false
 hash-no_quote next w1 = grind (arith, common_steps, eqb-true, and_parts)
 
--- the two ways to say what is raw
+-- The model and the language agree on raw names.
 raw-same : (c : ℕ) (s : List ℕ) → begins_ident_after (codes "r#") (c ∷ s) ≡ is_raw c s
 raw-same c s = grind (arith, common_steps)
 
@@ -106,7 +106,7 @@ pub raw_lifetime-read : (w next : List ℕ) → is_ident w ≡ true → NextIsNo
 raw_lifetime-read w0 next is stop =
     grind (arith, common_steps, and_parts, read-first, chooses-quote, r-name, run_len-here)
 
--- ---- and what is read is one of these
+-- ---- everything that the scanner reads is a character or a lifetime
 
 abbrev IsLifetime : ℕ → List ℕ → TokenKind × ℕ → Type 0
 IsLifetime c s r = IsTokenBefore (drop r.1 s) r.0 (39 ∷ c ∷ take r.1 s)
@@ -131,7 +131,7 @@ name-sound c s start none no_raw =
     same : n ≡ n + 0
     same = omega arith
 
-    -- with a quote behind it
+    -- A name with a quote after it is a character literal.
     quoted : (w rest : List ℕ) → take n s ≡ w → drop n s ≡ rest → begins (codes "'") rest ≡ true
         → IsTokenBefore (drop (n + 1) s) (quoted_name c w rest).0 (39 ∷ c ∷ take (n + 1) s)
     quoted w [] e f g = absurd (true≢false (sym g))
@@ -193,7 +193,7 @@ char-sound s stop = literal-sound (39 ∷ []) 1 (Char (single_quoted_string s).0
     front-stops (suc m) [] e = refl
     front-stops (suc m) (c ∷ s) e = e
 
--- one character, where a quote is second
+-- A name of one character with a quote after it is a character.
 one-sound : (c : ℕ) (s : List ℕ) → is_name_start c ≡ true → begins (codes "'") s ≡ true
     → Sound 39 (c ∷ s) (literal char_body (c ∷ s))
 one-sound c [] start e = absurd (true≢false (sym e))
@@ -229,7 +229,8 @@ pub end-stops : (d : ℕ) (end next : List ℕ) {w : List ℕ} → lit.SingleTo 
     → NextIsNot is_name_start (w ++ next)
 end-stops d end next w0 w1 = grind (arith, common_steps)
 
--- nor does what follows it, if it is empty
+-- A text in single quotes that does not start with a name does not start with one together with the text after it
+-- either.
 next-stops : {next : List ℕ} {t : Bool} {w : List ℕ} → IsSingleQuoted next t w → NextIsNot is_name_start w
     → NextIsNot is_name_start (w ++ next)
 next-stops {next} w1 e =

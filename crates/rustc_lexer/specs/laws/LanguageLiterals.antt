@@ -1,4 +1,4 @@
--- Literals are in their languages, with their suffixes, and what is there is read so.
+-- Literals with their suffixes: the scanners read exactly the language.
 use Rattle.std.proofs.Common.{◌≡◌, ℕ, suc, ◌+◌, nat_lt, Bool, true, false, List, [], ◌∷◌, ◌++◌, length, take, drop}
 use Rattle.std.proofs.Common.{codes, refl, sym, ap, ◌∙◌, subst, arith, append_assoc, length-append, take-append-drop}
 use Rattle.std.proofs.Common.{take-add, drop-drop, Option, Result}
@@ -40,7 +40,7 @@ use Rattle.rustc_lexer.specs.model.Scan.{after, begins, bytes_of, run_len}
 pub bytes-append : (v w : List ℕ) → bytes (v ++ w) ≡ bytes v + bytes w
 bytes-append v w = ap length (encodes-append v w) ∙ length-append (encode_utf8_all v) (encode_utf8_all w)
 
--- a character of one byte
+-- A character of one byte adds one byte.
 pub bytes-one : (c : ℕ) (w : List ℕ) → len_utf8 c ≡ 1 → bytes (c ∷ w) ≡ 1 + bytes w
 bytes-one c w e = omega (arith, length-append (encode_utf8 c) (encode_utf8_all w), length-encode c, e)
 
@@ -67,7 +67,7 @@ suffix-read {next} w1 = grind (arith, common_steps, and_parts, run_len-here)
 
 -- ---- a literal and its suffix
 
--- past a front of p bytes
+-- A literal after a prefix of p bytes is a token, together with its suffix.
 pub literal-sound : (front : List ℕ) (p : ℕ) (kind : LiteralKind) (takes : Bool) (m : ℕ) (s : List ℕ) → bytes front ≡ p
     → IsLiteralBefore (drop m s) kind takes (front ++ take m s)
     → IsTokenBefore (drop (m + suffixed takes (drop m s)) s) (Literal kind (p + bytes_of m s))
@@ -93,14 +93,14 @@ literal-sound front p kind true m s e is =
     (subst (λ (u : List ℕ). IsTokenBefore u (Literal kind (bytes (front ++ take m s)))
     ((front ++ take m s) ++ take k (drop m s))) left (the.literal_with before (suffix-sound (drop m s)))))
 
--- what a literal is read as, past a front of p bytes
+-- After a prefix of p bytes, the body of a literal and its suffix are read.
 pub past-read : (front v rest : List ℕ) (p : ℕ) (kind : LiteralKind) (takes : Bool) (body : Body × ℕ)
     → body ≡ (record { kind = kind; takes_suffix = takes }, length v) → bytes front ≡ p
     → literal_past p body (v ++ rest) ≡ (Literal kind (bytes (front ++ v)), length v + suffixed takes rest)
 past-read front v rest p kind takes body e f =
     grind (arith, common_steps, take-append_seam, bytes-append, drop-append_seam)
 
--- a literal up to its suffix is read with the suffix that stands there
+-- Holds if the scanner reads w as this literal, and the suffix after it.
 abbrev pub ReadsLiteral : List ℕ → LiteralKind → Bool → List ℕ → Type 0
 ReadsLiteral next kind takes w = Read (Literal kind (bytes w)) (length w + suffixed takes next) (w ++ next)
 
@@ -167,7 +167,7 @@ lettered-reads c d kind scan next t w start one is e =
 accepts : (r : Result ℕ RawStrError) → is_accepted r ≡ is_some (accepted r)
 accepts r = grind (arith, common_steps)
 
--- whether it begins with a hash and an identifier is decided within it
+-- A text up to the end of the input decides by itself whether it starts with a hash and an identifier.
 whole-hash_ident : (w next : List ℕ) → next ≡ [] → begins_hash_ident (w ++ next) ≡ begins_hash_ident w
 whole-hash_ident w next none = ap (λ (xs : List ℕ). begins_hash_ident (w ++ xs)) none
     ∙ ap begins_hash_ident (append-nil w)
@@ -214,14 +214,14 @@ raw_c_str-sound s opens =
     (subst (λ (b : Bool). IsLiteralBefore (drop (taken s) s) (RawCStr (accepted (raw_read 0 s).0)) b
     (99 ∷ 114 ∷ take (taken s) s)) (sym (accepts (raw_read 0 s).0)) (lit.raw_c_str (raw-sound s opens))))
 
--- what follows the `r`
+-- Hashes before a character that opens a raw string open one as well.
 guard-opens : (n c : ℕ) (s : List ℕ) → opens_raw c ≡ true → NextIs opens_raw (hashes n ++ c ∷ s)
 guard-opens n c s w3 = grind (arith, common_steps)
 
 raw-opens : {next : List ℕ} {o : Option ℕ} {w : List ℕ} → IsRaw next o w → NextIs opens_raw (w ++ next)
 raw-opens {next} w1 = grind (arith, common_steps, append_assoc, guard-opens)
 
--- the body of a literal, from what is read of it
+-- The body of a raw literal has the result of reading the raw string.
 raw-body : (kind : Option ℕ → LiteralKind) (next : List ℕ) (o : Option ℕ) (w : List ℕ) → IsRaw next o w
     → raw_body kind (w ++ next) ≡ (record { kind = kind o; takes_suffix = is_some o }, length w)
 raw-body kind next o w q = grind (arith, common_steps, accepts, raw-read)
@@ -257,7 +257,7 @@ number-sound c digit s =
     literal-sound (c ∷ []) 1 (number_kind c s).0 true (number_kind c s).1 s (bytes-letter c (digit-one c digit))
     (lit.number (number-read c s digit))
 
--- its first digit
+-- Holds if the text starts with a digit.
 pub record HasDigit (w : List ℕ) : Type 0 where
   pub first : ℕ
   pub rest : List ℕ
@@ -275,7 +275,7 @@ pub number-reads : (next : List ℕ) (kind : LiteralKind) (w : List ℕ) → IsN
 number-reads next kind w is =
     grind (arith, common_steps, number-digit, read-first, chooses-number, past-read, number-is, bytes-letter, digit-one)
 
--- ---- all but characters
+-- ---- all literals except characters
 
 pub byte-reads : {next : List ℕ} (t : Bool) (w : List ℕ) → IsSingleQuoted next t w
     → ReadsLiteral next (Byte t) t (98 ∷ 39 ∷ w)

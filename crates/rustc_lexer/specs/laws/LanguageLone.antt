@@ -1,4 +1,4 @@
--- Lone dashes: the pass over a text finds the first that the language has.
+-- Lone dashes: the search through a text finds the first lone dashes that the language defines.
 use Rattle.std.proofs.Common.{◌≡◌, ℕ, zero, suc, ◌≤◌, ◌==◌, ◌&&◌, ◌||◌, not, inl, inr, Bool, true, false, true≢false}
 use Rattle.std.proofs.Common.{List, [], ◌∷◌, ◌++◌, reverse, length, take, drop, codes, refl, sym, ap, ◌∙◌, subst, arith}
 use Rattle.std.proofs.Common.{append_assoc, length-drop}
@@ -17,16 +17,16 @@ use Rattle.rustc_lexer.specs.laws.Choice.{by_either}
 use Rattle.rustc_lexer.specs.laws.Fences.{begins-whole}
 use Rattle.rustc_lexer.specs.laws.LanguageRuns.{either-way}
 
--- ---- what the language says, of a text read backwards
+-- ---- the conditions of the language, on a text that is read backwards
 
--- whether an edge and blanks stand before an offset: `r` is what stands there, backwards
+-- Whether the text before an offset ends with an edge and then blanks only. The argument is this text, read backwards.
 abbrev pub standing : List ℕ → Bool
 standing [] = true
 standing (c ∷ r) =
     c == 10 || ((is_horizontal_whitespace c && standing r) ||
     (begins (fence 3) (c ∷ r) && not (begins (fence 1) (drop 2 r))))
 
--- whether lone dashes stand i places further
+-- Whether there are lone dashes i characters after the offset.
 abbrev pub lone_at : List ℕ → ℕ → List ℕ → Bool
 lone_at r zero s = standing r && begins (fence 3) s
 lone_at r (suc i) [] = false
@@ -51,7 +51,7 @@ record IsStanding (u : Chars) : Type 0 where
   is : IsEdge edge
   all : AreAll is_horizontal_whitespace blanks
 
--- where the search says that it may stand, it may
+-- If the test passes, the language allows lone dashes at the offset.
 is-standing : (r : List ℕ) → standing r ≡ true → IsStanding (reverse r)
 is-standing [] e = record { edge = []; blanks = []; whole = refl; is = the.front; all = refl }
 is-standing (c ∷ r) e = elim (or_cases (c == 10) _ e) [
@@ -91,7 +91,7 @@ is-standing (c ∷ r) e = elim (or_cases (c == 10) _ e) [
   ]
 ]
 
--- and the search says so wherever it may
+-- Conversely, the test passes wherever the language allows lone dashes.
 edge-stands : {u : Chars} → IsEdge u → standing (reverse u) ≡ true
 edge-stands the.front = refl
 edge-stands (the.line u) = ap standing (reverse-append u (codes "\n"))
@@ -131,9 +131,10 @@ decided-lone s i e =
     subst (λ (u : Chars). IsLone u (drop i s)) (at.whole ∙ reverse-reverse (take i s))
     (the.lone at.edge at.blanks (drop i s) at.is at.all parts.1)
 
--- ---- the pass finds the first
+-- ---- the search finds the first lone dashes
 
--- the pass comes to an offset: it knows what stands before, and three dashes begin neither one place before nor two
+-- Holds at each offset of the search: `blank` is the result of the test for the text before, and no three dashes start
+-- one or two characters before.
 pub record IsAt (blank : Bool) (r s : List ℕ) : Type 0 where
   decided : standing r ≡ blank
   fresh : blank ≡ false → begins (fence 3) s ≡ true → begins (fence 1) r ≡ false
@@ -146,7 +147,7 @@ fewer (suc n) [] e = e
 fewer (suc n) (c ∷ s) e = let parts = and_parts (c == 45) (begins (fence (suc n)) s) e in
     rw (parts.0, fewer n s parts.1) refl
 
--- over a character that begins no three dashes
+-- The invariant still holds after a character at which no three dashes start.
 over : (blank : Bool) (c : ℕ) (r s : List ℕ) → begins (fence 3) (c ∷ s) ≡ false → IsAt blank r (c ∷ s)
     → IsAt (blank_past blank c) (c ∷ r) s
 over blank c r s none at = record {
@@ -166,7 +167,7 @@ over blank c r s none at = record {
       false_from_ne_true _ (λ f. either-way (begins (fence 2) (c ∷ s)) (rw (p.0, f) refl) (at.one p.1 fresh));
 }
 
--- over three dashes that are not lone
+-- The search can skip three dashes that are not lone.
 past_three : (r s : List ℕ) → standing r ≡ false → begins (fence 1) r ≡ false
     → first_lone true 0 s ≡ least (λ i. lone_at (45 ∷ 45 ∷ 45 ∷ r) i s) (length s)
     → first_lone false 0 (fence 3 ++ s) ≡ least (λ i. lone_at r i (fence 3 ++ s)) (length (fence 3 ++ s))

@@ -1,4 +1,4 @@
--- Quoted text is in its language, and what is there is read so.
+-- Quoted text: the scanners read exactly the language.
 use Rattle.std.proofs.Common.{◌≡◌, ℕ, ◌==◌, ◌||◌, not, Bool, true, false, true≢false, List, [], ◌∷◌, ◌++◌, length, take}
 use Rattle.std.proofs.Common.{drop, codes, refl, sym, ap, ◌∙◌, subst, arith, take-append-drop}
 use Rattle.std.proofs.lemmas.Bool.{and_parts, eqb-true, not-true, or_parts, or_cases, or_from}
@@ -13,7 +13,7 @@ use Rattle.rustc_lexer.specs.model.Scan.{begins}
 
 -- ---- one pass
 
--- a text behind the backslash that escapes its first character, if one does
+-- Returns a text with the backslash that escapes its first character, if it is escaped.
 abbrev behind : Bool → List ℕ → List ℕ
 behind true w = 92 ∷ w
 behind false w = w
@@ -22,7 +22,7 @@ module _ (quote : ℕ) (test : List ℕ → Bool) (special : ℕ → Bool) (goes
     → test (c ∷ s) ≡ false)
     (straight : (c : ℕ) → special c ≡ false → is_backslash c ≡ false)
     (slashed : (s : List ℕ) → test (92 ∷ s) ≡ false) where
-  -- what goes up to an end is read as far as the end is
+  -- Text up to an end is read if the end is read.
   pub quoted-read : {end w : List ℕ} → QuotedTo end special w → (next : List ℕ) (t : Bool)
       → quoted quote test (end ++ next) ≡ (t, length end) → quoted quote test (w ++ next) ≡ (t, length w)
   quoted-read ends next t e = e
@@ -32,14 +32,15 @@ module _ (quote : ℕ) (test : List ℕ → Bool) (special : ℕ → Bool) (goes
       rw (slashed (c ∷ w ++ next)) (ap (λ (r : Bool × ℕ). one_past (one_past r)) (quoted-read q next t e))
 
   module _ (Is : List ℕ → Bool → List ℕ → Type 0) where
-    -- w goes up to an end, and so is what each text is that goes up to that
+    -- Holds if w continues to an end, and every text that continues to this end is in the language.
     abbrev pub Ends : List ℕ → Bool → List ℕ → Type 0
     Ends next t w = (end : List ℕ) × QuotedTo end special w × ((v : List ℕ) → QuotedTo end special v → Is next t v)
 
     abbrev pub Sound : Bool → List ℕ → Type 0
     Sound escaped s = let r = quoted_from quote test escaped s in Ends (drop r.1 s) r.0 (behind escaped (take r.1 s))
 
-    -- where a text has an end, and one may be of no more than a backslash, what is read has one
+    -- Everything that is read continues to an end, if the end of the text, a single backslash before it, and every
+    -- special character are ends.
     pub quoted-sound : ((v : List ℕ) → QuotedTo [] special v → Is [] false v)
         → ((v : List ℕ) → QuotedTo (92 ∷ []) special v → Is [] false v)
         → ((c : ℕ) (s : List ℕ) → special c ≡ true → is_backslash c ≡ false → Sound false (c ∷ s))
@@ -105,11 +106,11 @@ single-straight c e =
 abbrev past_quote : List ℕ → Bool × ℕ
 past_quote s = quoted 39 at_single_stop s
 
--- whether a quote or a slash is the one character before a quote
+-- Whether the text starts with a quote or a slash, and then a quote.
 abbrev is_lone_stop : List ℕ → Bool
 is_lone_stop s = begins (codes "''") s || begins (codes "/'") s
 
--- where neither is, the pass reads one character and a quote, too
+-- Otherwise the pass also reads one character and a quote.
 lone-passed : (s : List ℕ) → is_lone_stop s ≡ false → is_lone s ≡ true → past_quote s ≡ (true, 2)
 lone-passed s none e = grind (arith, common_steps, eqb-true, and_parts, or_parts)
 
@@ -120,14 +121,14 @@ no-lone_stop : {end w : List ℕ} → SingleTo end w → (next : List ℕ) → (
     → is_lone_stop (w ++ next) ≡ false
 no-lone_stop w0 next w1 = grind (arith, common_steps, or_parts)
 
--- up to an end
+-- Text up to an end is read.
 single-to : {end w : List ℕ} → SingleTo end w → (next : List ℕ) (t : Bool)
     → (w ≡ end → is_lone_stop (w ++ next) ≡ false) → past_quote (end ++ next) ≡ (t, length end)
     → single_quoted_string (w ++ next) ≡ (t, length w)
 single-to {w = w} q next t free e = single-free (w ++ next) (no-lone_stop q next free)
     ∙ quoted-read 39 at_single_stop is_single single-goes single-straight (λ s. refl) q next t e
 
--- the character that is next, where it is this one
+-- A text whose next character is d starts with d.
 is-next : (d : ℕ) (s : List ℕ) → NextIn (d ∷ []) s → s ≡ d ∷ drop 1 s
 is-next d s w2 = grind (arith, common_steps, or_cases, eqb-true)
 
@@ -153,11 +154,11 @@ single-read {next} (lit.unclosed none q) =
 single-read {next} (lit.unclosed_escape none q) =
     single-to q next false (λ e. ap (λ v. is_lone_stop (v ++ next)) e) (ap (λ s. past_quote (92 ∷ s)) none)
 
--- what is not one character and a quote begins with none
+-- A text that does not start with one character and a quote does not start with this character and a quote.
 lone-none : (d : ℕ) (s : List ℕ) → (d == 92) ≡ false → is_lone s ≡ false → begins (d ∷ 39 ∷ []) s ≡ false
 lone-none d w1 ne e = grind (arith, common_steps, eqb-true)
 
--- what is read is in the language, where no one character and a quote begin the text
+-- Holds if w is in the language, unless the text starts with one character and a quote.
 abbrev Free : List ℕ → Bool → List ℕ → Type 0
 Free next t w = is_lone (w ++ next) ≡ false → IsSingleQuoted next t w
 

@@ -1,4 +1,4 @@
--- Raw strings are in their language, and what is there is read so.
+-- Raw strings: the scanner reads exactly the language.
 use Rattle.std.proofs.Common.{◌≡◌, ℕ, zero, suc, ◌+◌, ◌≤◌, ◌==◌, nat_le, true, false, true≢false, List, [], ◌∷◌, ◌++◌}
 use Rattle.std.proofs.Common.{length, take, drop, codes, refl, sym, ap, ◌∙◌, subst, arith, append_assoc, length-append}
 use Rattle.std.proofs.Common.{Option, Some, None, Err}
@@ -28,11 +28,11 @@ pub hash_run-hashes : (n : ℕ) (v : List ℕ) → hash_run (hashes n ++ v) ≡ 
 hash_run-hashes zero v = omega arith
 hash_run-hashes (suc n) v = omega (arith, hash_run-hashes n v)
 
--- hashes that no more of them follow
+-- A run of n hashes has length n, if no further hash follows.
 pub guard-hashes : (n : ℕ) (v : List ℕ) → NextIsNot is_hash v → hash_run (hashes n ++ v) ≡ n
 guard-hashes n v stop = omega (arith, hash_run-hashes n v, run_len-none is_hash v stop)
 
--- where so many hashes stand
+-- A text with at least n hashes in front starts with n hashes.
 pub split-hashes : (n : ℕ) (s : List ℕ) → n ≤ hash_run s → s ≡ hashes n ++ drop n s
 split-hashes zero s le = refl
 split-hashes (suc n) [] le = absurd (omega arith)
@@ -42,12 +42,12 @@ split-hashes (suc n) (c ∷ s) le = by_either (is_hash c)
     ap (λ (x : ℕ). x ∷ s) (eqb-true c 35 e) ∙ ap (λ (xs : List ℕ). 35 ∷ xs) (split-hashes n s (omega arith)))
     (λ e. let none : hash_run (c ∷ s) ≡ 0 = rw e refl in absurd (omega arith))
 
--- no hash of a run is behind a quote
+-- A run of hashes ends before a quote.
 pub hash_run-before : (w z : List ℕ) → hash_run (w ++ 34 ∷ z) ≡ hash_run w
 hash_run-before [] z = refl
 hash_run-before (c ∷ w) z = grind (arith, common_steps, hash_run-before w z)
 
--- ---- where a string closes
+-- ---- the end of a raw string
 
 closes-here : (n : ℕ) (v : List ℕ) → closes n (34 ∷ hashes n ++ v) ≡ true
 closes-here n v = le-leb n (hash_run (hashes n ++ v)) (omega (arith, hash_run-hashes n v))
@@ -63,7 +63,7 @@ pub lacks-front : (n c : ℕ) (w : List ℕ) → NoQuoteWith n (c ∷ w) → n �
 lacks-front n c w lacks le e =
     lacks [] (drop n w) (ap (λ (x : ℕ). x ∷ w) e ∙ ap (λ (xs : List ℕ). 34 ∷ xs) (split-hashes n w le))
 
--- the first quote with its hashes
+-- The first quote with its hashes is found.
 pub close-read : (n : ℕ) (w next : List ℕ) → NoQuoteWith n w → close n (w ++ (34 ∷ hashes n ++ next)) ≡ Some (length w)
 close-read n [] next lacks = rw (closes-here n next) refl
 close-read n (c ∷ w) next lacks =
@@ -81,7 +81,7 @@ unclosed-read n (c ∷ w) lacks =
     lacks-front n c w lacks parts.1 parts.0) in
     rw open_here (ap one_more (unclosed-read n w (lacks-rest n c w lacks)))
 
--- the first quote with its hashes, if there is one
+-- Holds if the text has a first quote with n hashes, or none.
 pub data Closing (n : ℕ) : List ℕ → Type 0 where
   found : (w z : List ℕ) → NoQuoteWith n w → Closing n (w ++ (34 ∷ hashes n ++ z))
   lost : {u : List ℕ} → NoQuoteWith n u → Closing n u
@@ -90,7 +90,7 @@ pub nothing-lacks : (n : ℕ) → NoQuoteWith n []
 nothing-lacks n u v e = absurd (let no : 0 ≡ length (u ++ (34 ∷ hashes n ++ v)) = ap length e in
     omega (arith, length-append u (34 ∷ hashes n ++ v)))
 
--- a character more in front, where no quote with its hashes stands
+-- One more character in front adds no quote with its hashes.
 lacks-more : (n c : ℕ) (w u rest : List ℕ) → w ++ rest ≡ u → closes n (c ∷ u) ≡ false → NoQuoteWith n w
     → NoQuoteWith n (c ∷ w)
 lacks-more n c w u rest whole open_here lacks [] v e = grind (arith, common_steps, append_assoc, closes-here)
@@ -110,9 +110,9 @@ closing n (c ∷ u) = by_either (closes n (c ∷ u))
     more {u} e (found w z lacks) = found (c ∷ w) z (lacks-more n c w u (34 ∷ hashes n ++ z) refl e lacks)
     more {u} e (lost lacks) = lost (lacks-more n c u u [] (append-nil u) e lacks)
 
--- ---- what is read past the `r`
+-- ---- the result after the `r`
 
--- past hashes that no more of them follow
+-- Reading n hashes gives the result of the text after them, if no further hash follows.
 past-hashes : (p n : ℕ) (v : List ℕ) → NextIsNot is_hash v
     → raw_read p (hashes n ++ v) ≡ ((raw_starter p n v).0, n + (raw_starter p n v).1)
 past-hashes p n v stop = grind (arith, common_steps, guard-length, drop-append_seam, guard-hashes)
@@ -136,11 +136,11 @@ no_quote-read p n c next out =
 pub no_more-read : (p n : ℕ) → raw_read p (hashes n) ≡ (Err (InvalidStarter 0), n + 0)
 no_more-read p n = ap (raw_read p) (sym (append-nil (hashes n))) ∙ past-hashes p n [] refl
 
--- how many hashes a good string has, and how much is taken
+-- Returns the number of hashes of a well-formed string, and the length of the text that is read.
 abbrev pub raw_seen : List ℕ → Option ℕ × ℕ
 raw_seen s = (accepted (raw_read 0 s).0, (raw_read 0 s).1)
 
--- a closed one, before what follows it
+-- A terminated string before a text can be regrouped at its closing quote.
 pub whole-text : (n : ℕ) (w next : List ℕ) → (hashes n ++ (34 ∷ w ++ 34 ∷ hashes n)) ++ next ≡
     hashes n ++ (34 ∷ w ++ (34 ∷ hashes n ++ next))
 whole-text n w next = append_assoc (hashes n) (34 ∷ w ++ 34 ∷ hashes n) next
@@ -157,9 +157,9 @@ raw-read {next} (lit.no_quote n c out) =
     grind (arith, common_steps, append_assoc, no_quote-read 0 (suc n) c next out, length-append, guard-length)
 raw-read {next} (lit.no_more n none) = grind (arith, common_steps, append-nil, no_more-read 0 (suc n), guard-length)
 
--- ---- and what is read is one of these
+-- ---- everything that the scanner reads is a raw string
 
--- the hashes at the front, and what follows them
+-- A text consists of the hashes at its front and the text after them.
 pub record Guarded (s : List ℕ) : Type 0 where
   pub count : ℕ
   pub left : List ℕ
@@ -174,7 +174,7 @@ guarded s = record {
   stops = run-stops is_hash s;
 }
 
--- what stands past the `r`
+-- Lists the possible forms of the text after the `r`.
 pub data Shape : List ℕ → Type 0 where
   closed : (n : ℕ) (w next : List ℕ) → NoQuoteWith n w → Shape (hashes n ++ (34 ∷ w ++ (34 ∷ hashes n ++ next)))
   unclosed : (n : ℕ) (w : List ℕ) → NoQuoteWith n w → Shape (hashes n ++ 34 ∷ w)

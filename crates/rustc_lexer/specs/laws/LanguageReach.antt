@@ -1,4 +1,4 @@
--- How far a token of each kind looks can be read off the conditions of the language on what follows.
+-- How far a token of each kind looks ahead, derived from the conditions of the language on the text after it.
 use Rattle.std.proofs.Common.{◌≡◌, ℕ, ◌<◌, ◌==◌, ◌&&◌, if◌then◌else◌, Bool, true, false, true≢false, List, [], ◌∷◌}
 use Rattle.std.proofs.Common.{◌++◌, take, codes, refl, sym, ap, ◌∙◌, subst, arith, Option, None, bytes_eq}
 use Rattle.std.proofs.lemmas.Bool.{and_parts, or_parts, eqb-true}
@@ -25,7 +25,7 @@ use Rattle.rustc_lexer.specs.model.Ident.{begins_hash_ident}
 use Rattle.rustc_lexer.specs.laws.NumberLongest.{number-looks, number_reach, number-alike}
 use Rattle.rustc_lexer.specs.laws.Reach.{begins-decided, cut, decided_same, next_is-decided, past}
 
--- ---- one character, and the end
+-- ---- one character, and the end of the text
 
 pub ends : (s u : List ℕ) → take 1 u ≡ take 1 s → s ≡ [] → u ≡ []
 ends s u w2 w3 = grind (arith, common_steps)
@@ -38,7 +38,7 @@ stays p s u e is = same p s u e ∙ is
 
 -- ---- literals
 
--- how far a literal looks, wherever its suffix begins
+-- Returns how far a literal looks ahead, wherever its suffix starts.
 abbrev pub literal_reach : LiteralKind → List ℕ → ℕ
 literal_reach kind w = reach (Literal kind 0) w
 
@@ -46,7 +46,7 @@ pub reach-literal : (kind : LiteralKind) (suffix_start : ℕ) (w : List ℕ) →
     literal_reach kind w
 reach-literal kind suffix_start w = grind (arith, common_steps)
 
--- of each number, what is of an integer and of a float
+-- A property of all integers and floats is a property of all numbers.
 pub number-kind : (P : LiteralKind → Type 0) → ((base : Base) (empty : Bool) → P (Int base empty))
     → ((base : Base) (empty : Bool) → P (Float base empty)) → {next : List ℕ} {kind : LiteralKind} {w : List ℕ}
     → HasNumberForm next kind w → P kind
@@ -61,7 +61,7 @@ number-kind P int float (number.of_parts whole (number.of_both ds digit are (num
     float _ _
 number-kind P int float (number.of_parts whole (number.of_both ds digit are (number.unsigned letter all))) = float _ _
 
--- how far a number looks
+-- The kind of a number alone decides how far the number looks ahead.
 number-reach : {next : List ℕ} {kind : LiteralKind} {w : List ℕ} → HasNumberForm next kind w → (v : List ℕ)
     → literal_reach kind v ≡ number_reach kind
 number-reach is v = number-kind (λ kind. literal_reach kind v ≡ number_reach kind) (λ base empty. refl)
@@ -77,17 +77,17 @@ double-alike : {next : List ℕ} {t : Bool} {w : List ℕ} → IsDoubleQuoted ne
     → take 1 other ≡ take 1 next → IsDoubleQuoted other t w
 double-alike w0 other e = search (arith, ends, lit.closed, lit.unclosed, lit.unclosed_escape)
 
--- two quotes that begin a text of which the first character is decided
+-- The first character after the text decides whether it starts with two quotes.
 lone-alike : (w s u : List ℕ) → take 1 u ≡ take 1 s → SingleTo (codes "'") w → begins (codes "''") (w ++ s) ≡ false
     → begins (codes "''") (w ++ u) ≡ false
 lone-alike w0 s u e q f = grind (arith, common_steps)
 
--- past a quote, where one closes the text
+-- A terminated text in single quotes depends on at most one character after it.
 single-alike : {next : List ℕ} {t : Bool} {w : List ℕ} → IsSingleQuoted next t w → t ≡ true → (other : List ℕ)
     → take 1 other ≡ take 1 next → IsSingleQuoted other t w
 single-alike w0 t other e = search (arith, lone-alike, lit.one, lit.closed, lit.closed_line)
 
--- and where none does
+-- Every text in single quotes depends on at most two characters after it.
 open-alike : {next : List ℕ} {t : Bool} {w : List ℕ} → IsSingleQuoted next t w → (other : List ℕ)
     → take 2 other ≡ take 2 next → IsSingleQuoted other t w
 open-alike {next} (lit.one out) other e = lit.one out
@@ -106,7 +106,7 @@ open-alike {next} (lit.unclosed none q) other e =
 open-alike {next} (lit.unclosed_escape none q) other e =
     lit.unclosed_escape (ends next other (cut 1 2 other next (omega arith) e) none) q
 
--- of what follows a raw string, at most the end matters
+-- A raw string depends at most on whether the text ends after it.
 pub raw-alike : {next : List ℕ} {o : Option ℕ} {w : List ℕ} → IsRaw next o w → (other : List ℕ)
     → (o ≡ None → next ≡ [] → other ≡ []) → IsRaw other o w
 raw-alike w0 other ended = search (arith, lit.closed, lit.too_many, lit.unclosed, lit.no_quote, lit.no_more)
@@ -115,7 +115,7 @@ pub suffix-alike : {next w : List ℕ} → IsSuffixBefore next w → (other : Li
     → IsSuffixBefore other w
 suffix-alike w0 other e = grind (arith, common_steps, stays, lit.none, lit.some)
 
--- a character behind a quote that one closes, and what follows
+-- A terminated text that does not start with a name does not start with one together with the text after it either.
 closed-first : {next : List ℕ} {t : Bool} {w : List ℕ} → IsSingleQuoted next t w → t ≡ true → NextIsNot is_name_start w
     → (s : List ℕ) → NextIsNot is_name_start (w ++ s)
 closed-first other t stop s = grind (arith, common_steps, end-stops)
@@ -125,7 +125,7 @@ closed-reach : {next : List ℕ} (w : List ℕ) → IsSingleQuoted next true w �
 closed-reach w q stop s = let first : next_is is_name_start (w ++ s) ≡ false = closed-first q refl stop s in
     rw first refl
 
--- what may have a suffix looks at something
+-- A literal that can have a suffix looks ahead.
 pub literal-looks : {next : List ℕ} {kind : LiteralKind} {takes : Bool} {w : List ℕ} → IsLiteralBefore next kind takes w
     → takes ≡ true → (s : List ℕ) → 0 < literal_reach kind (w ++ s)
 literal-looks w0 w1 s = grind (arith, common_steps, number-reach, number-looks, and-false, closed-reach)
@@ -155,7 +155,7 @@ literal-alike {next} (lit.raw_c_str q) s other e = lit.raw_c_str (raw-alike q ot
 
 -- ---- prefixes
 
--- in a word of two characters or more, or of another one, no hash stands behind this character
+-- A text that starts with a word other than the letter `d` does not start with `d`, a hash and an identifier.
 pub no-hash : (d c : ℕ) (w s : List ℕ) → AreAll is_word_continue w → bytes_eq (c ∷ w) (d ∷ []) ≡ false
     → begins_ident_after (d ∷ 35 ∷ []) (c ∷ w ++ s) ≡ false
 no-hash d c [] s all e = rw (sym (and-true (c == d)) ∙ e) refl
@@ -165,7 +165,7 @@ no-hash d c (x ∷ w) s all e =
     (word-no_prefix_end x (and_parts (is_word_continue x) (list_all is_word_continue w) all).0)).0 in
     rw (none, and-false (c == d)) refl
 
--- a known prefix is decided by what ends it: letters, and then any character that ends a prefix
+-- Whether a text starts with a known prefix does not depend on the text after a character that ends a prefix.
 prefix_end-decided : (letters w : List ℕ) (m c : ℕ) (u v : List ℕ) → list_all is_word_continue letters ≡ true
     → ends_prefix c ≡ true → begins (letters ++ (m ∷ [])) (w ++ c ∷ v) ≡ begins (letters ++ (m ∷ [])) (w ++ c ∷ u)
 prefix_end-decided [] [] m c u v all is_end = refl
@@ -191,14 +191,14 @@ known-decided w c u v is_end = rw (
   prefix_end-decided (codes "cr") w 35 c u v refl is_end,
 ) refl
 
--- by whether a prefix is the one that looks further
+-- A proof can distinguish whether a prefix looks ahead further than other prefixes.
 pub by_only : {A : Type 0} (b : Bool) (other next : List ℕ)
     → take (if b then 2 else 1) other ≡ take (if b then 2 else 1) next → (b ≡ true → take 2 other ≡ take 2 next → A)
     → (b ≡ false → take 1 other ≡ take 1 next → A) → A
 by_only true other next e two one = two refl e
 by_only false other next e two one = one refl e
 
--- the letter that looks further
+-- A prefix that equals one letter, byte by byte, is that letter.
 one-letter : (w : List ℕ) (d : ℕ) → bytes_eq w (d ∷ []) ≡ true → w ≡ d ∷ []
 one-letter [] d e = absurd (true≢false (sym e))
 one-letter (c ∷ []) d e = ap (λ (x : ℕ). x ∷ []) (eqb-true c d (and_parts (c == d) true e).0)

@@ -1,4 +1,4 @@
--- Why a raw string is refused is what the language says, and nothing else is.
+-- Errors of raw strings: the model finds exactly the error that the language defines.
 use Rattle.std.proofs.Common.{◌≡◌, ◌↔◌, ℕ, zero, suc, ◌+◌, ◌<◌, ◌≤◌, ◌==◌, nat_le, Bool, true, false, if◌then◌else◌}
 use Rattle.std.proofs.Common.{List, [], ◌∷◌, ◌++◌, length, take, drop, refl, sym, ap, ◌∙◌, subst, arith, append_assoc}
 use Rattle.std.proofs.Common.{length-append, Option, Some, None, Result, Ok, Err}
@@ -21,7 +21,7 @@ use Rattle.rustc_lexer.specs.laws.LanguageRaw.{hash_run-hashes, hash_run-before,
 use Rattle.rustc_lexer.specs.laws.LanguageRaw.{found, lost, closing, whole-text, closed-read, open-read, no_quote-read}
 use Rattle.rustc_lexer.specs.laws.LanguageRaw.{no_more-read, Shape, closed, unclosed, no_quote, no_more, shape}
 
--- ---- the most hashes behind a quote
+-- ---- the maximum number of hashes after a quote
 
 few-here : (m c : ℕ) (w : List ℕ) → NoQuoteWith (suc m) (c ∷ w) → quote_hashes (c ∷ w) ≤ m
 few-here m c w lacks = grind (arith, common_steps, lacks-front (suc m) c w lacks, eqb-true)
@@ -38,7 +38,7 @@ most-many (c ∷ u) v =
 lacks-past : (m : ℕ) (w : List ℕ) → most_hashes w < m → NoQuoteWith m w
 lacks-past m w lt u v e = absurd (omega (arith, lt, ap most_hashes e, most-many u (hashes m ++ v), hash_run-hashes m v))
 
--- the first quote with so many
+-- The first quote with this number of hashes is found.
 quote-first : (m : ℕ) (u v : List ℕ) → 0 < m → NoQuoteWith m u → hash_run (hashes m ++ v) ≡ m
     → quote_with m (u ++ (34 ∷ hashes m ++ v)) ≡ Some (length u)
 quote-first m [] v some lacks e = let here : (hash_run (hashes m ++ v) == m) ≡ true =
@@ -48,7 +48,7 @@ quote-first m (c ∷ u) v some lacks e =
     grind (arith, common_steps, hash_run-before u (hashes m ++ v), lacks-front m c u lacks, eqb-true) in
     rw other (ap one_more (quote-first m u v some (lacks-rest m c u lacks) e))
 
--- where it ends
+-- The first such quote ends at this offset.
 end-at : (start m : ℕ) (u v : List ℕ) → start + bytes_of (suc (length u)) (u ++ (34 ∷ hashes m ++ v)) ≡
     start + bytes (u ++ 34 ∷ [])
 end-at start m u v =
@@ -83,7 +83,7 @@ best-read start {w} (the.best {n = m} u v some whole lacks most_so) =
           ∙ ap Some (end-at start m u v))));
     }
 
--- one of them there is
+-- Holds if the text has a likely end.
 record HasBest (start : ℕ) (w : List ℕ) : Type 0 where
   count : ℕ
   end : Option ℕ
@@ -106,7 +106,7 @@ has-best start w = by_most (most_hashes w) refl
     by_most zero e = record { count = 0; end = None; is = the.none (lacks-past 1 w (omega (arith, e))) }
     by_most (suc m) e = some-best m e (closing (suc m) w)
 
--- ---- the answer
+-- ---- the result
 
 answer-read : {p : ℕ} {s : List ℕ} {r : Result Unit RawStrError} → IsRawAnswer p s r → r ≡ checked (raw_read p s).0
 answer-read {p} (the.good {next = next} (lit.closed n w le lacks)) =
@@ -117,7 +117,7 @@ answer-read {p} (the.unclosed n w lacks is_best) = let b = best-read (p + suc n)
 answer-read {p} (the.no_quote n c next out) = grind (arith, common_steps, no_quote-read)
 answer-read {p} (the.no_more n) = grind (arith, common_steps, no_more-read)
 
--- there is one
+-- Holds if the check has a result.
 record HasAnswer (p : ℕ) (s : List ℕ) : Type 0 where
   answer : Result Unit RawStrError
   is : IsRawAnswer p s answer
@@ -138,7 +138,7 @@ has-answer p s = by_shape (shape s)
     by_shape (no_quote n c next out) = record { answer = Err (InvalidStarter c); is = the.no_quote n c next out }
     by_shape (no_more n) = record { answer = Err (InvalidStarter 0); is = the.no_more n }
 
--- this one and no other
+-- The model's result is the only one.
 pub raw-answer : (text : List ℕ) (p : ℕ) (other : Result Unit RawStrError) → IsRawAnswer p (drop p (chars text)) other
     ↔ (other ≡ check_raw text p)
 unfolding check_raw

@@ -1,4 +1,4 @@
--- What the language says of runs, and which family the first character of a text chooses.
+-- Runs in the language, and the family that the first character of a text selects.
 use Rattle.std.proofs.Common.{◌≡◌, ℕ, suc, ◌≤◌, ◌<◌, ◌==◌, ◌&&◌, ◌||◌, inl, inr, nat_le, not, Bool, true, false}
 use Rattle.std.proofs.Common.{true≢false, List, [], ◌∷◌, ◌++◌, length, take, drop, codes, refl, sym, ap, ◌∙◌, arith}
 use Rattle.std.proofs.Common.{take_all}
@@ -23,7 +23,7 @@ use Rattle.rustc_lexer.specs.model.Scan.{after, next_is, begins, run_len}
 
 -- ---- runs
 
--- a run ends where what follows stops it
+-- A run ends where the text after it stops it.
 pub run_len-here : (p : ℕ → Bool) (w next : List ℕ) → AreAll p w → NextIsNot p next → run_len p (w ++ next) ≡ length w
 run_len-here p [] [] all stop = refl
 run_len-here p [] (c ∷ next) all stop = run_len-out p c next stop
@@ -36,21 +36,21 @@ run_len-here p (c ∷ w) next all stop =
       run_len-here p w next (and_parts (p c) (list_all p w) all).1 stop,
     )
 
--- what follows a run stops it
+-- The text after a run stops the run.
 pub run-stops : (p : ℕ → Bool) (s : List ℕ) → NextIsNot p (drop (run_len p s) s)
 run-stops p [] = refl
 run-stops p (c ∷ s) = by_test (λ n. NextIsNot p (drop n (c ∷ s))) (p c) (suc (run_len p s)) 0 (λ e. run-stops p s)
     (λ e. e)
 
--- no character of one class is in the other
+-- Two classes have no character in common.
 pub apart : (p q : ℕ → Bool) (s : List ℕ) → ((c : ℕ) → p c ≡ true → q c ≡ false) → NextIs p s → NextIsNot q s
 apart p q s w3 w4 = grind (arith, common_steps)
 
--- what is in a class is no character that is not
+-- A character in a class differs from every character outside it.
 pub other_than : (p : ℕ → Bool) (k d : ℕ) → p k ≡ false → p d ≡ true → (d == k) ≡ false
 other_than p k d out in_class = ne_eqb d k (λ e. true≢false (sym in_class ∙ (ap p e ∙ out)))
 
--- what holds of each character in a list
+-- A property of each character in a list is a property of every character that is among them.
 pub among : (f : ℕ → Bool) (ds : List ℕ) → list_all f ds ≡ true → (c : ℕ) → is_among ds c ≡ true → f c ≡ true
 among f [] all c e = absurd (true≢false (sym e))
 among f (d ∷ ds) all c e = let parts = and_parts (f d) (list_all f ds) all in
@@ -64,7 +64,7 @@ pub none-among : (f : ℕ → Bool) (ds : List ℕ) → list_all (λ d. not (f d
     → f c ≡ false
 none-among f ds all c e = not-true (f c) (among (λ d. not (f d)) ds all c e)
 
--- no white space is in the class
+-- Holds if the class contains no whitespace.
 abbrev pub IsSolid : (ℕ → Bool) → Type 0
 IsSolid p = (c : ℕ) → is_whitespace c ≡ true → p c ≡ false
 
@@ -77,7 +77,7 @@ solid-by p all c e = none-among p spaces all c e
 pub either-way : {A : Type 0} (b : Bool) → b ≡ true → b ≡ false → A
 either-way b t f = absurd (true≢false (sym t ∙ f))
 
--- ---- classes that do not meet
+-- ---- disjoint classes
 
 space-no_word_start : IsSolid is_word_start
 unfolding unicode_ident is_emoji emoji_ranges
@@ -90,7 +90,7 @@ word_start-no_space c e =
 pub digit-small : (d : ℕ) → is_ascii_digit d ≡ true → d < 128
 digit-small d t = let le : d ≤ 57 = leb-true d 57 (and_parts (nat_le 48 d) (nat_le d 57) t).1 in omega arith
 
--- a digit is no white space, begins no word and ends no prefix
+-- A digit is not whitespace, starts no word and ends no prefix.
 pub digit-other : (d : ℕ) → is_ascii_digit d ≡ true
     → (is_whitespace d || (is_word_start d || ((d == 47) || ends_prefix d))) ≡ false
 unfolding unicode_ident is_emoji emoji_ranges
@@ -104,7 +104,7 @@ word_start-no_digit c e =
     (λ d. either-way (is_word_start c) e
     (or_parts (is_word_start c) _ (or_parts (is_whitespace c) _ (digit-other c d)).1).0)
 
--- what ends a prefix is in no word
+-- A character that ends a prefix is in no word.
 prefix_end-no_word : (c : ℕ) → ends_prefix c ≡ true → is_word_continue c ≡ false
 unfolding unicode_ident is_emoji emoji_ranges
 prefix_end-no_word c e = none-among is_word_continue (codes "#\"'") refl c e
@@ -119,7 +119,7 @@ prefix_end-stops s = apart ends_prefix is_word_continue s prefix_end-no_word
 pub start-word_start : (c : ℕ) → is_id_start c ≡ true → is_word_start c ≡ true
 start-word_start c e = or_left (is_id_start c) (is_emoji c) e
 
--- letters that more than a word may begin with
+-- The letters r, k, b and c, which can start more than a word, can start an identifier.
 pub letters-start : (is_id_start 114 ≡ true) × (is_id_start 107 ≡ true) × (is_id_start 98 ≡ true)
     × (is_id_start 99 ≡ true)
 unfolding unicode_ident
@@ -194,11 +194,11 @@ chooses-symbol c e = grind (arith, common_steps, or_parts, chooses)
 
 -- ---- tokens
 
--- what is read past the first character `c` is a token
+-- Holds if the text that is read after the first character c is a token together with c.
 abbrev pub Sound : ℕ → List ℕ → TokenKind × ℕ → Type 0
 Sound c s r = IsTokenBefore (drop r.1 s) r.0 (c ∷ take r.1 s)
 
--- the text is read as a token of this kind, in so many characters
+-- Holds if the scanner reads a token of this kind with n characters.
 abbrev pub Read : TokenKind → ℕ → List ℕ → Type 0
 Read kind n s = lexeme s ≡ (kind, n)
 
@@ -209,12 +209,12 @@ pub read-first : (c : ℕ) (scan : List ℕ → TokenKind × ℕ) (s : List ℕ)
     → scan s ≡ (kind, n) → suc n ≡ m → Read kind m (c ∷ s)
 read-first c scan s kind n m e f g = grind (arith, common_steps)
 
--- past one character more
+-- Reading one more character and then the rest gives a token, if the rest gives one.
 pub sound-after : (c d : ℕ) (s : List ℕ) (scan : List ℕ → TokenKind × ℕ)
     → IsTokenBefore (drop (scan s).1 s) (scan s).0 (c ∷ d ∷ take (scan s).1 s) → Sound c (d ∷ s) (after 1 scan (d ∷ s))
 sound-after c d s scan is = grind (arith, common_steps)
 
--- what is decided by the first characters is decided by a front that has them
+-- A result that the first j characters decide is decided by any prefix with j characters.
 pub decided-front : {B : Type 0} (j : ℕ) (f : List ℕ → B) → IsDecidedBy j f → (w next : List ℕ) → j ≤ length w
     → f (w ++ next) ≡ f w
 decided-front j f decided w next le =
@@ -224,7 +224,7 @@ decided-front j f decided w next le =
 pub begins-next : (d : ℕ) (s : List ℕ) → begins (d ∷ []) s ≡ next_is (is_among (d ∷ [])) s
 begins-next d w1 = grind (arith, common_steps)
 
--- what is read, of a text in two parts
+-- A property of the two parts of a text is a property of the text, cut at the length that is read.
 pub parted : {A : Type 0} (Is : List ℕ → A → List ℕ → Type 0) (v next s : List ℕ) (a : A) (r : A × ℕ) → v ++ next ≡ s
     → r ≡ (a, length v) → Is next a v → Is (drop r.1 s) r.0 (take r.1 s)
 parted {A} w1 v next s a r e f is = grind (arith, common_steps, take-append_seam, drop-append_seam)

@@ -1,4 +1,4 @@
--- What is taken for a shebang line is what the language says, and nothing else is.
+-- Shebang lines: the model finds exactly the line that the language defines.
 use Rattle.std.proofs.Common.{◌≡◌, ◌↔◌, ℕ, suc, ◌+◌, ◌==◌, ◌&&◌, ◌||◌, not, Bool, true, false, true≢false}
 use Rattle.std.proofs.Common.{if◌then◌else◌, List, [], ◌∷◌, ◌++◌, length, get_or, take, drop, codes, refl, sym, ap, ◌∙◌}
 use Rattle.std.proofs.Common.{subst, arith, length-append, Option, Some, None}
@@ -35,7 +35,7 @@ ts text = tokens_by first_token text
 abbrev has_bracket : TokenKind → List Token → Bool
 has_bracket kind tokens = if is_passed kind then is_attribute tokens else is_open_bracket kind
 
--- the tokens of a text that begins with one: it, and those of what is left
+-- If a text starts with a token, its other tokens are the tokens of the rest.
 first-step : (text : List ℕ) (kind : TokenKind) (c : ℕ) (w next : List ℕ) → IsText text → chars text ≡ c ∷ w ++ next
     → IsTokenBefore next kind (c ∷ w)
     → (left : List ℕ) × IsText left × (chars left ≡ next) × (is_attribute (ts text) ≡ has_bracket kind (ts left))
@@ -70,7 +70,7 @@ attribute-read (the.passed {kind} {c} {w} {next} among p rest) text is e =
     f.3 ∙ (ap (λ (b : Bool). if b then is_attribute (ts f.0) else is_open_bracket kind) (passes kind among)
     ∙ attribute-read rest f.0 f.1 f.2)
 
--- a bracket is what it is alone
+-- An opening bracket is the only symbol of its kind.
 among-bracket : (ss : List (ℕ × TokenKind)) (c : ℕ) → list_all (λ s. not (is_open_bracket s.1) || (s.0 == 91)) ss ≡ true
     → is_open_bracket (kind_among ss c) ≡ true → c ≡ 91
 among-bracket [] c all e = absurd (true≢false (sym e))
@@ -90,7 +90,8 @@ bracket-view : {next : List ℕ} {kind : TokenKind} {w : List ℕ} → IsTokenBe
 bracket-view (grammar.symbol {c} is) e = ap (λ (x : ℕ). x ∷ []) (among-bracket symbols c refl e)
 bracket-view other e = absurd (true≢false (sym e))
 
--- by what the first token is
+-- A text is the rest of an attribute if its first token is a bracket, or a token that can be skipped before such a
+-- rest.
 attribute-first : (kind : TokenKind) (c : ℕ) (w next : List ℕ) (tokens : List Token) → IsTokenBefore next kind (c ∷ w)
     → has_bracket kind tokens ≡ true → (is_attribute tokens ≡ true → IsAttributeRest next)
     → IsAttributeRest (c ∷ w ++ next)
@@ -115,7 +116,7 @@ attribute-is text is = attribute-of (tokens-are text (part newest) is)
 
 -- ---- a line
 
--- a line ends where what follows ends it, if no carriage return and newline meet there
+-- A line ends where the text after it ends it, if the end does not split a CR LF.
 line_len-here : (w next : List ℕ) → AreAll is_inline w → line_len next ≡ 0
     → ((u : List ℕ) → w ≡ u ++ 13 ∷ [] → begins (codes "\n") next ≡ false)
     → line_len (w ++ next) ≡ length w
@@ -145,7 +146,7 @@ record HasLine (text : List ℕ) : Type 0 where
   whole : w ++ next ≡ text
   is : IsLineBefore next w
 
--- one character more, that no newline is and that does not begin the end
+-- One more character, which is neither a newline nor the start of the line ending, makes the line longer.
 longer : (c : ℕ) (w next : List ℕ) → (c == 10) ≡ false → begins (codes "\r\n") (c ∷ w ++ next) ≡ false
     → IsLineBefore next w → IsLineBefore next (c ∷ w)
 longer c w next e f (the.to_newline all n free) = the.to_newline (rw e all) n (no_return w f free)
@@ -180,7 +181,7 @@ has-line (c ∷ s) = by_either (c == 10)
       is = longer c ih.w ih.next e stands ih.is;
     }))
 
--- ---- the answer
+-- ---- the result
 
 pub hash_bang-utf8 : IsUtf8 (35 ∷ 33 ∷ [])
 unfolding encode
@@ -257,7 +258,7 @@ has-shebang text is = by_either (begins (codes "#!") text)
               ∙ (ap (λ (x : List ℕ). is_attribute (ts x)) l.whole ∙ f))) l.is;
         })
 
--- this one and no other
+-- The model's result is the only one.
 pub shebang-answer : (text : List ℕ) → IsText text → (other : Option ℕ) → IsShebang text other
     ↔ (other ≡ read_shebang text)
 shebang-answer text is other = (

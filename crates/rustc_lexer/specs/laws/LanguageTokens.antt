@@ -1,4 +1,4 @@
--- The tokens of a text are those that the language allows, and no other list of tokens is.
+-- The tokens of a text are the only list of tokens that the language allows.
 use Rattle.std.proofs.Common.{◌≡◌, ◌↔◌, ℕ, ◌+◌, ◌<◌, ◌≤◌, not, codes, append_assoc, Bool, true, false, List, [], ◌∷◌}
 use Rattle.std.proofs.Common.{◌++◌, length, take, drop, refl, sym, ap, ◌∙◌, subst, arith, length-append}
 use Rattle.std.proofs.{Math.Seq.{take-append_seam, drop-append_seam}, lemmas.Str.{chars-nil}}
@@ -23,7 +23,7 @@ use Rattle.rustc_lexer.specs.laws.LanguageIn.{token-read-in, first-front}
 use Rattle.rustc_lexer.specs.laws.LanguageFront.{empty-text, split}
 use Rattle.rustc_lexer.specs.laws.Tokens.{token_at-cuts, by_tokens, tokens-nil, tokens-cons}
 
--- ---- a list that the language allows is the list of the tokens
+-- ---- a list that the language allows is the list of tokens
 
 pub at-first : (mode : Mode) (text : List ℕ) → (is_source mode ≡ true → opens (chars text) ≡ false)
     → token_at mode text ≡ first_token_in (mode_edition mode) text
@@ -45,7 +45,7 @@ opening-some (opening n space label spaces no_line many is stop) =
 newline-same : (s : List ℕ) → next_is is_newline s ≡ next_is (is_among (codes "\n")) s
 newline-same w0 = grind (arith, common_steps)
 
--- the frontmatter of a text that begins with an opening
+-- A text that starts with an opening has this frontmatter.
 frontmatter-is : (text : List ℕ) (n : ℕ) (bad_label : Bool) (front rest : List ℕ) → IsText text
     → chars text ≡ front ++ rest → IsOpeningBefore rest n bad_label front
     → frontmatter text ≡
@@ -72,7 +72,7 @@ frontmatter-is text n bad_label front rest is e is_opening =
     ap (λ (k : ℕ). closing_end k (past_opening text)) count ∙ ap (closing_end n) past_is in
     cc (space, line, size, closes)
 
--- one token more
+-- One more token in front is read before the tokens of the rest.
 step : (mode : Mode) (text w next : List ℕ) (token : Token) (tokens : List Token) → IsText text → 0 < length w
     → chars text ≡ w ++ next → token_at mode text ≡ token → token.len ≡ bytes w
     → ((u : List ℕ) → IsText u → chars u ≡ next → read_tokens (mode_after mode token.kind) u ≡ tokens)
@@ -116,16 +116,16 @@ tokens-read (frontmatter_first {edition} {n} {bad_label} {opening = front} {next
     (at-frontmatter edition text (ap opens e ∙ r.opens_here) ∙ same) (sym (bytes-append front body))
     (λ u text_u f. tokens-read rest u text_u f)
 
--- ---- and the tokens are such a list
+-- ---- the list of tokens is allowed
 
--- what is left to show of a first token
+-- Holds if the language allows the token before the tokens of the rest, provided that it allows these.
 abbrev Puts : Mode → List ℕ → Token → Type 0
 Puts mode text t =
     AreTokens (mode_after mode t.kind) (chars (drop t.len text))
     (read_tokens (mode_after mode t.kind) (drop t.len text))
     → AreTokens mode (chars text) (t ∷ read_tokens (mode_after mode t.kind) (drop t.len text))
 
--- a token of the characters, and the tokens of what follows it
+-- A token of the characters can be put before the tokens of the text after it.
 put : (mode : Mode) (text : List ℕ) (kind : TokenKind) (c : ℕ) (w next : List ℕ) → IsText text
     → c ∷ w ++ next ≡ chars text → IsTokenIn (mode_edition mode) next kind (c ∷ w)
     → (is_source mode ≡ true → opens (chars text) ≡ false) → Puts mode text (token kind (bytes (c ∷ w)))
@@ -200,7 +200,7 @@ tokens-are = by_tokens AreOf
     (λ mode. rw (tokens-nil mode) (subst (λ (cs : List ℕ). AreTokens mode cs []) (sym chars-nil) nothing))
     (λ text mode is some rest. rw (tokens-cons mode text is some) (puts mode text is some rest))
 
--- these and no others
+-- The model's tokens are the only ones.
 pub language : (text : List ℕ) (mode : Mode) → IsText text → (tokens : List Token) → AreTokens mode (chars text) tokens
     ↔ (tokens ≡ read_tokens mode text)
 language text mode is tokens = (

@@ -1,4 +1,4 @@
--- Words are in their languages, and what is there is read so.
+-- Words: the scanners read exactly the language.
 use Rattle.std.proofs.Common.{◌≡◌, ℕ, suc, ◌+◌, ◌==◌, ◌&&◌, Bool, true, false, true≢false, if◌then◌else◌, List, [], ◌∷◌}
 use Rattle.std.proofs.Common.{◌++◌, length, take, drop, codes, refl, sym, ap, ◌∙◌, arith, take-append-drop}
 use Rattle.std.proofs.Math.Seq.{take-append_seam, drop-append_seam}
@@ -24,16 +24,16 @@ use Rattle.rustc_lexer.specs.model.Scan.{after, begins, next_is, run, run_len}
 
 -- ---- a choice by letters
 
--- of what follows each letter that may be more than the start of an identifier, and of what follows any other start
+-- A proof can distinguish each letter that can start more than an identifier, and any other start.
 pub by_letter : (P : ℕ → (List ℕ → TokenKind × ℕ) → Type 0) (c : ℕ) → P 114 letter_r → P 107 letter_k → P 98 letter_b
     → P 99 letter_c
     → ((c == 114) ≡ false → (c == 107) ≡ false → (c == 98) ≡ false → (c == 99) ≡ false → P c ident_or_unknown_prefix)
     → P c (word c)
 by_letter w0 c of_r of_k of_b of_c other = grind (arith, common_steps)
 
--- ---- what begins no identifier
+-- ---- texts that start no identifier
 
--- none of these begins the text
+-- Holds if the text starts with none of these.
 pub record BeginsNone (s : List ℕ) : Type 0 where
   pub r_quote : begins (codes "r\"") s ≡ false
   pub r_hash : begins (codes "r#") s ≡ false
@@ -49,7 +49,7 @@ pub record BeginsNone (s : List ℕ) : Type 0 where
 pub no-opening : (s : List ℕ) → BeginsNone s → begins_prefixed s ≡ false
 no-opening s n = grind (arith, common_steps, or_from)
 
--- nothing is next that opens a raw string
+-- A text that starts with neither a quote nor a hash opens no raw string.
 opens_raw-stops : (s : List ℕ) → begins (codes "\"") s ≡ false → begins (codes "#") s ≡ false → NextIsNot opens_raw s
 opens_raw-stops s w1 w2 = grind (arith, common_steps, or_from, or_parts, begins-next)
 
@@ -60,14 +60,14 @@ opens_raw-none w0 e = grind (arith, common_steps, or_parts, begins-next, or_from
 pub none-raw : (s : List ℕ) → begins_raw s ≡ false → (begins (codes "r\"") s ≡ false) × (begins (codes "r#") s ≡ false)
 none-raw w0 e = grind (arith, common_steps, opens_raw-none)
 
--- ---- what is read there as an identifier
+-- ---- identifiers that the scanner reads
 
 word-plain : (c : ℕ) (s : List ℕ) → begins_prefixed (c ∷ s) ≡ false → word c s ≡ ident_or_unknown_prefix s
 word-plain c = grind (arith, common_steps, by_letter, opens_raw-stops, or_parts)
 
--- ---- a word right before what ends a prefix
+-- ---- a word directly before a character that ends a prefix
 
--- where a word and what ends a prefix begin what a word and what follows it do, it is that word
+-- Holds if w is the word f, and the text after it starts with a character that ends a prefix.
 record IsWholeWord (f w next : List ℕ) : Type 0 where
   same : w ≡ f
   at_prefix_end : NextIs ends_prefix next
@@ -96,7 +96,7 @@ module _ (c : ℕ) (w next : List ℕ) (ws : AreAll is_word_continue w) (stop : 
       → begins (x ∷ f ++ m ∷ []) (c ∷ w ++ next) ≡ false
   no-front x f m is_end fs is = grind (arith, common_steps, false_from_ne_true, and_parts, whole-word, eqb-true)
 
-  -- a word that nothing follows that ends a prefix, or that is no identifier, begins nothing else
+  -- A word starts none of these if no character that ends a prefix follows it, or if it is not an identifier.
   pub word-no_opening : begins_prefixed (c ∷ w ++ next) ≡ false
   unfolding unicode_ident is_emoji emoji_ranges
   word-no_opening = no-opening (c ∷ w ++ next) record {
@@ -141,7 +141,7 @@ pub invalid-read : (c : ℕ) (w next : List ℕ) → is_word_start c ≡ true �
 invalid-read c w next start all wrong stop =
     grind (arith, plain-read, word-no_opening, read-first, chooses-emoji, run_len-here)
 
--- past a hash
+-- An identifier after a hash is read up to its end.
 hash_ident-read : (kind : TokenKind) (other : List ℕ → TokenKind × ℕ) (w next : List ℕ) → is_ident w ≡ true
     → NextIsNot is_id_continue next → hash_ident_or kind other (35 ∷ w ++ next) ≡ (kind, suc (length w))
 hash_ident-read kind other w2 next is stop = grind (arith, common_steps, and_parts, run_len-here)
@@ -157,7 +157,7 @@ pub keyword-read : (w next : List ℕ) → is_ident w ≡ true → NextIsNot is_
 keyword-read w next is stop = read-first 107 (word 107) (35 ∷ w ++ next) ForcedKeywordIdent (suc (length w)) _
     (chooses-word 107 letters-start.1) (hash_ident-read ForcedKeywordIdent ident_or_unknown_prefix w next is stop) refl
 
--- ---- and what is read is one of these
+-- ---- everything that the scanner reads is a word
 
 pub ident-sound : (c : ℕ) → is_id_start c ≡ true → (s : List ℕ) → begins_prefixed (c ∷ s) ≡ false
     → Sound c s (ident_or_unknown_prefix s)
@@ -182,7 +182,7 @@ pub invalid-sound : (c : ℕ) → is_id_start c ≡ false → is_emoji c ≡ tru
 invalid-sound c no_start emoji s = the.invalid_ident (rw (no_start, emoji) refl) (run_all is_word_continue s)
     (rw no_start refl) (run-stops is_word_continue s)
 
--- past a hash, where this is so of what may stand there
+-- A property of every hash with an identifier is a property of the hash and the identifier that are read.
 pub hash_ident-sound : (P : List ℕ → List ℕ → Type 0)
     → ((w next : List ℕ) → is_ident w ≡ true → NextIsNot is_id_continue next → P next (35 ∷ w)) → (s : List ℕ)
     → begins_hash_ident s ≡ true

@@ -1,10 +1,10 @@
--- The least offset at which a test passes.
+-- The first offset at which a test passes.
 use Rattle.std.proofs.lemmas.Grind.{common_steps}
 use Rattle.std.proofs.Common.{◌≡◌, ℕ, suc, ◌+◌, Bool, true, false, List, ◌∷◌, Option, Some, None, refl, arith}
 use Rattle.rustc_lexer.specs.model.Least.{one_more, more}
 use Rattle.rustc_lexer.specs.model.Raw.{least_offset}
 
--- the offset where a test passes
+-- A test that passes at the front has offset 0.
 module _ (test : List ℕ → Bool) where
   pub offset-here : (c : ℕ) (s : List ℕ) → test (c ∷ s) ≡ true → least_offset test (c ∷ s) ≡ Some 0
   offset-here c s e = rw e refl

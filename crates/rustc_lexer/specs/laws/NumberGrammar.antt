@@ -1,4 +1,4 @@
--- The number that is read stands at the front of its text.
+-- The number that the scanner reads has the form of a number.
 use Rattle.std.proofs.Common.{◌≡◌, ℕ, suc, ◌+◌, ◌==◌, not, Bool, true, false, true≢false, if◌then◌else◌, List, [], ◌∷◌}
 use Rattle.std.proofs.Common.{◌++◌, take, drop, refl, sym, ap, ◌∙◌, subst, take-add, drop-drop, arith, codes}
 use Rattle.std.proofs.lemmas.{Bool.{and_parts, eqb-true, not-true, or_parts}, List.{append-nil}}
@@ -16,14 +16,14 @@ use Rattle.rustc_lexer.specs.NumberGrammar.{IsExponent, signed, unsigned, IsTail
 use Rattle.rustc_lexer.specs.NumberGrammar.{of_exponent, of_both, HasNumberForm, of_prefix, of_parts}
 use Rattle.rustc_lexer.specs.model.Scan.{after, begins, gives, next_is, read_as, run_len}
 
--- what a scanner takes past one character, and what it leaves
+-- One character and the next n characters are the first n + 1 characters.
 take-one : (c n : ℕ) (s : List ℕ) → c ∷ take n s ≡ take (1 + n) (c ∷ s)
 take-one c n s = let one : suc n ≡ 1 + n = omega arith in ap (λ (k : ℕ). take k (c ∷ s)) one
 
 drop-one : (c n : ℕ) (s : List ℕ) → drop n s ≡ drop (1 + n) (c ∷ s)
 drop-one c n s = let one : suc n ≡ 1 + n = omega arith in ap (λ (k : ℕ). drop k (c ∷ s)) one
 
--- ---- what follows the whole part
+-- ---- the text after the whole part
 
 float_exponent-is : (base : Base) (e : ℕ) (s : List ℕ) → is_exponent_letter e ≡ true
     → IsExponent base (float_exponent base s).0 (e ∷ take (float_exponent base s).1 s)
@@ -39,7 +39,7 @@ float_exponent-is base e s letter =
         subst (λ (xs : List ℕ). IsExponent base (past_sign base s).0 (e ∷ xs)) (take-one g (past_sign base s).1 s)
         (signed letter t (run_all (or_underscore is_ascii_digit) s))
 
--- an exponent, or nothing, after a fraction
+-- After a fraction, an exponent or nothing is read.
 optional_exponent-is : (next : List ℕ) (base : Base) (d : ℕ) (ds s : List ℕ) → is_ascii_digit d ≡ true
     → AreDigits is_ascii_digit ds
     → IsTailBefore next base (optional_exponent base s).0 (46 ∷ d ∷ ds ++ take (optional_exponent base s).1 s)
@@ -56,7 +56,7 @@ optional_exponent-is next base d ds s digit are =
     at_letter (e ∷ s) t = subst (λ (xs : List ℕ). IsTailBefore next base (float_exponent base s).0 (46 ∷ d ∷ ds ++ xs))
         (take-one e (float_exponent base s).1 s) (of_both ds digit are (float_exponent-is base e s t))
 
--- a dot and what follows it, where neither a dot nor a name does
+-- A dot is read with the text after it, if this starts neither with a dot nor with a name.
 fraction-is : (base : Base) (s : List ℕ) → next_is is_no_fraction s ≡ false
     → IsTailBefore (drop (fraction base s).1 s) base (fraction base s).0 (46 ∷ take (fraction base s).1 s)
 unfolding fraction
@@ -85,7 +85,7 @@ fraction-is base s free =
         (subst (λ (xs : List ℕ). IsTailBefore next base (optional_exponent base (drop n s)).0 (46 ∷ d ∷ xs)) text
         is))
 
--- where no digit of the base goes on, as none does past a run of them
+-- After the digits, the text is read as the tail of a number, if no digit of the base is next.
 past_digits-is : (base : Base) (s : List ℕ) → next_is (is_digit_of base) s ≡ false
     → IsTailBefore (drop (past_digits base s).1 s) base (past_digits base s).0 (take (past_digits base s).1 s)
 past_digits-is base s stops = by_test (λ (r : LiteralKind × ℕ). IsTailBefore (drop r.1 s) base r.0 (take r.1 s))
@@ -116,18 +116,19 @@ past_digits-is base s stops = by_test (λ (r : LiteralKind × ℕ). IsTailBefore
 
 -- ---- the whole part
 
--- with its first digit, where no digit of the base goes on
+-- Holds if the result is the whole part of a number with its first digit, and the text after it does not start with a
+-- digit of the base.
 abbrev Whole : List ℕ → IntegerPart × ℕ → Type 0
 Whole s r = IsWholePart r.0.base r.0.empty_int (48 ∷ take r.1 s) × (next_is (is_digit_of r.0.base) (drop r.1 s) ≡ false)
 
--- past a run of digits and underscores is no digit
+-- A run of digits and underscores does not end before a digit.
 run-stops : (is_digit : ℕ → Bool) (s : List ℕ) → next_is is_digit (drop (run_len (or_underscore is_digit) s) s) ≡ false
 run-stops is_digit [] = refl
 run-stops is_digit (c ∷ s) = by_test (λ n. next_is is_digit (drop n (c ∷ s)) ≡ false) (or_underscore is_digit c)
     (suc (run_len (or_underscore is_digit) s)) 0 (λ t. run-stops is_digit s)
     (λ t. (or_parts (is_digit c) (is_underscore c) t).0)
 
--- a prefix of a base and its digits
+-- The prefix of a base is read with its digits.
 past_prefix-is : (letter : ℕ) (base : Base)
     → ((ds : List ℕ) → AreDigits (is_digit_of base) ds
     → IsWholePart base (not (list_any (is_digit_of base) ds)) (48 ∷ letter ∷ ds))
@@ -164,7 +165,7 @@ integer_part-is first s digit =
 
 -- ---- a number
 
--- what is read, up to its suffix, has the form of a number
+-- Up to its suffix, the text that is read has the form of a number.
 pub number-form : (first : ℕ) (s : List ℕ) → is_ascii_digit first ≡ true
     → HasNumberForm (drop (number_kind first s).1 s) (number_kind first s).0 (first ∷ take (number_kind first s).1 s)
 unfolding number_kind

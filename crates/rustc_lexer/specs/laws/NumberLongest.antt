@@ -1,4 +1,4 @@
--- The number that is read is the longest that stands at the front of its text.
+-- The number that the scanner reads is the longest number at the front of its text.
 use Rattle.std.proofs.Common.{◌≡◌, ℕ, suc, ◌+◌, ◌≤◌, ◌<◌, ◌==◌, ◌&&◌, ◌||◌, ◌⊎◌, inl, inr, not, Bool, true, false}
 use Rattle.std.proofs.Common.{true≢false, if◌then◌else◌, List, [], ◌∷◌, ◌++◌, length, take, drop, refl, sym, ap, ◌∙◌}
 use Rattle.std.proofs.Common.{subst, arith, codes, append_assoc, length-append, length-drop, take-append-drop}
@@ -29,7 +29,7 @@ use Rattle.rustc_lexer.specs.laws.LanguageRuns.{solid-by}
 
 -- ---- characters
 
--- one of two
+-- A property of two characters is a property of either.
 of_two : (P : ℕ → Type 0) (a b c : ℕ) → (c == a || c == b) ≡ true → P a → P b → P c
 of_two P a b c e at_a at_b =
     elim (or_cases (c == a) (c == b) e) [
@@ -63,7 +63,7 @@ digits-some : (base : Base) (s : List ℕ) → next_is is_ascii_digit s ≡ true
 digits-some base [] t = absurd (true≢false (sym t))
 digits-some base (d ∷ s) t = grind (arith, common_steps)
 
--- the letter of an exponent
+-- An exponent starts with its letter.
 exponent-next : {base : Base} {kind : LiteralKind} {t : List ℕ} → IsExponent base kind t → (left : List ℕ)
     → next_is is_exponent_letter (t ++ left) ≡ true
 exponent-next w0 left = grind (arith, common_steps)
@@ -72,13 +72,14 @@ exponent-no_digit : {base : Base} {kind : LiteralKind} {t : List ℕ} → IsExpo
     → next_is (or_underscore is_ascii_digit) (t ++ left) ≡ false
 exponent-no_digit w0 left = grind (arith, common_steps, of_two)
 
--- ---- what follows a number
+-- ---- the text after a number
 
--- two texts that may follow a number. D says that it goes on before the other one alone
+-- Two texts that can follow a number. `D` means that the number would continue only before `other`.
 module _ (next other : List ℕ) (D : Type 0) (differ : (p : ℕ → Bool) → IsSolid p → next_is p next ≡ false
     → next_is p other ≡ true → D)
     (same : next_is is_no_fraction other ≡ next_is is_no_fraction next) where
-  -- what a scanner reads within w before the one is read before the other, too, or more is
+  -- Holds if `scan` reads the same before both texts, or reads more before `other` and `D` holds, whenever it ends
+  -- within w before `next`.
   abbrev Grows : {A : Type 0} → (List ℕ → A × ℕ) → List ℕ → Type 0
   Grows scan w = (scan (w ++ next)).1 ≤ length w → (D × (length w < (scan (w ++ other)).1))
       ⊎ (scan (w ++ other) ≡ scan (w ++ next))
@@ -94,7 +95,7 @@ module _ (next other : List ℕ) (D : Type 0) (differ : (p : ℕ → Bool) → I
       → Grows (run_as (λ front rest. f front) p) w
   run-grows f p solid w le = grind (arith, common_steps, run_len-grows p solid w, take-append-le)
 
-  -- a choice by a test, at the end of w and before it
+  -- `Grows` holds for a choice by a test, at the end of w and before it.
   choice-here : {A : Type 0} (test : List ℕ → Bool) (scan otherwise : List ℕ → A × ℕ)
       → (test next ≡ false → test other ≡ true → D)
       → ((s : List ℕ) → test s ≡ true → 0 < (scan s).1) → Grows otherwise []
@@ -121,7 +122,7 @@ module _ (next other : List ℕ) (D : Type 0) (differ : (p : ℕ → Bool) → I
       choice-past test scan otherwise (c ∷ w) (is (c ∷ w ++ other) ∙ sym (is (c ∷ w ++ next))) (one (c ∷ w))
       (two (c ∷ w))
 
-  -- past a character of a class
+  -- `Grows` holds after a character of a class.
   past-grows : {A : Type 0} (p : ℕ → Bool) → IsSolid p → (test : List ℕ → Bool) → ((s : List ℕ) → test s ≡ next_is p s)
       → (scan otherwise : List ℕ → A × ℕ)
       → ((w : List ℕ) → Grows scan w) → ((w : List ℕ) → Grows otherwise w) → (w : List ℕ)
@@ -152,7 +153,7 @@ module _ (next other : List ℕ) (D : Type 0) (differ : (p : ℕ → Bool) → I
       digits-grow = run-grows (λ ds. float base (list_any is_ascii_digit ds)) (or_underscore is_ascii_digit)
           (solid-by (or_underscore is_ascii_digit) refl)
 
-  -- an exponent, or this kind
+  -- `Grows` holds for an exponent, or else for this kind.
   optional-grows : (base : Base) (kind : LiteralKind) (w : List ℕ)
       → Grows (λ s. if next_is is_exponent_letter s then after 1 (float_exponent base) s else gives kind s) w
   optional-grows base kind =
@@ -190,7 +191,7 @@ module _ (next other : List ℕ) (D : Type 0) (differ : (p : ℕ → Bool) → I
       (based-grows Hexadecimal is_ascii_hexdigit (solid-by (or_underscore is_ascii_hexdigit) refl)) decimal-grows)) w)
       (decimal-grows w)
 
-  -- a dot matters only behind the whole part, where that is the number
+  -- A dot matters only directly after the whole part, if the number ends there.
   module _ (kind : LiteralKind) (dotted : (base : Base) → kind ≡ Int base false → begins_fraction next ≡ false
       → begins_fraction other ≡ true → D) where
     past_digits-grows : (base : Base) (w : List ℕ) → (past_digits base (w ++ next)).0 ≡ kind
@@ -232,17 +233,17 @@ module _ (next other : List ℕ) (D : Type 0) (differ : (p : ℕ → Bool) → I
         elim (then-grows (integer_part first) tail w (integer_part-grows first w) on (omega arith))
         [ inl h ↦ inl h | inr f ↦ inr (f ∙ e) ]
 
--- ---- what has the form of a number is read
+-- ---- the scanner reads every text that has the form of a number
 
--- the letter of a prefix
+-- Whether the letter belongs to a prefix.
 abbrev is_prefix_letter : ℕ → Bool
 is_prefix_letter c = c == byte "b" || (c == byte "o" || c == byte "x")
 
--- whether the whole part of a number could go on with this character
+-- Whether the whole part of a number can continue with this character.
 abbrev goes_on : Base → ℕ → Bool
 goes_on base c = is_prefix_letter c || or_underscore (is_digit_of base) c
 
--- the integer part of a number, with its first digit
+-- Returns the integer part of a number with its first digit.
 abbrev integer_part_all : List ℕ → IntegerPart × ℕ
 integer_part_all [] = (part_of Decimal false, 0)
 integer_part_all (c ∷ s) = ((integer_part c s).0, suc (integer_part c s).1)
@@ -258,7 +259,7 @@ dot-stops w0 = grind (arith, common_steps)
 letter-stops : (base : Base) (e : ℕ) → is_digit_of base e ≡ false → is_exponent_letter e ≡ true → goes_on base e ≡ false
 letter-stops base e no_digit letter = grind (arith, common_steps, of_two, other_than)
 
--- before digits is no letter, if none is behind them
+-- Digits and the text after them do not start with this letter, if the text alone does not.
 digits-letter : (letter : ℕ) (ds s : List ℕ) → or_underscore is_ascii_digit letter ≡ false → AreDigits is_ascii_digit ds
     → begins (letter ∷ []) s ≡ false
     → begins (letter ∷ []) (ds ++ s) ≡ false
@@ -266,7 +267,7 @@ digits-letter letter [] s out are none = none
 digits-letter letter (d ∷ ds) s out are none =
     grind (arith, common_steps, other_than (or_underscore is_ascii_digit) letter d out, and_parts)
 
--- the whole part, where nothing goes on
+-- The whole part is read, if the text after it does not continue it.
 whole-read : {base : Base} {empty : Bool} {w : List ℕ} → IsWholePart base empty w → (s : List ℕ)
     → next_is (goes_on base) s ≡ false
     → integer_part_all (w ++ s) ≡ (part_of base empty, length w)
@@ -308,7 +309,7 @@ whole-read (with_x {ds} are) s stop =
       take-append_seam,
     )
 
--- up to a suffix, with its first digit
+-- Returns a number with its first digit, up to its suffix.
 abbrev number_all : List ℕ → LiteralKind × ℕ
 number_all s = and_then integer_part_all tail s
 
@@ -317,7 +318,7 @@ number_all-is : (first : ℕ) (s : List ℕ)
 unfolding number_kind
 number_all-is first s = grind (arith, common_steps)
 
--- before a text that stops all but a dot
+-- Before a text that stops everything except a dot.
 module _ (stop : List ℕ) (stops : (p : ℕ → Bool) → p 46 ≡ false → next_is p stop ≡ false)
     (no_dot : begins_fraction stop ≡ false) where
   digits-read : (ds : List ℕ) → AreDigits is_ascii_digit ds → run_len (or_underscore is_ascii_digit) (ds ++ stop) ≡
@@ -392,7 +393,7 @@ module _ (stop : List ℕ) (stops : (p : ℕ → Bool) → p 46 ≡ false → ne
         length-append w t,
       )
 
--- so it is read before what follows it, or more is
+-- Holds if the scanner reads more than v, and the text after v is not empty.
 abbrev Longer : List ℕ → LiteralKind → ℕ → List ℕ → Type 0
 Longer next kind first v = ((1 ≤ length next) × (length v < (number_kind first (v ++ next)).1))
     ⊎ (number_kind first (v ++ next) ≡ (kind, length v))
@@ -414,13 +415,13 @@ form-grows {next} {kind} first v form =
         number-grows stop next (1 ≤ length next) (λ p solid f t. next_is-length p next t) (sym alike) kind
         (λ base int f t. begins-length (codes ".") next (and_parts (begins (codes ".") next) _ t).0) first v read
 
--- what has the form of a number at the front of a text is no longer than what is read
+-- A prefix of a text that has the form of a number is at most as long as the number that is read.
 form-le : (first : ℕ) (s v rest : List ℕ) {kind : LiteralKind} → v ++ rest ≡ first ∷ s → HasNumberForm rest kind v
     → length v ≤ 1 + (number_kind first s).1
 form-le first s [] rest text form = omega arith
 form-le first s (c ∷ v) rest text form = grind (arith, common_steps, form-grows c v form)
 
--- what is read is a number
+-- The scanner reads a number.
 pub number-read : (first : ℕ) (s : List ℕ) → is_ascii_digit first ≡ true
     → IsNumberBefore (drop (number_kind first s).1 s) (number_kind first s).0 (first ∷ take (number_kind first s).1 s)
 number-read first s digit = record {
@@ -436,7 +437,7 @@ number-read first s digit = record {
       );
 }
 
--- and a number is what is read
+-- Conversely, every number is the number that the scanner reads.
 pub number-is : {next : List ℕ} {kind : LiteralKind} (first : ℕ) (v : List ℕ) → is_ascii_digit first ≡ true
     → IsNumberBefore next kind (first ∷ v) → number_kind first (v ++ next) ≡ (kind, length v)
 number-is {next} {kind} first v digit is = elim (form-grows first v is.form) [
@@ -458,9 +459,9 @@ number-is {next} {kind} first v digit is = elim (form-grows first v is.form) [
     m : ℕ
     m = (number_kind first s).1
 
--- ---- what may follow a number
+-- ---- texts that can follow a number
 
--- a number stays one before another text that begins alike
+-- A number is still a number before a text that starts with the same classes of characters.
 pub number-before : {next : List ℕ} {kind : LiteralKind} (first : ℕ) (v : List ℕ) → is_ascii_digit first ≡ true
     → IsNumberBefore next kind (first ∷ v)
     → (other : List ℕ) → ((p : ℕ → Bool) → IsSolid p → next_is p other ≡ next_is p next)
@@ -477,7 +478,7 @@ number-before {next} {kind} first v digit is other same dotted =
     (number-read first (v ++ other) digit) in
     rw (take-append_seam v other, drop-append_seam v other) at there
 
--- how far a number looks
+-- Returns how far a number looks ahead.
 abbrev pub number_reach : LiteralKind → ℕ
 number_reach (Float base empty_exponent) = 1
 number_reach kind = 2
@@ -490,7 +491,7 @@ begins_fraction-decided [] = refl
 begins_fraction-decided (c ∷ []) = refl
 begins_fraction-decided (c ∷ d ∷ s) = refl
 
--- a number stays one before a text that begins alike
+-- A number is still a number before a text that starts with the same characters.
 pub number-alike : {next : List ℕ} {kind : LiteralKind} (first : ℕ) (v : List ℕ) → is_ascii_digit first ≡ true
     → IsNumberBefore next kind (first ∷ v) → (other : List ℕ)
     → take (number_reach kind) other ≡ take (number_reach kind) next → IsNumberBefore other kind (first ∷ v)

@@ -1,4 +1,4 @@
--- A text past its first characters.
+-- The text after the first characters of a text.
 use Rattle.std.proofs.Common.{◌≡◌, ℕ, ◌+◌, ◌≤◌, List, [], ◌++◌, length, take, drop, refl, sym, ap, ◌∙◌, arith}
 use Rattle.std.proofs.Common.{length-append, take-append-drop, drop_at, drop-drop}
 use Rattle.std.specs.{Char.{encode_utf8}, Str.{chars, encode_utf8_all, IsUtf8}}
@@ -30,7 +30,7 @@ IsUtf8-past n text is = (drop n (chars text), (scalars-drop n (chars text) (scal
 pub IsUtf8-cut : (n : ℕ) (text rest : List ℕ) → IsUtf8 text → rest ≡ past n text → IsUtf8 rest
 IsUtf8-cut n text rest is cut = rw cut (IsUtf8-past n text is)
 
--- a text is its first characters and what is past them
+-- A text consists of its first n characters and the text after them.
 pub split_past : (n : ℕ) (text : List ℕ) → IsUtf8 text → text ≡ encode_utf8_all (take n (chars text)) ++ past n text
 unfolding past
 split_past n text is = sym (encodes-chars text is)
@@ -49,13 +49,13 @@ past-drop n text is =
     sym (ap (drop (bytes_of n (chars text))) (split_past n text is) ∙ drop_at (encode_utf8_all (take n (chars text)))
     (past n text) _ refl)
 
--- of a text with no character all is past the first one
+-- A text without characters has no text after the first one either.
 pub past_end : (text : List ℕ) → IsUtf8 text → chars text ≡ [] → text ≡ past 1 text
 unfolding past
 past_end text is e = sym (encodes-chars text is)
     ∙ (ap encode_utf8_all e ∙ sym (ap (λ cs. encode_utf8_all (drop 1 cs)) e))
 
--- a text past its first character
+-- The text after its first character is the rest.
 pub past-one : (text rest : List ℕ) (c : ℕ) → IsUtf8 text → text ≡ encode_utf8 c ++ rest → past 1 text ≡ rest
 unfolding past
 past-one text rest c is e = ap (λ cs. encode_utf8_all (drop 1 cs)) (chars_past_char text rest c is e)

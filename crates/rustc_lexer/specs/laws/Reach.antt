@@ -1,4 +1,4 @@
--- What is decided by the first characters of a text; runs, and the least offset at which a test passes.
+-- Functions of the first characters of a text; runs, and the first offset at which a test passes.
 use Rattle.std.proofs.lemmas.Grind.{common_steps}
 use Rattle.std.proofs.Common.{◌≡◌, ℕ, zero, suc, ◌≤◌, ◌<◌, ◌==◌, ◌&&◌, Bool, true, false, true≢false, if◌then◌else◌}
 use Rattle.std.proofs.Common.{List, [], ◌∷◌, ◌++◌, length, take, refl, sym, ap, ◌∙◌, subst, arith, take-take, Option}
@@ -10,7 +10,7 @@ use Rattle.rustc_lexer.specs.laws.Least.{one_more-none}
 use Rattle.rustc_lexer.specs.model.Least.{one_more, least}
 use Rattle.rustc_lexer.specs.model.Scan.{begins, next_is, run_len}
 
--- ---- texts that begin alike
+-- ---- texts that start with the same characters
 
 pub cut : {A : Type 0} (j k : ℕ) (u s : List A) → j ≤ k → take k u ≡ take k s → take j u ≡ take j s
 cut j k u s le e = sym (take-take j k u le) ∙ (ap (take j) e ∙ take-take j k s le)
@@ -20,7 +20,7 @@ past k [] s u e = e
 past zero (c ∷ w) s u e = refl
 past (suc k) (c ∷ w) s u e = ap (λ (xs : List ℕ). c ∷ xs) (past k w s u (cut k (suc k) u s (omega arith) e))
 
--- what is decided by the first characters of a text
+-- Holds if the first k characters of a text decide the value of f.
 abbrev pub IsDecidedBy : {B : Type 0} → ℕ → (List ℕ → B) → Type 0
 IsDecidedBy k f = (s : List ℕ) → f (take k s) ≡ f s
 
@@ -58,7 +58,7 @@ run_len-in p c cs e = rw e refl
 pub run_len-out : (p : ℕ → Bool) (c : ℕ) (cs : List ℕ) → p c ≡ false → run_len p (c ∷ cs) ≡ 0
 run_len-out p c cs e = rw e refl
 
--- where it goes on, and where it does not
+-- A run is not empty exactly if the next character is in its class.
 pub run_len-next : (p : ℕ → Bool) (s : List ℕ) → next_is p s ≡ true → 0 < run_len p s
 run_len-next p [] t = absurd (true≢false (sym t))
 run_len-next p (c ∷ s) t = omega (arith, run_len-in p c s t)
@@ -66,14 +66,14 @@ run_len-next p (c ∷ s) t = omega (arith, run_len-in p c s t)
 pub run_len-none : (p : ℕ → Bool) (s : List ℕ) → next_is p s ≡ false → run_len p s ≡ 0
 run_len-none p s w2 = grind (arith, common_steps, run_len-out)
 
--- a run is in its class
+-- All characters of a run are in its class.
 pub run_all : (p : ℕ → Bool) (s : List ℕ) → list_all p (take (run_len p s) s) ≡ true
 run_all p [] = refl
 run_all p (c ∷ s) = grind (arith, common_steps, run_all p s)
 
 -- ---- ends
 
--- the least number that passes a test
+-- Holds if n is the least number below `count` that passes the test.
 pub record IsLeast (test : ℕ → Bool) (count n : ℕ) : Type 0 where
   pub below : n < count
   pub here : test n ≡ true

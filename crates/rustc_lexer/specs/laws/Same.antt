@@ -1,4 +1,4 @@
--- What `==` of two tokens, or of two heads, tells: that they are the same.
+-- Two tokens, or two heads, compare equal with `==` exactly if they are the same.
 use Rattle.std.proofs.Common.{rules, ◌≡◌, ◌↔◌, IsTrue, Bool, true, false, true≢false, refl, sym, ap, ◌∙◌, ◌==◌, List}
 use Rattle.std.proofs.Common.{[], ◌∷◌, Option, ◌&&◌, inl, inr, arith}
 use Rattle.std.specs.{Cmp.Derive.{of_values}, Option.{option_eq}}
@@ -18,11 +18,11 @@ use Rattle.rustc_lexer.specs.contracts.token.TokenPartialEq.TheImpl as token
 use Rattle.rustc_lexer.specs.declared.head.Head.{Head}
 use Rattle.rustc_lexer.specs.{Token}
 
--- what `==` answers
+-- Returns the result of `==` for two tokens.
 abbrev pub is_same : Token → Token → Bool
 is_same a b = token.ghosts.eq a b
 
--- what the test takes for equal is the same
+-- Holds if values that compare equal are the same.
 record Tells {K : Type 0} (E : K → K → Bool) : Type 0 where
   tells : (x y : K) → E x y ≡ true → x ≡ y
 
@@ -50,7 +50,7 @@ option-tells w0 t w2 w3 e = grind (arith, common_steps)
 option : {K : Type 0} {E : K → K → Bool} → Tells E → Tells (option_eq E)
 option {K} {E} t = record { tells = option-tells E t }
 
--- ---- enums, by the values of the fields of each variant that has some
+-- ---- enums, by the fields of each variant
 
 abbrev AllTell : (Fss : List (List Field)) → Each Bool Fss → Type 0
 AllTell [] es = Unit {0}
@@ -83,7 +83,7 @@ same_token a b e = grind (arith, common_steps, and_parts, kind-tells, eqb-true)
 pub token_same : (a b : Token) → a ≡ b → is_same a b ≡ true
 token_same a b e = ap (is_same a) (sym e) ∙ token_equal.laws-law.refl a
 
--- of an answer of `==`
+-- A result of `==` decides whether the tokens are the same.
 pub decided_same : (answer : Bool) (a b : Token) → answer ≡ is_same a b → IsTrue answer ↔ (a ≡ b)
 decided_same answer a b decided = (λ t. same_token a b (sym decided ∙ t), λ e. decided ∙ token_same a b e)
 

@@ -1,4 +1,4 @@
--- What scanners read of a text and leave of it.
+-- The text that scanners read, and the text that they leave.
 use Rattle.std.proofs.Common.{◌≡◌, ℕ, zero, suc, ◌+◌, ◌-◌, ◌≤◌, ◌<◌, Bool, true, false, if◌then◌else◌, List, [], ◌∷◌}
 use Rattle.std.proofs.Common.{length, drop, refl, sym, ap, ◌∙◌, arith}
 use Rattle.std.specs.{Char.{encode_utf8}, Str.{chars, IsUtf8}}
@@ -28,7 +28,7 @@ module _ {A : Type 0} where
       → scanned scan text ≡ scanned other text
   scanned-same scan other text e = ap (λ (r : A × ℕ). (r.0, past r.1 text)) e
 
--- one scanner, then the next on what it left
+-- Two scanners in sequence give the result of the second one on the rest of the first.
 pub scanned-and_then : {A B : Type 0} (scan : List ℕ → A × ℕ) (next : A → List ℕ → B × ℕ) (text rest : List ℕ) (a : A)
     → IsUtf8 text → (a, rest) ≡ scanned scan text
     → scanned (and_then scan next) text ≡ scanned (next a) rest
@@ -38,7 +38,7 @@ pub scanned-read_as : {A B : Type 0} (f : A → B) (scan : List ℕ → A × ℕ
     → (a, rest) ≡ scanned scan text → (f a, rest) ≡ scanned (read_as f scan) text
 scanned-read_as {A} f scan text rest a e = ap (λ (r : A × List ℕ). (f r.0, r.1)) e
 
--- a run ends before a character outside its class
+-- A run ends before a character outside its class.
 pub run_len-stop : (p : ℕ → Bool) (s : List ℕ) (c : ℕ) (u : List ℕ) → drop (run_len p s) s ≡ c ∷ u → p c ≡ false
 run_len-stop p [] c u e = absurd (cc)
 run_len-stop p (d ∷ s) c u e = by_either (p d)
@@ -48,7 +48,7 @@ run_len-stop p (d ∷ s) c u e = by_either (p d)
     let head : d ≡ c = cc in
     ap p (sym head) ∙ f)
 
--- the characters of a class in ASCII take as many bytes
+-- Characters of a class within ASCII have one byte each.
 module _ (p : ℕ → Bool) (small : (c : ℕ) → p c ≡ true → c < 128) where
   pub bytes-run : (n : ℕ) (s : List ℕ) → n ≤ run_len p s → bytes_of n s ≡ n
   bytes-run zero s le = refl
@@ -70,13 +70,13 @@ module _ (p : ℕ → Bool) (small : (c : ℕ) → p c ≡ true → c < 128) whe
       ∙ (ap (λ (xs : List ℕ). bytes_of n (chars text) + length xs) e ∙ length-past n text is) in
       omega arith
 
--- the next character of a text
+-- The next character of a text is the first of its characters.
 pub next_is-cons : (p : ℕ → Bool) (c : ℕ) (s cs : List ℕ) → cs ≡ c ∷ s → next_is p cs ≡ p c
 next_is-cons p c s cs e = ap (next_is p) e
 
 pub next_is-nil : (p : ℕ → Bool) (cs : List ℕ) → cs ≡ [] → next_is p cs ≡ false
 next_is-nil p cs e = ap (next_is p) e
 
--- how scanners go on, one after another
+-- The lemmas for sequences of scanners.
 pub ruleset scan_lemmas =
     (next_is-cons, next_is-nil, past-zero, past-past, chars-past, IsUtf8-past, length-past, past_le)

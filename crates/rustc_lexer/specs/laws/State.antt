@@ -9,7 +9,7 @@ use Rattle.rustc_lexer.specs.model.Taking.{token_at, take_next}
 abbrev pub state : ℕ → List ℕ → Mode → State
 state pending rest mode = record { pending = pending; rest = rest; mode = mode }
 
--- the text that is left is what follows `offset`, which is between characters
+-- Holds if the rest of the text starts at `offset`, which is a char boundary.
 abbrev pub StandsAt : List ℕ → ℕ → State → Type 0
 StandsAt text offset s = IsCharBoundary text offset × (drop offset text ≡ s.rest)
 
@@ -21,7 +21,7 @@ pub past_token-is : (rest cut : List ℕ) (mode next : Mode) (token : Token) →
 past_token-is rest cut mode next token e f = ap (λ xs. state 0 xs next) e
     ∙ ap (λ (m : Mode). state 0 (drop token.len rest) m) f
 
--- a token leaves the edition as it is
+-- The edition is the same after a token.
 pub edition-after : (mode : Mode) (kind : TokenKind) → mode_edition (mode_after mode kind) ≡ mode_edition mode
 edition-after w0 kind = grind (arith, common_steps)
 

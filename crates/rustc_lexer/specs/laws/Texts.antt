@@ -1,4 +1,4 @@
--- What follows from the agreement of two texts, and from the parts of one.
+-- Consequences of the agreement of two texts, and of splitting one.
 use Rattle.std.proofs.Common.{◌≡◌, ℕ, zero, suc, ◌≤◌, true, List, [], ◌∷◌, length, take, drop, refl, ap, arith}
 use Rattle.std.proofs.Common.{length-drop, length-take, IsUtf8}
 use lib.Utf8.{scalars, scalar}
@@ -6,13 +6,13 @@ use Rattle.std.proofs.lemmas.{Str.{IsCharBoundary-from_take, IsUtf8-drop}, Bool.
 use Rattle.rustc_lexer.specs.Classes.{IsText}
 use Rattle.rustc_lexer.specs.Locality.{AgreePast}
 
--- an offset inside one of them is inside the other
+-- An offset in bounds of one text is in bounds of the other.
 pub agree_inside : (offset : ℕ) (text other : List ℕ) → offset ≤ length text → AgreePast offset text other
     → offset ≤ length other
 agree_inside offset text other inside agree = let same = ap length agree.below in
     omega (arith, same, length-take offset text, length-take offset other)
 
--- what is left of a text past a front that may be cut off
+-- The text after a prefix that can be cut off is a text.
 pub left_text : (other : List ℕ) (n : ℕ) → IsText other → n ≤ length other → IsUtf8 (take n other)
     → IsText (drop n other)
 left_text other n is inside front = grind (arith, common_steps, IsUtf8-drop, IsCharBoundary-from_take, length-drop)

@@ -1,4 +1,4 @@
--- How each answer of the grammar is found, and that it is the only one.
+-- Each result of the grammar exists, and is the only one.
 use Rattle.std.proofs.lemmas.Grind.{common_steps}
 use Rattle.std.proofs.Common.{◌≡◌, ℕ, ◌<◌, ◌==◌, true, false, List, [], ◌∷◌, length, drop, refl, arith, sym, ap, ◌∙◌}
 use Rattle.std.proofs.Common.{subst, pos_of_ne-zero}
@@ -35,12 +35,12 @@ first_of none [] = none
 first_of none (token ∷ tokens) = token
 
 module _ (mode : Mode) (text : List ℕ) (is : IsText text) (some : 0 < length text) where
-  -- where the language allows a list of tokens, it begins with the one that is read
+  -- Every list of tokens that the language allows starts with the token that is read.
   pub first-read : (token : Token) (tokens : List Token) → AreTokens mode (chars text) (token ∷ tokens)
       → token ≡ token_at mode text
   first-read token tokens are = ap (first_of token) (sym (tokens-read are text is refl) ∙ tokens-cons mode text is some)
 
-  -- and it allows one that does
+  -- The language allows a list that starts with the token that is read.
   pub first-are : AreTokens mode (chars text)
       (token_at mode text ∷ means_tokens.read_tokens (mode_after mode (token_at mode text).kind)
       (drop (token_at mode text).len text))
@@ -56,7 +56,7 @@ the_first edition text = record {
   );
 }
 
--- ---- what a cursor takes
+-- ---- the next token of a cursor
 
 module _ (s : State) (is : IsText s.rest) where
   nonempty : (length s.rest == 0) ≡ false → 0 < length s.rest
@@ -94,7 +94,7 @@ the_next s = record {
   only = λ is other. (next-read s is other, λ e. subst (TakesNext s) (sym e) (next-is s is));
 }
 
--- ---- the calls beside the tokens
+-- ---- functions other than lexing
 
 abbrev pub the_guarded : (s : State) → TheOnly (Unit {0}) (TakesGuarded s)
 the_guarded s = record {

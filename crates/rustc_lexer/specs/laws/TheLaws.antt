@@ -1,4 +1,4 @@
--- The laws of the grammar, and where each is proved.
+-- The laws of the grammar, and the module that proves each.
 use Rattle.std.proofs.Common.{refl}
 use Rattle.rustc_lexer.specs.GrammarLaws.{TheLaws}
 use Rattle.rustc_lexer.specs.laws.Language.{begins-one, token-alike}

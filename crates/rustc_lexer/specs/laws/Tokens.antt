@@ -1,4 +1,4 @@
--- The tokens of a whole text as they are read: one by one, and their bounds.
+-- The tokens of a whole text, read one by one, and their boundaries.
 use Rattle.std.proofs.Common.{◌≡◌, ℕ, zero, suc, ◌<◌, ◌≤◌, List, [], ◌∷◌, length, drop, refl, ap, arith, length-drop}
 use Rattle.std.specs.Str.{IsCharBoundary}
 use Rattle.std.proofs.lemmas.Str.{IsCharBoundary-start, IsCharBoundary-from_rest, IsUtf8-take}
@@ -14,7 +14,7 @@ use Rattle.rustc_lexer.specs.laws.Frontmatter.{frontmatter-cut, token_at-either}
 use Rattle.rustc_lexer.specs.laws.Texts.{left_text}
 use Rattle.rustc_lexer.specs.Classes.{IsText}
 
--- the token at the front of a text leaves a shorter text, and is one itself
+-- Holds if the token can be cut off the front of the text: the rest is a shorter text.
 pub record CutsOff (text : List ℕ) (token : Token) : Type 0 where
   pub not_empty : 0 < token.len
   pub inside : token.len ≤ length text
@@ -40,7 +40,7 @@ token_at-cuts mode text is some = token_at-either (λ (t : Token). CutsOff text 
 pub shorter : (text : List ℕ) (token : Token) → CutsOff text token → length (drop token.len text) < length text
 shorter text token cuts = let n = cuts.not_empty in let i = cuts.inside in omega (arith, length-drop token.len text)
 
--- any count that is large enough gives the same tokens
+-- Every sufficiently large step count gives the same tokens.
 cut-enough : (mode : Mode) (m n : ℕ) (text : List ℕ) → IsText text → length text ≤ m → length text ≤ n
     → cut mode m text ≡ cut mode n text
 cut-enough (part edition) m n text is a b = refl
@@ -61,7 +61,7 @@ pub tokens-nil : (mode : Mode) → read_tokens mode [] ≡ []
 unfolding tokens_of_source
 tokens-nil mode = grind (arith, common_steps, part-nil)
 
--- the tokens of a text: its first one, and those of what is left
+-- The tokens of a text are the first token and the tokens of the rest.
 pub tokens-cons : (mode : Mode) (text : List ℕ) → IsText text → 0 < length text
     → read_tokens mode text ≡ token_at mode text ∷ read_tokens (mode_after mode (token_at mode text).kind)
     (drop (token_at mode text).len text)
@@ -69,7 +69,7 @@ unfolding tokens_of_source
 tokens-cons w0 text is some =
     grind (arith, common_steps, part-cons, edition_grammar, token_at-cuts, shorter, cut-enough)
 
--- what holds of a text whose first tokens were cut off holds of the text
+-- A property of all texts follows by induction on their tokens.
 module _ (P : List ℕ → Mode → Type 0) (at_end : (mode : Mode) → P [] mode)
     (step : (text : List ℕ) (mode : Mode) → IsText text → 0 < length text
     → P (drop (token_at mode text).len text) (mode_after mode (token_at mode text).kind) → P text mode) where
@@ -86,7 +86,7 @@ module _ (P : List ℕ → Mode → Type 0) (at_end : (mode : Mode) → P [] mod
   pub by_tokens : (text : List ℕ) (mode : Mode) → IsText text → P text mode
   by_tokens text mode is = by_count (length text) text mode is (omega arith)
 
--- the bounds of a text: its start, and those of what is left
+-- The token boundaries of a text are its start and the boundaries of the rest.
 bounds : (text : List ℕ) (token : Token) (left : List Token) → IsText text → CutsOff text token
     → Partitions (drop token.len text) left → (k : ℕ)
     → k ≤ suc (length left) → IsCharBoundary text (bound (token ∷ left) k)

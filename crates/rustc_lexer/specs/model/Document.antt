@@ -1,4 +1,4 @@
--- Means, by how it is read: the head of a document, and what an edit keeps of the document by it.
+-- Model of the head of a document, and of the tokens that an edit of the document keeps.
 use Rattle.std.specs.Prelude.{ℕ, ◌+◌, ◌-◌, ◌≤◌, ◌≡◌, if◌then◌else◌, List, length, take, drop, max, None, Result, Ok}
 use Rattle.std.specs.Prelude.{Err, Bool, true, false, IsCharBoundary}
 use Rattle.rustc_lexer.specs.declared.relex.checkpoints.Checkpoints.{Checkpoints}
@@ -13,7 +13,7 @@ use Rattle.rustc_lexer.specs.Partition.{Layout, bound, tokens_by, tokens_in}
 use Rattle.rustc_lexer.specs.model.Checkpoints.{AreBounds}
 use Rattle.rustc_lexer.specs.model.Pieces.{AreBoundariesFrom}
 
--- where the tokens of a text with this head are, by a grammar
+-- Returns the layout of a text with this head, lexed with a grammar.
 abbrev pub by_head : Head → (List ℕ → Token) → List ℕ → Layout
 by_head head first text =
     record {
@@ -22,7 +22,7 @@ by_head head first text =
       body = tokens_by first (drop head.body text);
     }
 
--- it is the head of the text, if `layout` tells where the tokens are by a grammar
+-- Holds if this is the head of the text, where `layout` returns the layout of a text that is lexed with a grammar.
 pub record IsHeadIn (layout : (List ℕ → Token) → List ℕ → Layout) (text : List ℕ) (head : Head) :
     Type 0 where
   pub layout_is : (first : List ℕ → Token) → layout first text ≡ by_head head first text
@@ -31,7 +31,7 @@ pub record IsHeadIn (layout : (List ℕ → Token) → List ℕ → Layout) (tex
       ≡ head.tokens_start + bound (tokens_of_head head) (length (tokens_of_head head))
   pub cuts : AreBoundariesFrom text head.tokens_start (tokens_of_head head)
 
--- what is kept with a text: its tokens, its head, and boundaries of the tokens of its body
+-- Holds if these are the tokens of the text, its head, and boundaries of the tokens of its body.
 abbrev pub AreKeptOf : ((List ℕ → Token) → List ℕ → Layout) → (List ℕ → Token) → List ℕ → List Token
     → Head → Checkpoints → Type 0
 AreKeptOf layout first text tokens head checkpoints =
@@ -39,27 +39,27 @@ AreKeptOf layout first text tokens head checkpoints =
     × IsCharBoundary text head.body
     × AreBounds (drop (length (tokens_of_head head)) tokens) checkpoints
 
--- the offsets of an edit
+-- Returns the offsets of an edit.
 abbrev pub edit_change : ℕ → ℕ → List ℕ → Change
 edit_change start stop insert =
     record { start = start; old_end = stop; new_end = start + length insert }
 
--- the text is `made` by a valid edit, and what is kept with it is still that of the text `before`
+-- Holds if a valid edit turned the text `before` into `made`, but the tokens, the head and the checkpoints still belong
+-- to `before`.
 pub record IsPut (layout : (List ℕ → Token) → List ℕ → Layout) (first : List ℕ → Token) (before insert : List ℕ)
     (edit : Change)
     (made : List ℕ) (tokens : List Token) (head : Head) (checkpoints : Checkpoints) : Type 0 where
   pub kept : AreKeptOf layout first before tokens head checkpoints
   pub edit_of : IsEditOf before edit insert made
 
--- the text after an edit: the one made, or if the edit is refused the one before, which is put back
+-- Returns the text after an edit: the new text, or the restored old text if the edit was rejected.
 abbrev pub text_left : {R E : Type 0} → Result R E → List ℕ → List ℕ → List ℕ
 text_left (Ok r) made before = made
 text_left (Err e) made before = before
 
--- the change that an edit makes to the body, in offsets of the body, which began at `from` and now
--- begins at `to`. If the edit keeps the head, the change is the edit itself. Otherwise it is
--- everything from the start of the body up to the first position past the edit at which both bodies
--- have begun
+-- Returns the change of the body, in offsets of the body, which started at `from` and now starts at `to`. If the edit
+-- keeps the head, the change is the edit itself. Otherwise it extends from the start of the body to the first position
+-- at or after the end of the edit where both bodies have started.
 abbrev pub body_change : Bool → ℕ → ℕ → Change → Change
 body_change true from to edit =
     record {
@@ -75,19 +75,18 @@ body_change false from to edit =
       new_end = edit.new_end + more - to;
     }
 
--- the counts of a document, made from those of its body and the number of tokens in its old and its
--- new head
+-- Returns the counts of a document, given the counts of its body and the number of tokens in its old and its new head.
 abbrev pub counted : Bool → ℕ → ℕ → Relexed → Relexed
 counted true old new r =
     record { kept_front = old + r.kept_front; lexed = r.lexed; kept_back = r.kept_back }
 counted false old new r =
     record { kept_front = r.kept_front; lexed = new + r.lexed; kept_back = r.kept_back }
 
--- what an edit inserts into the body
+-- Returns the text that an edit inserts into the body.
 abbrev pub body_insert : Bool → Change → List ℕ → List ℕ → List ℕ
 body_insert kept change insert body = if kept then insert else take change.new_end body
 
--- how many steps it took from `before` on is at most what the edit takes
+-- Holds if the number of steps from `before` to `after` is at most the number of steps of the edit.
 abbrev pub TakesFew : (List ℕ → Layout) → List ℕ → ℕ → ℕ → List ℕ → ℕ → ℕ → Type 0
 TakesFew layout text start stop insert before after =
     (r : Relexed) × IsRelexed layout text start stop insert r

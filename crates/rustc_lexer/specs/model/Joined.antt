@@ -1,10 +1,10 @@
--- Means: up to where the tokens of a text that grows at its end are sure.
+-- Model of the tokens that are final in a text that grows at its end.
 use Rattle.std.specs.Prelude.{ℕ, ◌≡◌, ◌<◌, ◌≤◌, true, List, length}
 use Rattle.rustc_lexer.specs.{Token}
 use Rattle.rustc_lexer.specs.Locality.{has_two}
 use Rattle.rustc_lexer.specs.Partition.{bound, tokens_by}
 
--- the offset is a bound of the text that two characters follow, or 0
+-- Holds if the offset is 0, or a token boundary of the text that at least two characters follow.
 pub record IsSure (first : List ℕ → Token) (text : List ℕ) (offset : ℕ) : Type 0 where
   pub number : ℕ
   pub few : number ≤ length (tokens_by first text)

@@ -1,4 +1,4 @@
--- Means, by how it is read: the token at the front of a text.
+-- Model of the token at the start of a text.
 use Rattle.rustc_lexer.specs.declared.lexemes.raw.RawPrefix.TheVariants.{R, Br, Cr}
 use Rattle.rustc_lexer.specs.declared.lexemes.raw.RawPrefix.{RawPrefix}
 use Rattle.rustc_lexer.specs.model.Raw.{raw_literal}
@@ -20,44 +20,48 @@ use Rattle.rustc_lexer.specs.model.Quoted.{byte_body, byte_str_body, c_str_body,
 use Rattle.rustc_lexer.specs.model.Scan.{after, begins, gives, run, token_by, next_is}
 pub use Rattle.rustc_lexer.specs.Tables.{symbols, kind_among, symbol_kind}
 
--- what follows the first character of a white space
+-- Lexes the text after the first character of whitespace.
 abbrev pub whitespace : List ℕ → TokenKind × ℕ
 whitespace s = run Whitespace is_whitespace s
 
--- hashes or a quote open a raw string, after its letters
+-- Whether the character, after the letters of a prefix, opens a raw string: a hash or a quote.
 abbrev pub opens_raw : ℕ → Bool
 opens_raw c = is_among (codes "#\"") c
 
--- what follows an `r`, and what follows a `k`
+-- Lexes the text after an `r` that does not start a raw identifier.
 abbrev pub raw_or_ident : List ℕ → TokenKind × ℕ
 raw_or_ident s = if next_is opens_raw s then raw_literal R s else ident_or_unknown_prefix s
 
+-- Lexes the text after an `r`.
 abbrev pub letter_r : List ℕ → TokenKind × ℕ
 letter_r s = hash_ident_or RawIdent raw_or_ident s
 
+-- Lexes the text after a `k`.
 abbrev pub letter_k : List ℕ → TokenKind × ℕ
 letter_k s = hash_ident_or ForcedKeywordIdent ident_or_unknown_prefix s
 
--- an `r`, and what opens a raw string after it
+-- Whether the text starts with an `r` and a character that opens a raw string after it.
 abbrev pub begins_raw : List ℕ → Bool
 begins_raw s = begins (codes "r") s && next_is opens_raw (drop 1 s)
 
+-- Lexes the text after a `b` or a `c`: a raw string if an `r` and its opening follow, otherwise a word.
 abbrev pub raw_past_or_ident : RawPrefix → List ℕ → TokenKind × ℕ
 raw_past_or_ident prefix s =
     if begins_raw s then after 1 (raw_literal prefix) s else ident_or_unknown_prefix s
 
--- what follows a `b`, and what follows a `c`
+-- Lexes the text after a `b`.
 abbrev pub letter_b : List ℕ → TokenKind × ℕ
 letter_b s =
     if begins (codes "'") s then literal (after 1 byte_body) s
     else (if begins (codes "\"") s then literal (after 1 byte_str_body) s
     else raw_past_or_ident Br s)
 
+-- Lexes the text after a `c`.
 abbrev pub letter_c : List ℕ → TokenKind × ℕ
 letter_c s =
     if begins (codes "\"") s then literal (after 1 c_str_body) s else raw_past_or_ident Cr s
 
--- what follows the start of an identifier, of which some letters may be more
+-- Lexes the text after a character that starts an identifier. Some letters can also start other tokens.
 abbrev pub word : ℕ → List ℕ → TokenKind × ℕ
 word c =
     if c == byte "r" then letter_r
@@ -65,11 +69,11 @@ word c =
     else (if c == byte "b" then letter_b
     else (if c == byte "c" then letter_c else ident_or_unknown_prefix)))
 
--- a token of one character
+-- Lexes a token of one character.
 abbrev pub symbol : ℕ → List ℕ → TokenKind × ℕ
 symbol c s = gives (symbol_kind c) s
 
--- the family that the first character chooses
+-- Returns the family of a first character.
 abbrev pub family_of : ℕ → Family
 family_of c =
     if c == byte "/" then Slash
@@ -82,7 +86,7 @@ family_of c =
     else (if c == byte "#" then Hash
     else Symbol)))))))
 
--- what the family reads after it
+-- Lexes the text after the first character, given its family.
 abbrev pub read_by : Family → ℕ → List ℕ → TokenKind × ℕ
 read_by Slash c s = slash s
 read_by Space c s = whitespace s
@@ -94,15 +98,15 @@ read_by Emoji c s = invalid_ident s
 read_by Hash c s = hash s
 read_by Symbol c s = symbol c s
 
--- what follows the first character, which decides
+-- Lexes the text after the first character, which determines the family.
 unfoldable pub past_first : ℕ → List ℕ → TokenKind × ℕ
 past_first c s = read_by (family_of c) c s
 
--- the token at the front of a list of characters: what it is, and how many of them it takes
+-- Lexes the token at the start of the characters. Returns its kind, and its length in characters.
 abbrev pub lexeme : List ℕ → TokenKind × ℕ
 lexeme [] = (Eof, 0)
 lexeme (c ∷ s) = ((past_first c s).0, suc (past_first c s).1)
 
--- the token at the front of a text
+-- Returns the first token of a text.
 unfoldable pub first_token : List ℕ → Token
 first_token text = token_by lexeme text

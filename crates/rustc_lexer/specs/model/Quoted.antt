@@ -1,4 +1,4 @@
--- Means, by how it is read: quoted text: what follows an opening quote.
+-- Model of quoted text, starting after an opening quote.
 use Rattle.std.specs.Prelude.{ℕ, suc, ◌==◌, ◌&&◌, ◌||◌, not, Bool, true, false, if◌then◌else◌, List, [], ◌∷◌, drop}
 use Rattle.std.specs.Prelude.{codes}
 use Rattle.std.specs.Str.{byte}
@@ -12,14 +12,14 @@ use Rattle.rustc_lexer.specs.model.Scan.{after, begins, next_is}
 abbrev pub is_backslash : ℕ → Bool
 is_backslash c = c == byte "\\"
 
--- one character more
+-- Adds one character to the length.
 abbrev pub one_past : Bool × ℕ → Bool × ℕ
 one_past read = (read.0, suc read.1)
 
--- a quoted text goes up to its first stop that is not escaped: whether it is closed, and how many
--- characters it takes. If the stop is the quote, the text is closed and takes it. If it is another
--- stop, the text is not closed and ends before it. Without a stop it takes everything. A backslash
--- that is not escaped itself makes the next character escaped
+-- Reads quoted text up to its first stop that is not escaped. Returns whether the text is terminated, and its length in
+-- characters. If the stop is the quote, the text is terminated and includes the quote. If it is another stop, the text
+-- is unterminated and ends before the stop. Without a stop, the text is everything that is left. A backslash that is
+-- not escaped itself escapes the next character.
 abbrev pub quoted_from : ℕ → (List ℕ → Bool) → Bool → List ℕ → Bool × ℕ
 quoted_from quote stop escaped [] = (false, 0)
 quoted_from quote stop escaped (c ∷ s) =
@@ -29,28 +29,27 @@ quoted_from quote stop escaped (c ∷ s) =
 abbrev pub quoted : ℕ → (List ℕ → Bool) → List ℕ → Bool × ℕ
 quoted quote stop s = quoted_from quote stop false s
 
--- between double quotes, only the quote is a stop
+-- Whether the text starts with a stop between double quotes, which is only the quote.
 abbrev pub at_double_quote : List ℕ → Bool
 at_double_quote s = next_is (λ c. c == byte "\"") s
 
 abbrev pub double_quoted_string : List ℕ → Bool × ℕ
 double_quoted_string s = quoted (byte "\"") at_double_quote s
 
--- between single quotes, the quote is a stop, and so are a slash, and a newline that no quote
--- follows
+-- Whether the text starts with a stop between single quotes: the quote, a slash, or a newline that no quote follows.
 abbrev pub at_single_stop : List ℕ → Bool
 at_single_stop s =
     begins (codes "'") s || begins (codes "/") s
     || (begins (codes "\n") s && not (begins (codes "\n'") s))
 
--- one character and its quote
+-- Whether the text starts with a single character other than a backslash, and its closing quote.
 abbrev pub is_lone : List ℕ → Bool
 is_lone s = not (begins (codes "\\") s) && begins (codes "'") (drop 1 s)
 
 abbrev pub single_quoted_string : List ℕ → Bool × ℕ
 single_quoted_string s = if is_lone s then (true, 2) else quoted (byte "'") at_single_stop s
 
--- the literal of a quoted text takes a suffix if it is closed
+-- Reads the body of a quoted literal, which can have a suffix if it is terminated.
 abbrev pub quoted_body : (Bool → LiteralKind) → (List ℕ → Bool × ℕ) → List ℕ → Body × ℕ
 quoted_body kind scan s = (record { kind = kind (scan s).0; takes_suffix = (scan s).0 }, (scan s).1)
 
@@ -69,8 +68,9 @@ char_body s = quoted_body Char single_quoted_string s
 abbrev pub byte_body : List ℕ → Body × ℕ
 byte_body s = quoted_body Byte single_quoted_string s
 
--- the text after the first character of a quoted literal, by what the literal begins with: whether
--- it is closed, and how many characters its body takes, with the quote if that comes after a letter
+-- Reads the text after the first character of a quoted literal, given the start of the literal. Returns whether the
+-- literal is terminated, and the length of its body in characters. The body includes the opening quote if the quote
+-- comes after a letter.
 abbrev pub quoted_string : QuotedPrefix → List ℕ → Bool × ℕ
 quoted_string Single s = single_quoted_string s
 quoted_string BSingle s = after 1 single_quoted_string s

@@ -1,4 +1,4 @@
--- Means, by how it is read: raw strings, and the check of one.
+-- Model of raw strings, and of the raw string check.
 use Rattle.std.specs.Prelude.{ℕ, zero, suc, ◌+◌, ◌==◌, nat_le, max, Bool, true, false, ◌&&◌, not, if◌then◌else◌, List}
 use Rattle.std.specs.Prelude.{[], ◌∷◌, length, drop, Option, Some, None, Result, Ok, Err}
 use Rattle.std.specs.Str.{byte, chars}
@@ -11,11 +11,11 @@ use Rattle.rustc_lexer.specs.model.Literal.{Body, literal_past}
 use Rattle.rustc_lexer.specs.model.Scan.{after, bytes_of, gives, next_is, run_len}
 pub use Rattle.rustc_lexer.specs.LanguageCalls.{StartsRaw}
 
--- the least offset from which on the text passes a test
+-- Returns the minimum offset such that the text from there on passes the test.
 abbrev pub least_offset : (List ℕ → Bool) → List ℕ → Option ℕ
 least_offset test s = least (λ offset. test (drop offset s)) (length s)
 
--- the greatest value of f for a number less than `count`, or 0
+-- Returns the maximum of f for the numbers less than `count`, or 0 if there are none.
 abbrev pub greatest : (ℕ → ℕ) → ℕ → ℕ
 greatest f zero = 0
 greatest f (suc count) = max (f 0) (greatest (λ i. f (suc i)) count)
@@ -32,74 +32,74 @@ is_quote c = c == byte "\""
 abbrev pub is_no_quote : ℕ → Bool
 is_no_quote c = not (is_quote c)
 
--- how many hashes the text begins with
+-- Returns the number of hashes at the start of the text.
 abbrev pub hash_run : List ℕ → ℕ
 hash_run s = run_len is_hash s
 
--- whether the text begins with a quote and at least n hashes directly after it
+-- Whether the text starts with a quote and at least n hashes directly after it.
 abbrev pub closes : ℕ → List ℕ → Bool
 closes n s = next_is is_quote s && nat_le n (hash_run (drop 1 s))
 
--- the offset of the first quote that at least n hashes follow
+-- Returns the offset of the first quote with at least n hashes after it.
 abbrev pub close : ℕ → List ℕ → Option ℕ
 close n u = least_offset (closes n) u
 
--- how many hashes come directly after the quote with which the text begins, or 0 if it begins with
--- none
+-- Returns the number of hashes directly after the quote at the start of the text, or 0 if the text does not start with
+-- a quote.
 abbrev pub quote_hashes : List ℕ → ℕ
 quote_hashes s = if next_is is_quote s then hash_run (drop 1 s) else 0
 
--- the largest number of hashes directly after a quote
+-- Returns the maximum number of hashes directly after a quote.
 abbrev pub most_hashes : List ℕ → ℕ
 most_hashes u = greatest (λ offset. quote_hashes (drop offset u)) (length u)
 
--- the offset of the first quote with m hashes, for an m that is not 0
+-- Returns the offset of the first quote with exactly m hashes after it, where m is not 0.
 abbrev pub quote_with : ℕ → List ℕ → Option ℕ
 quote_with m u = least_offset (λ s. quote_hashes s == m) u
 
 abbrev pub quote_if : ℕ → List ℕ → Option ℕ
 quote_if m u = if m == 0 then None else quote_with m u
 
--- the offset of the best quote: the first of those with the most hashes, if any quote has hashes
+-- Returns the offset of the first quote with the maximum number of hashes, or None if no quote has hashes after it.
 abbrev pub best_quote : List ℕ → Option ℕ
 best_quote u = quote_if (most_hashes u) u
 
--- the offset at which the quote at this place ends, in bytes, if `before` bytes come before u
+-- Returns the offset in bytes where the quote at this offset ends, if `before` bytes come before u.
 abbrev pub quote_end : ℕ → List ℕ → Option ℕ → Option ℕ
 quote_end before u None = None
 quote_end before u (Some offset) = Some (before + bytes_of (suc offset) u)
 
--- a string that closes has at most 255 hashes on each side
+-- Returns the number of hashes of a terminated string, or an error if it is more than 255.
 abbrev pub hash_count : ℕ → Result ℕ RawStrError
 hash_count n = if nat_le n 255 then Ok n else Err (TooManyDelimiters n)
 
--- a string that is closed by the quote at this place ends after the n hashes that follow it. One
--- that is not closed takes the whole text
+-- Returns the number of hashes or the error, and the length, of a string with its closing quote at this offset. The
+-- string ends after the n hashes that follow the quote. An unterminated string extends to the end of the text.
 abbrev pub raw_closed : ℕ → ℕ → List ℕ → Option ℕ → Result ℕ RawStrError × ℕ
 raw_closed n before u (Some offset) = (hash_count n, suc offset + n)
 raw_closed n before u None =
     (Err (NoTerminator n (most_hashes u) (quote_end before u (best_quote u))), length u)
 
--- the text after n hashes and a quote. An offset counts `before` bytes in front of it
+-- Reads the text after n hashes and a quote. The offset in an error includes `before` bytes in front of the text.
 abbrev pub raw_text : ℕ → ℕ → List ℕ → Result ℕ RawStrError × ℕ
 raw_text n before u = raw_closed n before u (close n u)
 
--- the text after the character that should be a quote
+-- Reads the text after the character that should be a quote.
 abbrev pub past_starter : ℕ → ℕ → ℕ → List ℕ → Result ℕ RawStrError × ℕ
 past_starter prefix n c u =
     if is_quote c then raw_text n (prefix + suc n) u else gives (Err (InvalidStarter c)) u
 
--- the text after n hashes. The end of the text counts as U+0000
+-- Reads the text after n hashes. The end of the text counts as U+0000.
 abbrev pub raw_starter : ℕ → ℕ → List ℕ → Result ℕ RawStrError × ℕ
 raw_starter prefix n [] = (Err (InvalidStarter 0), 0)
 raw_starter prefix n (c ∷ u) = ((past_starter prefix n c u).0, suc (past_starter prefix n c u).1)
 
--- the text after the `r`: the number of hashes on each side, or why the string is refused. An
--- offset counts `prefix` bytes in front of it
+-- Reads the text after the `r`. Returns the number of hashes on each side, or the error. The offset in an error
+-- includes `prefix` bytes in front of the text.
 abbrev pub raw_read : ℕ → List ℕ → Result ℕ RawStrError × ℕ
 raw_read prefix s = after (hash_run s) (raw_starter prefix (hash_run s)) s
 
--- the number of hashes, if the string is not refused
+-- Returns the number of hashes, or None for an error.
 abbrev pub accepted : Result ℕ RawStrError → Option ℕ
 accepted (Ok n) = Some n
 accepted (Err e) = None
@@ -108,7 +108,7 @@ abbrev pub is_accepted : Result ℕ RawStrError → Bool
 is_accepted (Ok n) = true
 is_accepted (Err e) = false
 
--- the text after the `r`, as the body of a literal. It takes a suffix if it is not refused
+-- Returns the body of a raw string, which can have a suffix if there is no error.
 abbrev pub raw_body_by : (Option ℕ → LiteralKind) → Result ℕ RawStrError × ℕ → Body × ℕ
 raw_body_by kind read =
     (record { kind = kind (accepted read.0); takes_suffix = is_accepted read.0 }, read.1)
@@ -126,7 +126,7 @@ prefix_len R = 1
 prefix_len Br = 2
 prefix_len Cr = 2
 
--- the text after the prefix
+-- Lexes the text after the prefix.
 abbrev pub raw_literal : RawPrefix → List ℕ → TokenKind × ℕ
 raw_literal prefix s = literal_past (prefix_len prefix) (raw_body (prefix_kind prefix) s) s
 
@@ -134,6 +134,6 @@ abbrev pub checked : Result ℕ RawStrError → Result Unit RawStrError
 checked (Ok n) = Ok tt
 checked (Err e) = Err e
 
--- the check of a text whose prefix is p characters long
+-- Checks a text whose prefix is p characters long.
 unfoldable pub check_raw : List ℕ → ℕ → Result Unit RawStrError
 check_raw text p = checked (raw_read p (drop p (chars text))).0

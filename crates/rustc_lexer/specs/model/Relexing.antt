@@ -1,4 +1,4 @@
--- Means, by how it is read: the parts of relexing.
+-- Model of the steps of re-lexing.
 use Rattle.std.specs.Prelude.{ℕ, ◌+◌, ◌-◌, ◌<◌, ◌≤◌, Bool, count_by, max, map, IsCharBoundary, ◌≡◌, ◌↔◌, true, List}
 use Rattle.std.specs.Prelude.{length, take, drop}
 use Rattle.std.specs.Str.{IsUtf8}
@@ -14,24 +14,24 @@ use Rattle.rustc_lexer.specs.Edits.{ends_from}
 use Rattle.rustc_lexer.specs.Relexing.{IsMadeOf, IsUnderWay}
 use Rattle.rustc_lexer.specs.Locality.{has_two}
 
--- ---- what an edit of a text without a head keeps
+-- ---- tokens that an edit of a text without a head keeps
 
--- how many of the tokens end at least two characters before `to`
+-- Returns the number of tokens that end at least two characters before `to`.
 abbrev pub kept_front : List ℕ → List Token → ℕ → ℕ
 kept_front text tokens to = count_by (λ end. has_two text end to) (ends_from 0 tokens)
 
--- ---- the parts
+-- ---- re-lexing
 
--- each boundary of the tokens is inside the text, between characters
+-- Holds if each boundary of the tokens is a char boundary of the text.
 abbrev pub AreBoundaries : List ℕ → List Token → Type 0
 AreBoundaries text tokens = (k : ℕ) → k ≤ length tokens → IsCharBoundary text (bound tokens k)
 
--- these are the lengths of the tokens
+-- Holds if these are the lengths of the tokens.
 abbrev pub HasLengths : List Token → List ℕ → Type 0
 HasLengths tokens lengths = lengths ≡ map (λ (t : Token). t.len) tokens
 
--- the old text, whose token boundaries are between characters, and the new one are the same up to
--- `start`
+-- Holds if the old and the new text are the same up to `start`, and the token boundaries of the old text are char
+-- boundaries.
 pub record IsFront (old : List ℕ) (tokens : List Token) (lengths text : List ℕ) (start : ℕ) : Type 0
   where
     pub utf8 : IsUtf8 old
@@ -39,19 +39,19 @@ pub record IsFront (old : List ℕ) (tokens : List Token) (lengths text : List �
     pub lengths_are : HasLengths tokens lengths
     pub same : take start text ≡ take start old
 
--- the effect of a change on the text that it made
+-- Returns the effect of a change on the text that it resulted in.
 abbrev pub damage_of : List ℕ → Change → Damage
 damage_of text change =
     record { past = change.new_end; old_end = change.old_end; end = length text }
 
--- the last boundary of the tokens, and no other, is at this offset
+-- Holds if the last boundary of the tokens, and no other boundary, is at this offset.
 abbrev pub IsLast : List Token → ℕ → Type 0
 IsLast tokens offset =
     (bound tokens (length tokens) ≡ offset)
     × ((k : ℕ) → k < length tokens → bound tokens k < offset)
 
--- the old tokens were followed to boundary `back` for an offset of the new text, and `met` says
--- whether that offset meets them there
+-- Holds if the old tokens were followed to boundary `back` for an offset of the new text. `met` is true exactly if this
+-- offset meets the old tokens there.
 pub record IsFollowed (old : List Token) (old_end new_end offset : ℕ) (back : TokenStart) (met : Bool)
     : Type 0 where
   pub bound_is : IsBound old back
@@ -60,7 +60,7 @@ pub record IsFollowed (old : List Token) (old_end new_end offset : ℕ) (back : 
       → offset + old_end ≤ back.offset + new_end
   pub met_is : (met ≡ true) ↔ ((new_end ≤ offset) × (offset + old_end ≡ back.offset + new_end))
 
--- relexing has met the old tokens, and these are the tokens that were lexed for it
+-- Holds if re-lexing has met the old tokens, and these are the tokens that it lexed.
 pub record IsLexed (first : List ℕ → Token) (old : List ℕ) (change : Change) (text : List ℕ)
     (tokens : List Token) (at : Relexing) : Type 0 where
   pub under_way : IsUnderWay first old change text at
@@ -68,8 +68,8 @@ pub record IsLexed (first : List ℕ → Token) (old : List ℕ) (change : Chang
   pub lexed : at.lexed ≡ length tokens
   pub tokens_are : tokens ≡ take at.lexed (drop at.front.index (tokens_by first text))
 
--- `P` holds for each text that has the old tokens and from which the edit made this text, if `near`
--- is a boundary of those tokens
+-- Holds if `P` holds for each text that has the old tokens and that the edit turned into this text, provided that
+-- `near` is a boundary of these tokens.
 abbrev pub ForEachOldText : (List ℕ → Token) → EditedText Token → TokenStart → (List ℕ → List ℕ → Type 0) → Type 0
 ForEachOldText first edited near P =
     (before insert : List ℕ)
@@ -78,15 +78,15 @@ ForEachOldText first edited near P =
     → IsBound (tokens_by first before) near
     → P before insert
 
--- ---- what two texts have in common
+-- ---- common prefix and suffix of two texts
 
--- both begin with the same n bytes
+-- Holds if both texts start with the same n bytes.
 pub record IsSameFront (old new : List ℕ) (n : ℕ) : Type 0 where
   pub in_old : n ≤ length old
   pub in_new : n ≤ length new
   pub same : take n old ≡ take n new
 
--- behind `start` both end with the same n bytes
+-- Holds if both texts end with the same n bytes, which are after `start`.
 pub record IsSameBack (old new : List ℕ) (start n : ℕ) : Type 0 where
   pub in_old : start + n ≤ length old
   pub in_new : start + n ≤ length new

@@ -1,4 +1,4 @@
--- Means, by how it is read: the token that a cursor takes, and the state after it.
+-- Model of the token that a cursor returns, and of the state after it.
 use Rattle.std.specs.{Prelude.{◌≡◌, ◌+◌, ◌^◌, ◌<◌, ℕ, List, [], ◌∷◌, drop, length, if◌then◌else◌}, Str.{chars}}
 use Rattle.rustc_lexer.specs.{Token, Eof}
 use Rattle.rustc_lexer.specs.Classes.{IsText}
@@ -7,14 +7,14 @@ use Rattle.rustc_lexer.specs.State.{State, token_past}
 use Rattle.rustc_lexer.specs.model.Edition.{first_token_in}
 use Rattle.rustc_lexer.specs.model.Frontmatter.{frontmatter, opens}
 
--- the first token of a text, which is a frontmatter if one opens source
+-- Returns the first token of a text, which is a frontmatter if source starts with one.
 abbrev pub token_at : Mode → List ℕ → Token
 token_at (part edition) text = first_token_in edition text
 token_at (source edition) text =
     if opens (chars text) then frontmatter text else first_token_in edition text
 
--- the token of a state, and the state after it. At the end of the text it is a token of length 0,
--- which changes nothing
+-- Returns the next token of a state, and the state after it. At the end of the text, the token has length 0 and the
+-- state does not change.
 abbrev pub advance_by : List ℕ → State → Token × State
 advance_by [] s = (record { kind = Eof; len = 0 }, s)
 advance_by (b ∷ bs) s = (
@@ -29,8 +29,8 @@ advance_by (b ∷ bs) s = (
 unfoldable pub take_next : State → Token × State
 take_next s = advance_by s.rest s
 
--- a cursor holds an iterator, with so many bytes pending. It reads the newest edition, and the text
--- that is left fits together with these bytes
+-- Holds if this iterator and the number of pending bytes belong to a cursor. The iterator lexes with the newest
+-- edition, and the text that is left fits in 32 bits together with the pending bytes.
 pub record IsCursor (pending : ℕ) (tokens : State) : Type 0 where
   pub alone : tokens.pending ≡ 0
   pub newest : mode_edition tokens.mode ≡ newest

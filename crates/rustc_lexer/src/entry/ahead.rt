@@ -1,4 +1,5 @@
-//! The place of the iterator in its text, and the tokens past it that the ends of runs tell, 64 bytes at a time.
+//! The offset of the iterator in its text, and the next tokens as far as the ends of runs determine them. The ends are
+//! found 64 bytes at a time.
 ghost use Rattle.std.specs.Prelude.{◌≡◌, ◌+◌, ◌≤◌, ◌-◌, drop, length, MatchOption};
 ghost use Rattle.rustc_lexer.specs.model.Ends.{AreEndsPast, IsUnclassified, TakesClassified, TellsAhead};
 
@@ -7,24 +8,25 @@ use crate::lexemes::classified::{ends_after, may_continue, past_lowest};
 use crate::lexemes::family::classified_by;
 use crate::token::{Token, TokenKind};
 
-/// How many bytes are left at least where the ends of runs are searched for.
+/// The minimum number of remaining bytes for which the ends of runs are searched.
 const SEARCHED: usize = 16;
 
 /// An offset in a text, and what is known about the bytes after it.
 #[derive(Clone, Copy)]
 pub(crate) struct Ahead {
-    /// The offset at which the text that is left begins.
+    /// The offset of the text that has not been lexed yet.
     pub(crate) at: usize,
-    /// The offset from which on the ends of runs are known.
+    /// The offset that bit 0 of `ends` refers to.
     pub(crate) block: usize,
-    /// The ends of runs from `block` on, as bits, or 0. Those up to `at` mean nothing.
+    /// The ends of runs from `block` on, as bits, or 0 if none are known. Bits up to `at` mean nothing.
     pub(crate) ends: u64,
-    /// The kind of the next token, if its first byte and `program_io` may determine all of it. Then no bit up to `at` is set.
+    /// The kind of the next token, if its first byte and `ends` may determine the whole token. Then no bit up to `at`
+    /// is set.
     pub(crate) classified: Option<TokenKind>,
 }
 
 impl Ahead {
-    /// Takes the next token of the text if its first byte and the ends of runs determine it.
+    /// Returns the next token of the text, and moves past it, if its first byte and the ends of runs determine it.
     #[inline(always)]
     pub(crate) fn take(&mut self, text: &str) -> Option<Token>
         requires { TellsAhead text.now self.old }
@@ -52,8 +54,8 @@ impl Ahead {
         None
     }
 
-    /// Begins to take tokens by the ends of runs if the first byte that is left allows it and many bytes are left. The
-    /// ends that are known already are kept.
+    /// Starts to find tokens by the ends of runs, if the next byte allows it and many bytes are left. Ends that are
+    /// already known are kept.
     #[inline(always)]
     pub(crate) fn classify_next(&mut self, text: &str)
         requires { TellsAhead text.now self.old }
@@ -71,8 +73,8 @@ impl Ahead {
     }
 }
 
-/// Returns the ends of runs after an offset, and the offset of the first byte that they cover: the ends that are known,
-/// or else those of the next 64 bytes.
+/// Returns the ends of runs after an offset, and the offset of the first byte that they cover. These are the known ends
+/// or, if there are none, those of the next 64 bytes.
 #[inline(always)]
 #[tactic(auto, using(crate::proofs::lemmas::tokens::Classified::found_at, crate::proofs::lemmas::tokens::Classified::left_is, std::proofs::lemmas::Grind::common_steps))]
 fn ends_ahead(text: &str, at: usize, block: usize, ends: u64) -> (usize, u64)

@@ -1,4 +1,4 @@
-//! The tokens of a whole document.
+//! The tokens of a whole file.
 ghost use Rattle.std.specs.Prelude.{◌≡◌, All, drop};
 ghost use Rattle.std.specs.Str.{IsCharBoundary};
 ghost use Rattle.rustc_lexer.specs.Classes.{Fits};
@@ -11,11 +11,12 @@ use crate::entry::{Tokens, tokenize_as};
 use crate::shebang::tokens_start;
 use crate::token::FrontmatterAllowed;
 
-/// Returns an iterator over the tokens of a whole document in an edition. The text may have at most `u32::MAX` bytes.
+/// Returns an iterator over the tokens of a whole file, lexed in the given edition. The text may have at most
+/// `u32::MAX` bytes.
 ///
-/// A document may start with a byte order mark (U+FEFF), then a shebang line, then a frontmatter. The mark and the
-/// shebang line are not tokens: the first token starts at `text.len() - tokens.as_str().len()` bytes, as long as no
-/// token was taken. For a fragment, or to read the shebang line as tokens, call [`tokenize_as`].
+/// A file may start with a byte order mark (U+FEFF), then a shebang line, then a frontmatter. The mark and the shebang
+/// line are not tokens: the first token starts at byte `text.len() - tokens.as_str().len()`, before the first call of
+/// `next`. For a fragment, or to lex a shebang line as code, call [`tokenize_as`].
 ///
 /// ```ignore
 /// let tokens = tokenize_document(text, Edition::E2024);

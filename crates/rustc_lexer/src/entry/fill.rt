@@ -1,4 +1,4 @@
-//! Writes many tokens of a text at once.
+//! Lexes many tokens at once into a buffer.
 ghost use Rattle.std.specs.Prelude.{◌≡◌, ◌++◌, drop, length, map, min, take};
 ghost use Rattle.rustc_lexer.specs.{Token};
 ghost use Rattle.rustc_lexer.specs.Tokens.{state_past, tokens_left};
@@ -7,9 +7,9 @@ use crate::entry::Tokens;
 use crate::token::Token;
 use std::iter::Iterator;
 
-/// A form of a token, in which `fill` writes it.
+/// A type that a token can be converted to as it is written into a buffer.
 ///
-/// In plain Rust this one is the kind alone:
+/// For example, to keep only the kinds:
 ///
 /// ```
 /// use rustc_lexer::{FromToken, FrontmatterAllowed, Token, TokenKind, tokenize};
@@ -28,15 +28,15 @@ use std::iter::Iterator;
 /// assert_eq!(kinds[1], Kind(TokenKind::Plus));
 /// ```
 pub trait FromToken: Copy {
-    /// The form of each token.
+    /// The value that each token is converted to.
     ghost written: { Token → Self };
 
-    /// Returns the form of a token.
+    /// Converts a token.
     fn from_token(token: Token) -> Self
         ensures { result ≡ written token };
 }
 
-/// A token in its own form.
+/// A token is written as it is.
 impl FromToken for Token {
     ghost written = { λ token. token };
 
@@ -47,10 +47,10 @@ impl FromToken for Token {
 }
 
 impl<'a> Tokens<'a> {
-    /// Writes the next tokens into the buffer, as many as are left or as there is room for, and returns how many.
-    /// The number is less than the length of the buffer only if no token is left.
+    /// Writes the next tokens into the buffer until it is full or no token is left, and returns how many were written.
     ///
-    /// They are the tokens that as many calls of `next` return.
+    /// These are the tokens that the same number of calls of `next` would return. Fewer tokens than the buffer's length
+    /// are written only if no token is left.
     ///
     /// ```ignore
     /// let mut buffer = [Token { kind: TokenKind::Eof, len: 0 }; 256];
@@ -69,7 +69,7 @@ impl<'a> Tokens<'a> {
             ≡ map R.written (take result (tokens_left self.old)) ++ drop result buffer.old }
         ensures state { self.new ≡ state_past result self.old }
     {
-        // The loop takes from a copy, which stays in registers.
+        // The loop uses a copy, which stays in registers.
         let mut tokens = self.copy_unclassified();
         tokens.classify_next();
         let mut count = 0;

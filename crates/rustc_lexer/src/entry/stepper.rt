@@ -1,4 +1,4 @@
-//! Steppers: they lex by a grammar, one token at a time or many at once.
+//! Steppers, which lex by a grammar: one token at a time, or many at once.
 ghost use Rattle.std.specs.Prelude.{◌≡◌, ◌+◌, ◌<◌, ◌≤◌, List, ℕ, length};
 ghost use Rattle.rustc_lexer.specs.{Token};
 ghost use Rattle.rustc_lexer.specs.Tokens.{IsFilledTo, bound, tokens_by};
@@ -16,11 +16,13 @@ use std::iter::Iterator;
 
 /// A lexer for one grammar: it returns the first token of any text.
 ///
-/// A first token is not empty, ends between two characters, and depends only on itself and the two characters after
-/// it. `step` returns the first token of the text that it is given, and always the same one for the same text. In
-/// Rattle each implementation proves this. In plain Rust a kept text calls `step` alone, and tests where tokens end; if
-/// an implementation breaks another rule, the tokens of an edited text are wrong. [`Relex`](crate::Relex) does not
-/// test the stepper: with tokens of length 0 it never finishes. For this stepper each character is a token:
+/// A first token is not empty, ends on a character boundary, and depends only on itself and the two characters after
+/// it. `step` returns the first token of the text that it is called with, and always the same token for the same text.
+/// In Rattle, every implementation proves this. In Rust, a lexed text calls only `step` of your stepper, and checks
+/// where its tokens end; if the stepper breaks another rule, the tokens of an edited text can be wrong.
+/// [`Relex`](crate::Relex) does not check a stepper: with tokens of length 0 it never finishes.
+///
+/// For this stepper, each character is a token:
 ///
 /// ```
 /// use rustc_lexer::{Stepper, Token, TokenKind};
@@ -37,16 +39,16 @@ use std::iter::Iterator;
 /// assert_eq!(Characters.step("é+").len, 2);
 /// ```
 pub trait Stepper: Drop {
-    /// The grammar: the first token of each text, and the number that names it.
+    /// The grammar of a stepper: the first token of each text, and the number that identifies the grammar.
     ghost grammar: { Self → Grammar };
 
-    /// How many steps were taken.
+    /// The number of steps so far.
     ghost count: { Self → ℕ };
 
-    /// What each grammar obeys.
+    /// The first tokens of every stepper follow the rules of a grammar.
     ghost law: { (stepper : Self) → IsGrammar (grammar stepper).first };
 
-    /// Returns the first token of the text, which is not empty.
+    /// Returns the first token of the text, which must not be empty.
     fn step(&mut self, rest: &str) -> Token
         requires not_empty { 0 < length rest.now }
         requires fits { Fits rest.now }
@@ -54,12 +56,13 @@ pub trait Stepper: Drop {
         ensures count { count self.new ≡ count self.old + 1 }
         ensures grammar { grammar self.new ≡ grammar self.old };
 
-    /// Writes the first tokens of the text into the buffer: those that begin before `end`, or as many as there is
-    /// room for. Returns how many tokens it wrote, and how many bytes they take. Each token counts as a step. `end` is
-    /// at most the length of the text in bytes; if it is greater, the call may panic.
+    /// Writes the first tokens of the text into the buffer, until the buffer is full or the next token would not start
+    /// before `end`. Returns how many tokens it wrote, and their total length in bytes. Each token counts as a step.
     ///
-    /// This default takes one step after another. A stepper that can find many tokens at once has a body of its
-    /// own.
+    /// `end` must be at most the length of the text in bytes; if it is greater, the call may panic.
+    ///
+    /// The default implementation calls `step` for each token. A stepper that can find many tokens at once overrides
+    /// it.
     #[tactic(auto, using(crate::proofs::lemmas::tokens::Buffers::written_to, std::proofs::lemmas::Grind::common_steps))]
     fn fill<R: FromToken>(&mut self, text: &str, end: usize, buffer: &mut [R]) -> (usize, usize)
         requires fits { Fits text.now }
@@ -90,7 +93,7 @@ pub struct Steps {
 }
 
 impl Steps {
-    /// Returns the lexer of the newest edition, before its first step.
+    /// Creates a stepper for the newest edition. It has not made a step yet.
     pub fn new() -> Steps
         ensures count { ⟦<Steps as Stepper>⟧.count result ≡ 0 }
         ensures grammar { ⟦<Steps as Stepper>⟧.grammar result ≡ grammar_of newest }
@@ -98,7 +101,7 @@ impl Steps {
         Steps::new_in(Edition::NEWEST)
     }
 
-    /// Returns the lexer of an edition, before its first step.
+    /// Creates a stepper for the given edition. It has not made a step yet.
     pub fn new_in(edition: Edition) -> Steps
         ensures count { ⟦<Steps as Stepper>⟧.count result ≡ 0 }
         ensures grammar { ⟦<Steps as Stepper>⟧.grammar result ≡ grammar_of edition }
@@ -109,7 +112,7 @@ impl Steps {
         }
     }
 
-    /// Returns the edition of its tokens.
+    /// Returns the edition in which it lexes.
     pub(crate) fn edition(&self) -> Edition
         ensures { result ≡ self.now.edition }
     {
@@ -137,7 +140,7 @@ impl Stepper for Steps {
         let past_end = text.len() - end;
         let mut count = 0;
         'places: while count < buffer.len() && tokens.left() > past_end {
-            // Most tokens are classified already: a branch of their own is faster.
+            // Most tokens are classified already, so a branch of their own is faster.
             if let Some(token) = tokens.next_classified() {
                 buffer[count] = R::from_token(token);
                 count += 1;

@@ -1,10 +1,10 @@
-//! A count that only contracts see.
+//! A count that only contracts can read.
 ghost use Rattle.std.specs.Prelude.{◌≡◌, ◌+◌, ℕ};
 ghost use base.Fml.{ftrue};
 
 use std::marker::{Model, PhantomData};
 
-/// A number that only contracts see. It takes no bytes, and counting does nothing when the program runs.
+/// A number that only contracts can read. It has size 0, and counting does nothing at run time.
 #[derive(Drop)]
 pub(crate) struct Tally {
     marker: PhantomData<()>,
@@ -25,7 +25,7 @@ impl Tally {
         }
     }
 
-    /// Adds this many to the count.
+    /// Adds a number to the count.
     pub(crate) fn add(&mut self, _more: usize)
         ensures { self.new.count ≡ self.old.count + _more }
     {}

@@ -1,10 +1,10 @@
-//! Where the body of a quoted literal or of a block comment ends.
+//! The end of a quoted literal or of a block comment.
 
-/// What stands where a body ends.
+/// The end of a quoted literal or of a block comment.
 #[derive(Clone, Copy)]
 pub(crate) struct BodyEnd<'a> {
-    /// Whether something closes the body.
+    /// Whether the closing delimiter is present.
     pub(crate) terminated: bool,
-    /// The text after the body and what closes it.
+    /// The text after the closing delimiter, or after the unterminated token.
     pub(crate) rest: &'a str,
 }

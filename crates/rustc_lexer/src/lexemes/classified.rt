@@ -1,11 +1,11 @@
-//! The ends of runs, and the bytes after a run that may change its token.
+//! The ends of runs, and the bytes after a run that can change its token.
 ghost use Rattle.std.specs.Prelude.{◌≡◌, ◌≢◌, ◌≤◌, ◌<◌, ℕ, false, true, IsFalse};
 ghost use Rattle.rustc_lexer.specs.model.Ends.{bit, IsLowest, StaysWithin};
 
 use crate::kernels::turns_word;
 use crate::token::TokenKind;
 
-/// Returns the known ends of runs past an offset.
+/// Returns the known ends of runs after an offset.
 #[inline(always)]
 #[tactic(auto, using(crate::proofs::lemmas::tokens::Bits::bit_lemmas, std::proofs::lemmas::Grind::common_steps))]
 pub(crate) fn ends_after(ends: u64, offset: usize) -> u64
@@ -30,7 +30,7 @@ pub(crate) fn past_lowest(ends: u64) -> u64
     ends & (ends - 1)
 }
 
-/// Returns whether the byte `next` after the run may change the token of that kind, or continue it.
+/// Returns whether the byte `next` after the run can change or extend the token of that kind.
 #[inline(always)]
 pub(crate) fn may_continue(kind: TokenKind, next: u8) -> bool
     ensures { IsFalse result → StaysWithin kind next }

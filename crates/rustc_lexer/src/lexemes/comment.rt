@@ -8,8 +8,7 @@ use crate::lexemes::block_comment::block_comment;
 use crate::scan::{begins_with, eat_until, strip};
 use crate::token::{DocStyle, TokenKind};
 
-/// Lexes a token that begins with a slash. Returns its kind, and the text after it. `rest` is the text after the
-/// slash.
+/// Lexes a token that starts with a slash. Returns its kind, and the text after it. `rest` is the text after the slash.
 #[inline(always)]
 pub(crate) fn slash(rest: &str) -> (TokenKind, &str)
     ensures { (result.0, result.1.now) ≡ scanned spec.slash rest.now }

@@ -1,4 +1,5 @@
-//! Families of tokens, which the first character of a token chooses, and the kinds that a byte tells.
+//! Families of tokens, which are determined by the first character of a token, and the kinds that one byte can
+//! determine.
 #![tactic(auto, using(crate::proofs::lemmas::tokens::Families::table, std::proofs::lemmas::Grind::common_steps))]
 
 ghost use Rattle.std.specs.Prelude.{◌≡◌, ◌<◌, ◌≤◌, MatchOption};
@@ -16,12 +17,12 @@ use crate::token::TokenKind::{
     Tilde, Unknown, Whitespace,
 };
 
-/// A family of tokens, which the first character of a token chooses.
+/// A family of tokens, which is determined by the first character of a token.
 #[derive(Clone, Copy)]
 pub(crate) enum Family {
     /// A comment or a slash.
     Slash,
-    /// White space.
+    /// Whitespace.
     Space,
     /// An identifier, or a literal with a letter in front.
     Word,
@@ -31,7 +32,7 @@ pub(crate) enum Family {
     Quote,
     /// A string.
     Str,
-    /// A word that would be an identifier without the emoji at its front.
+    /// A word that starts with an emoji, so it is not an identifier.
     Emoji,
     /// A hash, or the prefix of a guarded string.
     Hash,
@@ -39,7 +40,7 @@ pub(crate) enum Family {
     Symbol,
 }
 
-/// What a table of the families or of the kinds has for a cell of the picture.
+/// The entry of the table of families or of kinds for a cell of the picture.
 macro_rules! cell {
     (family '"') => { Str };
     (family '#') => { Hash };
@@ -84,8 +85,9 @@ macro_rules! cells {
     ($of:ident $($char:tt)*) => { &[$(cell!($of $char)),*] };
 }
 
-/// A table with what `cell` has for each character of ASCII, 16 in a row, and for the cells past them. A cell is the
-/// character, or for many a `w` for a word's, `s` for white space, `0` for a digit and `u` for what begins no token.
+/// A table with the entry of `cell` for each ASCII character, 16 in a row, and for the cells after them. A cell is the
+/// character itself, or `w` for a character of words, `s` for whitespace, `0` for a digit, and `u` for a character that
+/// starts no token.
 macro_rules! picture {
     ($of:ident $($past:tt)*) => {
         cells!($of
@@ -101,18 +103,18 @@ macro_rules! picture {
     };
 }
 
-/// The families of the characters in ASCII.
+/// The families of the ASCII characters.
 const FAMILIES: &[Family; 128] = picture!(family);
 
-/// The kind of the token that begins with a byte, if the token's run and the byte past the run determine all of it. A
-/// look in a table costs less than a branch, since the next byte is hard to predict.
+/// The kind of the token that starts with a byte, if the token's run and the byte after the run determine the whole
+/// token. A lookup in a table is faster than a branch, since the next byte is hard to predict.
 const CLASSIFIED: &[Option<TokenKind>; 256] = picture!(kind
     n n n n n n n n n n n n n n n n n n n n n n n n n n n n n n n n
     n n n n n n n n n n n n n n n n n n n n n n n n n n n n n n n n
     n n n n n n n n n n n n n n n n n n n n n n n n n n n n n n n n
     n n n n n n n n n n n n n n n n n n n n n n n n n n n n n n n n);
 
-/// Returns the family that the character chooses.
+/// Returns the family of tokens that start with the character.
 #[inline(always)]
 pub(crate) fn family_of(first: char) -> Family
     ensures { result ≡ spec.family_of first }
@@ -125,7 +127,7 @@ pub(crate) fn family_of(first: char) -> Family
     }
 }
 
-/// Returns the family that a byte of ASCII chooses, or `None` for a byte from 128 up.
+/// Returns the family of tokens that start with an ASCII byte, or `None` for a byte outside ASCII.
 #[inline(always)]
 pub(crate) fn family_of_byte(first: u8) -> Option<Family>
     ensures { MatchOption result (128 ≤ first)
@@ -138,7 +140,7 @@ pub(crate) fn family_of_byte(first: u8) -> Option<Family>
     }
 }
 
-/// Returns the family that a character outside ASCII chooses.
+/// Returns the family of tokens that start with a character outside ASCII.
 #[tactic(auto, using(crate::proofs::lemmas::tokens::Families::wide_word, std::proofs::lemmas::Grind::common_steps))]
 fn family_past_ascii(first: char) -> Family
     requires { 128 ≤ first }
@@ -155,7 +157,8 @@ fn family_past_ascii(first: char) -> Family
     }
 }
 
-/// Returns the kind of the token that begins with the byte, if its run and the byte past the run determine all of it.
+/// Returns the kind of the token that starts with the byte, if its run and the byte after the run determine the whole
+/// token.
 #[inline(always)]
 pub(crate) fn classified_by(first: u8) -> Option<TokenKind>
     ensures { result ≡ spec.classified first }

@@ -1,4 +1,4 @@
-//! Identifiers, and the hashes and prefixes that may stand beside them.
+//! Identifiers, and words that are not identifiers because of an emoji or of the character after them.
 ghost use Rattle.std.specs.Prelude.{◌≡◌, ◌+◌, true, false, MatchOption, drop};
 ghost use Rattle.std.specs.Str.{chars};
 ghost use Rattle.rustc_lexer.specs.Classes;
@@ -11,8 +11,8 @@ use crate::kernels::ends_word;
 use crate::scan::{eat_continue, eat_while, next_is, split_first, strip};
 use crate::token::TokenKind;
 
-/// Lexes an identifier, or a word that is not one because of an emoji in it or because of the character after it.
-/// Returns its kind, and the text after it. `tail` is the text after its first character.
+/// Lexes an identifier, or a word that is not one because it contains an emoji or because it is a prefix. Returns its
+/// kind, and the text after it. `tail` is the text after its first character.
 #[inline(always)]
 pub(crate) fn ident_or_unknown_prefix(tail: &str) -> (TokenKind, &str)
     ensures { (result.0, result.1.now) ≡ scanned spec.ident_or_unknown_prefix tail.now }
@@ -31,7 +31,7 @@ pub(crate) fn ident_or_unknown_prefix(tail: &str) -> (TokenKind, &str)
     }
 }
 
-/// Lexes a word that would be an identifier without an emoji in it. Returns its kind, and the text after it. `tail`
+/// Lexes a word that is not an identifier because it contains an emoji. Returns its kind, and the text after it. `tail`
 /// is the text after that emoji.
 pub(crate) fn invalid_ident(tail: &str) -> (TokenKind, &str)
     ensures { (result.0, result.1.now) ≡ scanned spec.invalid_ident tail.now }
@@ -39,7 +39,7 @@ pub(crate) fn invalid_ident(tail: &str) -> (TokenKind, &str)
     (TokenKind::InvalidIdent, eat_while(tail, is_word_continue))
 }
 
-/// Returns the text after a hash and an identifier, or `None` if the text does not begin with these.
+/// Returns the text after a hash and an identifier, or `None` if the text does not start with them.
 #[inline(always)]
 pub(crate) fn eat_hash_ident(tail: &str) -> Option<&str>
     ensures { MatchOption result (spec.begins_hash_ident (chars tail.now) ≡ false)
@@ -54,10 +54,10 @@ pub(crate) fn eat_hash_ident(tail: &str) -> Option<&str>
     Some(eat_continue(word))
 }
 
-/// Returns whether the text is an identifier: it is not empty, an identifier may begin with its first character, and
-/// may continue with each of the others. [`is_id_start`] and [`is_id_continue`] say which tables decide that.
+/// Returns whether the text is an identifier or a keyword: a character that can start one, followed by characters that
+/// can continue one, according to [`is_id_start`] and [`is_id_continue`].
 ///
-/// Rust Reference, [Identifiers](https://doc.rust-lang.org/reference/identifiers.html).
+/// Rust Reference: [identifiers](https://doc.rust-lang.org/reference/identifiers.html).
 #[inline]
 pub fn is_ident(string: &str) -> bool
     ensures { result ≡ Classes.is_ident (chars string.now) }
@@ -68,7 +68,7 @@ pub fn is_ident(string: &str) -> bool
     }
 }
 
-/// Returns whether the character continues an identifier or the name of a lifetime, valid or not.
+/// Returns whether the character can continue an identifier or the name of a lifetime, valid or not.
 pub(crate) fn is_word_continue(c: char) -> bool
     ensures { result ≡ Classes.is_word_continue c }
 {

@@ -1,5 +1,6 @@
-//! Tokens that begin with a single quote: character literals and lifetimes.
-ghost use Rattle.std.specs.Prelude.{◌≡◌, ◌+◌, ◌≤◌, ◌<◌, ◌^◌, ◌&&◌, ◌||◌, not, if◌then◌else◌, true, length, codes, IfSome};
+//! Tokens that start with a single quote: character literals and lifetimes.
+ghost use Rattle.std.specs.Prelude.{◌≡◌, ◌+◌, ◌≤◌, ◌<◌, ◌^◌, ◌&&◌, ◌||◌, not, if◌then◌else◌, true, length, codes};
+ghost use Rattle.std.specs.Prelude.{IfSome};
 ghost use Rattle.std.specs.Char.{is_ascii_digit, len_utf8};
 ghost use Rattle.std.specs.Str.{chars};
 ghost use Rattle.rustc_lexer.specs.{Lifetime, UnknownPrefixLifetime};
@@ -17,8 +18,8 @@ use crate::lexemes::quoted::{QuotedPrefix, quoted_literal};
 use crate::scan::{eat_continue, eat_while, split_first, strip};
 use crate::token::{LiteralKind, TokenKind};
 
-/// Lexes a token that begins with a single quote. Returns its kind, and the text after it. `tail` is the text after
-/// the quote.
+/// Lexes a token that starts with a single quote. Returns its kind, and the text after it. `tail` is the text after the
+/// quote.
 #[inline(always)]
 pub(crate) fn lifetime_or_char(tail: &str) -> (TokenKind, &str)
     requires fits { length tail.now + 1 < 2 ^ 32 }
@@ -38,10 +39,10 @@ pub(crate) fn lifetime_or_char(tail: &str) -> (TokenKind, &str)
     }
 }
 
-/// Returns the text after the closing quote if that comes right after one character of ASCII, or after a backslash
-/// and one such character.
+/// Returns the text after the closing quote if this quote directly follows one ASCII character, or a backslash and one
+/// ASCII character.
 ///
-/// There is no branch on which of the two it is, which is hard to predict.
+/// There is no branch on which of the two it is, since that is hard to predict.
 #[inline(always)]
 #[tactic(auto, using(crate::proofs::lemmas::tokens::ShortChars::short_cut, crate::proofs::lemmas::tokens::ShortChars::byte_le, std::proofs::lemmas::Grind::common_steps))]
 fn past_short_char(tail: &str) -> Option<&str>
@@ -61,22 +62,22 @@ fn past_short_char(tail: &str) -> Option<&str>
     }
 }
 
-/// Returns whether a quote, `first` and `rest` begin a character literal, not a lifetime.
+/// Returns whether a quote, `first` and `rest` start a character literal and not a lifetime.
 fn is_character(first: char, rest: &str) -> bool
     ensures { result ≡ spec.is_character first (chars rest.now) }
 {
     strip(rest, b'\'').is_some() || !is_name_start(first)
 }
 
-/// Returns whether the name of a lifetime may begin with the character. Digits and emoji pass the test.
+/// Returns whether the name of a lifetime can start with the character, valid or not. Digits and emoji can.
 fn is_name_start(c: char) -> bool
     ensures { result ≡ spec.is_name_start c }
 {
     is_id_start(c) || c.is_ascii_digit() || is_emoji(c)
 }
 
-/// Lexes a quote and the name after it. Returns the kind of the token, and the text after it. The name begins with
-/// `first`, and `rest` is the text after that.
+/// Lexes a quote and the name after it. Returns the kind of the token, and the text after it. `first` is the first
+/// character of the name, and `rest` is the text after `first`.
 #[inline(always)]
 fn lifetime(first: char, rest: &str) -> (TokenKind, &str)
     requires fits { len_utf8 first + length rest.now + 1 < 2 ^ 32 }
@@ -109,7 +110,7 @@ fn plain_lifetime(first: char, rest: &str) -> (TokenKind, &str)
     (lifetime_kind(first, holds_emoji, past_name), past_name)
 }
 
-/// Returns the kind of a name that no quote follows. It begins with `first`, and `rest` is the text after the name.
+/// Returns the kind of a name that no quote follows. `first` is its first character, and `rest` is the text after it.
 #[inline(always)]
 fn lifetime_kind(first: char, holds_emoji: bool, rest: &str) -> TokenKind
     ensures { result ≡ (if begins (codes "#") (chars rest.now) && not (is_ascii_digit first)

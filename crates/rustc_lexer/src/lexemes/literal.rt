@@ -1,4 +1,4 @@
-//! The suffix of a literal, and the offset where it begins.
+//! The suffix of a literal, and its offset.
 ghost use Rattle.std.specs.Prelude.{◌≡◌, ◌+◌, ◌-◌, ◌≤◌, ◌<◌, ◌^◌, length};
 ghost use Rattle.std.specs.Str.{chars};
 ghost use Rattle.rustc_lexer.specs.{Literal};
@@ -9,7 +9,7 @@ use crate::classes::is_id_start;
 use crate::scan::{eat_continue, split_first};
 use crate::token::{LiteralKind, TokenKind};
 
-/// Returns the text after the suffix, if there is one at the front, or else the whole text.
+/// Returns the text after the suffix at its start, or the whole text if there is none.
 #[inline(always)]
 #[tactic(auto, using(crate::specs::laws::Scan::scan_lemmas, std::proofs::lemmas::Grind::common_steps))]
 pub(crate) fn eat_literal_suffix(rest: &str) -> &str
@@ -25,8 +25,8 @@ pub(crate) fn eat_literal_suffix(rest: &str) -> &str
     eat_continue(tail)
 }
 
-/// Returns the kind of a literal. Its body is `tail` up to `rest`, and `tail` is the text after its first
-/// character, which is one byte long.
+/// Returns the kind of a literal whose suffix starts at `rest`. `tail` is the text after the first character of the
+/// literal, which is one byte long.
 #[inline(always)]
 pub(crate) fn literal(kind: LiteralKind, tail: &str, rest: &str) -> TokenKind
     requires inside { length rest.now ≤ length tail.now }

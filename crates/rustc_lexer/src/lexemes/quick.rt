@@ -1,4 +1,4 @@
-//! The most common tokens, found by their bytes alone: identifiers, white space, hashes and symbols.
+//! The most common tokens, found by their bytes alone: identifiers, whitespace, hashes and symbols.
 ghost use Rattle.std.specs.Prelude.{◌≡◌, IsUtf8, MatchOption};
 ghost use Rattle.rustc_lexer.specs.Classes.{Fits};
 ghost use Rattle.rustc_lexer.specs.model.Hash.{opens_guarded};
@@ -9,9 +9,9 @@ use crate::kernels::{Continue, Space, ends_space, ends_word, run_end, short_run_
 use crate::lexemes::family::{Family, family_of_byte, symbol_kind};
 use crate::token::{Token, TokenKind};
 
-/// Returns the first token of the text if the bytes of one run and the byte after it determine its kind. For a hash they
-/// always do, and for a hash alone the edition matters: it may not reserve guarded strings. The text is given as its
-/// bytes, so a slice of it takes no test for a bound of a character.
+/// Returns the first token of the text if the bytes of one run and the byte after it determine its kind. For a hash
+/// they always do. The edition matters only for a hash, since it may not reserve guarded strings. The text is passed as
+/// bytes, so that slicing it does not check for character boundaries.
 #[inline(always)]
 pub(crate) fn quick_token(text: &[u8], reserves_guards: bool) -> Option<Token>
     requires utf8 { IsUtf8 text.now }
@@ -64,7 +64,7 @@ pub(crate) fn quick_token(text: &[u8], reserves_guards: bool) -> Option<Token>
     }
 }
 
-/// Returns whether a quote or a hash is at the front.
+/// Returns whether the text starts with a quote or a hash.
 #[inline(always)]
 fn begins_guarded(bytes: &[u8]) -> bool
     ensures { result ≡ Scan.next_is opens_guarded bytes.now }

@@ -9,7 +9,7 @@ use crate::lexemes::literal::eat_literal_suffix;
 use crate::scan::{eat_hashes, eat_until, split_first, strip};
 use crate::token::{LiteralKind, RawStrError, TokenKind};
 
-/// The prefix of a raw string that is a token.
+/// The prefix of a raw string.
 #[derive(Clone, Copy)]
 pub(crate) enum RawPrefix {
     /// `r`
@@ -67,8 +67,8 @@ fn raw_kind(prefix: RawPrefix, n_hashes: Option<u8>) -> LiteralKind
     }
 }
 
-/// Returns the number of hashes on each side of a raw string, or why it is refused; and the text after it. `rest`
-/// is the text after its prefix. An offset is in bytes, and counts `prefix_len` for the prefix.
+/// Returns the number of hashes on each side of a raw string, or why it is malformed, and the text after it. `rest` is
+/// the text after its prefix. Offsets are in bytes from the end of the prefix, plus `prefix_len`.
 #[inline(always)]
 #[tactic(auto, using(crate::proofs::lemmas::tokens::RawRead::opening_lemmas, std::proofs::lemmas::Grind::common_steps))]
 pub(crate) fn raw_double_quoted_string(
@@ -92,9 +92,9 @@ pub(crate) fn raw_double_quoted_string(
     }
 }
 
-/// Reads a raw string from its opening quote on, before which there are `n_hashes` hashes. Returns the number of
-/// hashes, or why the string is refused; and the text after it. An offset counts `before` bytes for all that comes
-/// before `text`.
+/// Lexes a raw string from its opening quote on, which `n_hashes` hashes precede. Returns the number of hashes, or why
+/// the string is malformed, and the text after it. `text` is the text after the opening quote, and its offset is
+/// `before`.
 #[inline(always)]
 fn raw_text(text: &str, n_hashes: u32, before: u32) -> (Result<u8, RawStrError>, &str)
     requires fits { before + length text.now < 2 ^ 32 }
@@ -123,7 +123,7 @@ fn raw_text(text: &str, n_hashes: u32, before: u32) -> (Result<u8, RawStrError>,
     (Err(error), "")
 }
 
-/// Returns the text after its first quote.
+/// Returns the text after its first double quote, or `None` if there is none.
 #[inline(always)]
 fn past_quote(rest: &str) -> Option<&str>
     ensures { let offset = run_len spec.is_no_quote (chars rest.now) in
@@ -135,7 +135,7 @@ fn past_quote(rest: &str) -> Option<&str>
     strip(eat_until(rest, b'"'), b'"')
 }
 
-/// Returns the number of hashes, or the error that there are too many.
+/// Returns the number of hashes, or an error if there are more than 255.
 fn hash_count(n_hashes: u32) -> Result<u8, RawStrError>
     ensures { result ≡ spec.hash_count n_hashes }
 {

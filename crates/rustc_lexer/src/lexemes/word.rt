@@ -1,4 +1,4 @@
-//! Tokens that begin with a letter: identifiers, and literals with a letter in front.
+//! Tokens that start like an identifier: identifiers, and literals with a letter in front.
 ghost use Rattle.std.specs.Prelude.{◌≡◌, ◌+◌, ◌<◌, ◌^◌, length};
 ghost use Rattle.std.specs.Str.{chars};
 ghost use Rattle.rustc_lexer.specs.model.Lexeme as spec;
@@ -11,8 +11,7 @@ use crate::lexemes::raw::{RawPrefix, raw_literal};
 use crate::scan::strip;
 use crate::token::TokenKind;
 
-/// Lexes a token that begins with `first`. Returns its kind, and the text after it. `tail` is the text after
-/// `first`.
+/// Lexes a token that starts with `first`. Returns its kind, and the text after it. `tail` is the text after `first`.
 #[inline(always)]
 pub(crate) fn word(first: char, tail: &str) -> (TokenKind, &str)
     requires fits { length tail.now + 1 < 2 ^ 32 }
@@ -27,7 +26,7 @@ pub(crate) fn word(first: char, tail: &str) -> (TokenKind, &str)
     }
 }
 
-/// Lexes a token that begins with `r`: a raw identifier, a raw string, or an identifier.
+/// Lexes a token that starts with `r`: a raw identifier, a raw string, or an identifier.
 #[inline(always)]
 fn letter_r(tail: &str) -> (TokenKind, &str)
     requires fits { length tail.now + 1 < 2 ^ 32 }
@@ -43,7 +42,7 @@ fn letter_r(tail: &str) -> (TokenKind, &str)
     }
 }
 
-/// Returns whether a raw string continues with the text after its prefix.
+/// Returns whether the text after a prefix continues as a raw string.
 #[inline(always)]
 fn begins_raw(rest: &str) -> bool
     ensures { result ≡ next_is spec.opens_raw (chars rest.now) }
@@ -51,7 +50,7 @@ fn begins_raw(rest: &str) -> bool
     strip(rest, b'"').is_some() || strip(rest, b'#').is_some()
 }
 
-/// Lexes a token that begins with `k`: a forced keyword, or an identifier.
+/// Lexes a token that starts with `k`: a forced keyword, or an identifier.
 #[inline(always)]
 fn letter_k(tail: &str) -> (TokenKind, &str)
     ensures { (result.0, result.1.now) ≡ scanned spec.letter_k tail.now }
@@ -62,7 +61,7 @@ fn letter_k(tail: &str) -> (TokenKind, &str)
     }
 }
 
-/// Lexes a token that begins with `b`: a byte, a byte string, or an identifier.
+/// Lexes a token that starts with `b`: a byte, a byte string, or an identifier.
 #[inline(always)]
 fn letter_b(tail: &str) -> (TokenKind, &str)
     requires fits { length tail.now + 1 < 2 ^ 32 }
@@ -77,7 +76,7 @@ fn letter_b(tail: &str) -> (TokenKind, &str)
     }
 }
 
-/// Lexes a token that begins with `c`: a C string, or an identifier.
+/// Lexes a token that starts with `c`: a C string, or an identifier.
 #[inline(always)]
 fn letter_c(tail: &str) -> (TokenKind, &str)
     requires fits { length tail.now + 1 < 2 ^ 32 }
@@ -90,7 +89,7 @@ fn letter_c(tail: &str) -> (TokenKind, &str)
     }
 }
 
-/// Lexes a raw string whose prefix of two letters ends with the `r` at the front of `tail`, or an identifier.
+/// Lexes a raw string whose prefix of two letters ends with the `r` at the start of `tail`, or an identifier.
 #[inline(always)]
 fn raw_or_ident(prefix: RawPrefix, tail: &str) -> (TokenKind, &str)
     requires long { prefix_len prefix ≡ 2 }

@@ -21,8 +21,9 @@ impl Head {
     /// Returns the change of the body by an edit of the document. `self` is the head of the text before the edit, and
     /// `now` is the head of the current text.
     ///
-    /// If the head stays, the change is the edit itself. Otherwise it extends from the start of the body to the first
-    /// position after the edit at which both bodies have started, so no token of the body is kept before it.
+    /// If the edit starts after the head and the head stays the same, the change is the edit itself, in bytes from the
+    /// start of the body. Otherwise it extends from the start of the body to the first offset after the edit at which
+    /// both bodies have started, so no token of the body is kept before it.
     pub fn change_to(self, now: Head, edit: Change) -> BodyChange
         requires old_order { edit.start ≤ edit.old_end }
         requires new_order { edit.start ≤ edit.new_end }
@@ -31,7 +32,7 @@ impl Head {
         requires from { self.body < 2 ^ 32 }
         requires to { now.body < 2 ^ 32 }
 
-        // Whether the head stays, and what then changes in the body.
+        // Whether the head is kept, and how the body changes.
         ensures keeps { IsTrue result.keeps_head ↔ (self ≡ now) × (self.body ≤ edit.start) }
         ensures change { IsInBody result.keeps_head self.body now.body edit result.change }
         ensures body { (first : List ℕ → Token) (before insert text : List ℕ)

@@ -1,4 +1,4 @@
-//! Bounds that are remembered, so that a search begins near its target.
+//! Token boundaries that are remembered, so that a search starts near its target.
 ghost use Rattle.std.specs.Prelude.{◌≤◌, List};
 ghost use Rattle.std.specs.List.{All, Contains};
 ghost use Rattle.rustc_lexer.specs.{Token};
@@ -7,19 +7,19 @@ ghost use Rattle.rustc_lexer.specs.Offsets.{IsBound};
 
 use crate::relex::front::{FIRST, TokenStart};
 
-/// How many token boundaries are remembered. It is odd: then different multiples of a power of two, if there are at most
-/// so many in a row, leave different remainders.
+/// The number of token boundaries that are remembered. It is odd, so up to `COUNT` consecutive multiples of a power of
+/// two have different remainders.
 const COUNT: usize = 63;
 
-/// Some boundaries of a list of tokens: one for each share of its text. A share is a power of two, and there are up to
-/// `COUNT`.
+/// Some boundaries of a list of tokens: one for each share of its text. The length of a share is a power of two, and
+/// there are at most `COUNT` shares.
 #[derive(Clone, Copy)]
 pub(crate) struct Checkpoints {
     bounds: [TokenStart; COUNT],
 }
 
 impl Checkpoints {
-    /// Creates checkpoints that hold only the first boundary, which each list has.
+    /// Creates checkpoints that contain only the first boundary, which every list has.
     pub(crate) fn new() -> Checkpoints
         ensures { (tokens : List Token) → AreBounds tokens result }
     {
@@ -28,10 +28,10 @@ impl Checkpoints {
         }
     }
 
-    /// Remembers the boundary, instead of the one for the same share of a text of `len` bytes.
+    /// Remembers the boundary instead of the one in the same share of a text of `len` bytes.
     ///
-    /// A share has its place by the offset at which it begins. When a text has grown so that two shares become one, this
-    /// is the place of the first of the two, and what comes at the end gets the places of the others.
+    /// The start of a share determines its slot. When a text grows so that two shares become one, it keeps the slot of
+    /// the first, and the slot of the second becomes free for a share at the end of the text.
     pub(crate) fn remember(&mut self, bound: TokenStart, len: usize)
         ensures { (tokens : List Token) → AreBounds tokens self.old → IsBound tokens bound
             → AreBounds tokens self.new }
@@ -41,7 +41,7 @@ impl Checkpoints {
         self.bounds[start % COUNT] = bound;
     }
 
-    /// Returns the boundaries of both, each for the share of a text of `len` bytes in which it is.
+    /// Merges the boundaries of both, each into the slot of its share of a text of `len` bytes.
     pub(crate) fn joined(&self, more: &Checkpoints, len: usize) -> Checkpoints
         ensures { (tokens : List Token) → AreBounds tokens self.now → AreBounds tokens more.now
             → AreBounds tokens result }
@@ -55,7 +55,7 @@ impl Checkpoints {
         all
     }
 
-    /// Returns the checkpoint that is nearest to `offset`.
+    /// Returns the checkpoint nearest to `offset`.
     pub(crate) fn nearest(&self, offset: usize) -> TokenStart
         ensures { Contains self.now.bounds result }
     {
@@ -84,8 +84,8 @@ impl Checkpoints {
         last
     }
 
-    /// Returns the checkpoints after an edit. The edit keeps the tokens up to `kept`, and those from `met` on,
-    /// which is then `now`. A checkpoint in between becomes `kept`.
+    /// Returns the checkpoints after an edit, which keeps the tokens up to the boundary `kept` and from the boundary
+    /// `met` on. After the edit, `met` is the boundary `now`. A checkpoint between `kept` and `met` becomes `kept`.
     pub(crate) fn after(&self, kept: TokenStart, met: TokenStart, now: TokenStart) -> Checkpoints
         requires { All (IsMovable met now) self.now.bounds }
         ensures { (old new : List Token) → IsReplaced old new kept met now → AreBounds old self.now
@@ -99,8 +99,8 @@ impl Checkpoints {
     }
 }
 
-/// Returns the boundary after an edit. The edit keeps the tokens up to `kept`, and those from `met` on, which is then
-/// `now`.
+/// Returns the boundary after an edit, which keeps the tokens up to `kept` and from `met` on. After the edit, `met` is
+/// the boundary `now`, and a boundary between `kept` and `met` becomes `kept`.
 #[tactic(auto, using(crate::proofs::lemmas::edits::Checkpoints::front_stays, crate::proofs::lemmas::edits::Checkpoints::kept_stays, std::proofs::lemmas::Grind::common_steps))]
 fn move_bound(bound: TokenStart, kept: TokenStart, met: TokenStart, now: TokenStart) -> TokenStart
     requires { IsMovable met now bound }

@@ -1,10 +1,11 @@
-//! What two texts have in common at their ends.
+//! The common prefix and the common suffix of two texts.
 //!
-//! Both functions halve what that may be: so they compare long slices, and in all no more bytes than a text has.
+//! Both functions halve the range of possible lengths in each step, so they compare long slices, and in total no more
+//! bytes than a text has.
 ghost use Rattle.std.specs.Prelude.{◌-◌, ◌≤◌, ℕ, length, IsCharBoundary};
 ghost use Rattle.rustc_lexer.specs.model.Relexing.{IsSameBack, IsSameFront};
 
-/// Returns the length of the longest front that both texts have. It ends between characters.
+/// Returns the length in bytes of the longest common prefix that ends on a character boundary.
 #[tactic(auto, using(crate::proofs::lemmas::edits::InCommon::front_lemmas, std::proofs::lemmas::Grind::common_steps))]
 pub(crate) fn common_front(old: &str, new: &str) -> usize
     ensures front { IsSameFront old.now new.now result }
@@ -30,7 +31,7 @@ pub(crate) fn common_front(old: &str, new: &str) -> usize
     front
 }
 
-/// Returns the length of the longest back that both texts have behind `start`. It begins between characters.
+/// Returns the length in bytes of the longest common suffix after `start` that starts on a character boundary.
 pub(crate) fn common_back(old: &str, new: &str, start: usize) -> usize
     requires in_old { start ≤ length old.now }
     requires in_new { start ≤ length new.now }

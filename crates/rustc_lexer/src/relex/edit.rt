@@ -1,12 +1,13 @@
 //! One edit: the new text, and the tokens that are lexed for it.
-ghost use Rattle.std.specs.Prelude.{◌≡◌, ◌+◌, ◌-◌, ◌^◌, ◌<◌, ◌≤◌, ◌++◌, ◌↔◌, IsTrue, IfOk, IfErr, OnOk, OnErr, if◌then◌else◌, List, ℕ, drop, length, take};
+ghost use Rattle.std.specs.Prelude.{◌≡◌, ◌+◌, ◌-◌, ◌^◌, ◌<◌, ◌≤◌, ◌++◌, ◌↔◌, IsTrue, IfOk, IfErr, OnOk, OnErr};
+ghost use Rattle.std.specs.Prelude.{if◌then◌else◌, List, ℕ, drop, length, take};
 ghost use Rattle.std.specs.List.{All};
 ghost use Rattle.std.specs.String.{string_bytes, string_capacity, string_len};
 ghost use Rattle.rustc_lexer.specs.declared.relex.relexing.Relexed.{Relexed};
 ghost use Rattle.rustc_lexer.specs.{Token};
 ghost use Rattle.rustc_lexer.specs.Classes.{IsText};
 ghost use Rattle.rustc_lexer.specs.Tokens.{tokens_by};
-ghost use Rattle.rustc_lexer.specs.Edits.{IsEdit, IsInside, IsRelexed, apply, part_by};
+ghost use Rattle.rustc_lexer.specs.Edits.{IsEdit, IsInside, IsRelexed, apply, fragment_by};
 ghost use Rattle.rustc_lexer.specs.Relexing.{known};
 ghost use Rattle.rustc_lexer.specs.Relexing.{IsChange, CanContinue};
 ghost use Rattle.rustc_lexer.specs.model.Checkpoints.{AreBounds, IsMovable, IsReplaced, end_of};
@@ -23,12 +24,12 @@ use crate::relex::replace::replace;
 use crate::token::{Token, TokenKind};
 use std::alloc::{AllocError, Global};
 
-/// One edit, which borrows its insertion.
+/// An edit of a text, which borrows the text that it inserts.
 #[derive(Clone, Copy, Debug, PartialEq, Eq)]
 pub struct Edit<'a> {
-    /// Where the replaced bytes start, in bytes from the start of the text.
+    /// The start of the replaced bytes, as an offset in bytes.
     pub start: usize,
-    /// Where they end, in bytes from the start of the text.
+    /// The end of the replaced bytes, as an offset in bytes.
     pub stop: usize,
     /// The text that replaces them.
     pub insert: &'a str,
@@ -73,7 +74,7 @@ pub(crate) struct Replacement {
     pub tokens: Vec<Token>,
     /// The old tokens from `at.front` up to `at.back` are replaced.
     pub at: Relexing,
-    /// Boundaries of the new tokens, up to which lexing went.
+    /// Boundaries of the tokens of the new text, at the ends of the blocks that were lexed.
     pub bounds: Checkpoints,
 }
 
@@ -91,7 +92,7 @@ pub(crate) fn relex<S: Stepper>(
     // The stepper keeps its grammar.
     ensures grammar { S.grammar stepper.new ≡ S.grammar stepper.old }
 
-    // Which tokens replace old ones, and which old ones.
+    // The new tokens, and which old tokens they replace.
     ensures lexed { IfOk result (λ r. ForEachOldText (S.grammar stepper.old).first edited.now near
         (λ before insert. IsLexed (S.grammar stepper.old).first before edited.now.change edited.now.text.now
         r.tokens.items r.at)) }
@@ -99,13 +100,13 @@ pub(crate) fn relex<S: Stepper>(
         (λ before insert. AreBounds (tokens_by (S.grammar stepper.old).first edited.now.text.now) r.bounds)) }
     ensures can_continue { IfOk result (λ r. CanContinue edited.now.text.now (length edited.now.old_tokens.now) r.at) }
 
-    // How many steps were taken, also if it fails.
+    // The number of steps, even if an allocation fails.
     ensures count { IfOk result
         (λ r. S.count stepper.new ≡ S.count stepper.old + length r.tokens.items) }
     ensures rose { S.count stepper.old ≤ S.count stepper.new }
     ensures few { IfErr result (λ _. ForEachOldText (S.grammar stepper.old).first edited.now near
         (λ before insert. (r : Relexed)
-        → IsRelexed (part_by (S.grammar stepper.old).first) before edited.now.change.start
+        → IsRelexed (fragment_by (S.grammar stepper.old).first) before edited.now.change.start
         edited.now.change.old_end insert r
         → S.count stepper.new ≤ S.count stepper.old + r.lexed)) }
 {
@@ -140,8 +141,8 @@ fn end_of(at: Relexing) -> TokenStart
 }
 
 impl Replacement {
-    /// Returns the checkpoints of the new text, which has `len` bytes. `old` has those of the text before the edit.
-    /// The end of the kept front becomes one, and so do the boundaries in a long run of lexed tokens.
+    /// Returns the checkpoints of the new text, which has `len` bytes. `old` has the checkpoints of the text before the
+    /// edit. The end of the kept front becomes a checkpoint, and so do the boundaries in a long run of lexed tokens.
     pub(crate) fn checkpoints(&self, old: &Checkpoints, len: usize) -> Checkpoints
         requires small { known self.now.at < 2 ^ 64 }
         requires movable { All (IsMovable self.now.at.back (end_of self.now.at)) old.now.bounds }
@@ -163,8 +164,8 @@ impl Replacement {
         all
     }
 
-    /// Replaces the old tokens with the new ones, and the tokens of the head unless it stays. If an allocation fails,
-    /// nothing changes.
+    /// Replaces the old tokens with the new ones, and the tokens of the head unless `head.keeps` is true. If an
+    /// allocation fails, nothing changes.
     #[tactic(auto, using(crate::proofs::lemmas::edits::WholeEdits::put_behind, std::proofs::lemmas::Grind::common_steps))]
     pub(crate) fn put_into(
         self,

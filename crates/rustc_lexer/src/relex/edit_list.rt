@@ -1,4 +1,4 @@
-//! Why a list of edits stopped.
+//! The errors of a list of edits.
 ghost use Rattle.std.specs.Prelude.{Some};
 ghost use Rattle.rustc_lexer.specs.Edits.{stop_text};
 
@@ -6,40 +6,43 @@ use crate::relex::relexing::Relexed;
 use std::error::Error;
 use std::fmt;
 
-/// The reason why a list of edits stopped, and at which edit, counted from 0. The edits before it stay made.
+/// Why a list of edits failed, and the index of the edit that failed.
+///
+/// [`edit_all`](crate::LexedText::edit_all) has applied the edits before it, and
+/// [`edit_batch`](crate::LexedText::edit_batch) has applied none.
 #[derive(Clone, Copy, Debug, PartialEq, Eq)]
 pub enum EditStop {
-    /// The range is not inside the text as it was then, or cuts a character.
+    /// The range is out of bounds, not on character boundaries or, in a batch, starts before the previous edit ends.
     Range {
-        /// The index of that edit in the list, from 0.
+        /// The index of the edit in the list.
         at: usize,
     },
 
-    /// The text would have had more than `u32::MAX` bytes.
+    /// The text would be longer than `u32::MAX` bytes.
     TooLong {
-        /// The index of that edit in the list, from 0.
+        /// The index of the edit in the list.
         at: usize,
     },
 
     /// An allocation failed.
     Memory {
-        /// The index of that edit in the list, from 0.
+        /// The index of the edit in the list.
         at: usize,
     },
 }
 
-/// Why a list of edits stopped, and what the edits before that one kept.
+/// Why a list of edits failed, and which tokens the edits before the failed one kept. Those edits have been applied.
 ///
 /// ```ignore
-/// let mut held = LexedText::new(alloc, "ab cd")?;
+/// let mut lexed = LexedText::new(alloc, "ab cd")?;
 /// let edits = [Edit { start: 0, stop: 2, insert: "x" }, Edit { start: 9, stop: 9, insert: "" }];
-/// let stopped = held.edit_sequence(&edits).unwrap_err();
+/// let stopped = lexed.edit_sequence(&edits).unwrap_err();
 /// assert_eq!(stopped.stop, EditStop::Range { at: 1 });
 /// assert_eq!(stopped.relexed.kept_back, 2);
 /// ```
 #[derive(Clone, Copy, Debug, PartialEq, Eq)]
 pub struct EditSequenceError {
-    /// Which edit was refused, and why.
+    /// Which edit failed, and why.
     pub stop: EditStop,
 
     /// Which tokens all edits before it kept.

@@ -1,10 +1,11 @@
 //! Finds the old tokens that an edit keeps.
 //!
-//! The functions here read only the lengths of the old tokens. Any lengths are safe, but the results have a meaning
+//! The functions here read only the lengths of the old tokens. Any lengths are safe, but the results are meaningful
 //! only for the lengths of a text's tokens.
 #![tactic(auto, using(crate::proofs::lemmas::edits::FrontAndBack::edit_lemmas, std::proofs::lemmas::Grind::common_steps))]
 
-ghost use Rattle.std.specs.Prelude.{◌≡◌, ◌+◌, ◌-◌, ◌*◌, ◌<◌, ◌≤◌, ◌^◌, IfSome, IsNone, List, length, map, ℕ, true, false, IsCharBoundary, max};
+ghost use Rattle.std.specs.Prelude.{◌≡◌, ◌+◌, ◌-◌, ◌*◌, ◌<◌, ◌≤◌, ◌^◌, IfSome, IsNone, List, length, map, ℕ, true};
+ghost use Rattle.std.specs.Prelude.{false, IsCharBoundary, max};
 ghost use Rattle.rustc_lexer.specs.{Token};
 ghost use Rattle.rustc_lexer.specs.Offsets.{ArePlaced, ContainsByte, IsBound};
 ghost use Rattle.rustc_lexer.specs.Locality.{has_two};
@@ -13,7 +14,7 @@ ghost use Rattle.rustc_lexer.specs.model.Relexing.{IsFollowed, IsFront, IsLast, 
 
 use crate::token::Token;
 
-/// Something that has a length in bytes, like a token.
+/// Something that has a length in bytes, such as a token.
 pub trait Measured {
     /// The length in bytes.
     ghost bytes: { Self → ℕ };
@@ -98,11 +99,11 @@ fn walk_back<T: Measured>(tokens: &[T], near: TokenStart, target: usize) -> Toke
     at
 }
 
-/// Returns the token that contains the byte at `offset`: its index and where it begins. `None` if the offset is before
-/// the first token or after the last one.
+/// Returns the token that contains the byte at `offset`: its index and its start. Returns `None` if the offset is
+/// before the first token or after the last one.
 ///
-/// The search starts at `near`, which can be any boundary of the tokens, and reads the lengths of the tokens between
-/// there and the offset. If `near` is no boundary, the result has no meaning.
+/// The search starts at `near`, which can be any boundary of the tokens, and reads the lengths of the tokens between it
+/// and the offset. If `near` is not a boundary, the result has no meaning.
 pub fn token_around<T: Measured>(
     tokens: &[T],
     near: TokenStart,
@@ -235,7 +236,7 @@ pub(crate) fn follow<T: Measured>(
     ensures stays { offset < damage.past → result.at ≡ from }
     ensures early { offset < damage.past → result.met ≡ false }
 
-    // After it, how far exactly they are followed, and whether they are met there.
+    // After it, exactly how far they are followed, and whether they are met there.
     ensures followed { (ts : List Token) → HasLengths ts (map T.bytes tokens.now) → IsBound ts from
         → ((k : ℕ) → k < from.index
         → bound ts k + damage.past < max damage.past offset + damage.old_end)

@@ -1,10 +1,12 @@
-//! A text that is made of pieces whose tokens stay.
-ghost use Rattle.std.specs.Prelude.{◌≡◌, ◌+◌, ◌<◌, ◌≤◌, ◌^◌, ◌++◌, ◌↔◌, false, true, ℕ, List, if◌then◌else◌, IfErr, IfSome, IsTrue, OnErr, OnOk, drop, is_some, length, take, Some, []};
+//! Texts that are joined from pieces without changing their tokens.
+ghost use Rattle.std.specs.Prelude.{◌≡◌, ◌+◌, ◌<◌, ◌≤◌, ◌^◌, ◌++◌, ◌↔◌, false, true, ℕ, List, if◌then◌else◌, IfErr};
+ghost use Rattle.std.specs.Prelude.{IfSome, IsTrue, OnErr, OnOk, drop, is_some, length, take, Some, []};
 ghost use Rattle.std.specs.Str.{IsCharBoundary, chars};
 ghost use Rattle.std.specs.String.{string_bytes, string_capacity, string_len};
 ghost use Rattle.rustc_lexer.specs.Answers.{first_in, tokens_of};
 ghost use Rattle.rustc_lexer.specs.Classes.{Fits, Utf8};
-ghost use Rattle.rustc_lexer.specs.Joined.{AreWellFormed, AreInseparable, IsJoined, IsRefused, IsSeparated, MayEnd, MayTouch, RunsOn, TailDecides, WhiteSpaceSeparates, cut_to, error_text};
+ghost use Rattle.rustc_lexer.specs.Joined.{AreWellFormed, AreInseparable, IsJoined, IsRefused, IsSeparated, MayEnd};
+ghost use Rattle.rustc_lexer.specs.Joined.{MayTouch, RunsOn, TailDecides, WhiteSpaceSeparates, cut_to, error_text};
 ghost use Rattle.rustc_lexer.specs.LanguageText.{part};
 ghost use Rattle.rustc_lexer.specs.Locality.{has_two};
 ghost use Rattle.rustc_lexer.specs.{Token};
@@ -18,11 +20,12 @@ use std::error::Error;
 use std::fmt;
 use std::marker::Model;
 
-/// So many bytes are lexed again with the next piece, which takes less than to find out how many of them need not be.
+/// If at most this many bytes follow the last known final boundary, they are re-lexed with the next piece. That is
+/// faster than a search for a later final boundary.
 const SHORT: usize = 10;
 
-/// Returns whether the texts before and after `at` may touch: whether the tokens of the text are those of its part before
-/// `at`, and then those of its part after it. It reads tokens only until the first one that differs.
+/// Returns whether the tokens of a text are the tokens of its part before `at`, followed by the tokens of its part
+/// after `at`. It lexes only up to the first token that differs.
 #[tactic(auto, using(crate::proofs::lemmas::joined::Separators::white_space_separates, crate::proofs::lemmas::joined::Sure::tail_decides, std::proofs::lemmas::Grind::common_steps))]
 pub fn is_token_boundary(text: &str, at: usize, edition: Edition) -> bool
     requires fits { Fits text.now }
@@ -43,13 +46,16 @@ pub fn is_token_boundary(text: &str, at: usize, edition: Edition) -> bool
     true
 }
 
-/// Why a piece was refused.
+/// The error of a piece that is rejected.
 #[derive(Clone, Copy, Debug, PartialEq, Eq)]
 pub enum JoinError {
-    /// Directly after the text, after a space and after a newline, the piece would change a token, or a token of it would
-    /// change: the text has a token that is open, or white space would meet white space.
+    /// No separator keeps all tokens: directly after the text, after a space and after a newline, the piece would
+    /// change a token of the text, or its own tokens would change.
+    ///
+    /// The text contains an unterminated token or a malformed raw string, or the piece starts with whitespace that
+    /// would become part of the last token.
     Inseparable,
-    /// The text might have had more than `u32::MAX` bytes.
+    /// The text might be longer than `u32::MAX` bytes.
     TooLong,
     /// An allocation failed.
     Memory,
@@ -69,13 +75,14 @@ impl fmt::Display for JoinError {
 
 impl Error for JoinError {}
 
-/// A text that is made of pieces. Its tokens are those of the pieces, in order, and those of the separators: a space, or a
-/// newline, only between two pieces that may not touch.
+/// A text that is joined from pieces. Its tokens are the tokens of the pieces, in order, and of the separators. A
+/// separator is a space or a newline, and comes only between two pieces that would change each other's tokens.
 #[derive(Drop)]
 pub struct JoinedText {
     text: String,
     edition: Edition,
-    /// A token boundary that at least two characters follow, or 0. The tokens before it stay, whatever is appended.
+    /// A token boundary that at least two characters follow, or 0. The tokens before it are final, whatever is
+    /// appended.
     sure: usize,
 }
 
@@ -98,7 +105,7 @@ impl Model for JoinedText {
 }
 
 impl JoinedText {
-    /// Returns an empty text, whose pieces are read in this edition.
+    /// Creates an empty text whose pieces are lexed in the given edition.
     #[tactic(auto, using(crate::proofs::lemmas::joined::Sure::sure_start, std::proofs::lemmas::Grind::common_steps))]
     pub fn new(alloc: Global, edition: Edition) -> JoinedText
         ensures text { result.text ≡ [] }
@@ -119,14 +126,14 @@ impl JoinedText {
         self.text.as_str()
     }
 
-    /// Returns the edition in which the pieces are read.
+    /// Returns the edition in which the pieces are lexed.
     pub fn edition(&self) -> Edition
         ensures { result ≡ self.now.edition }
     {
         self.edition
     }
 
-    /// Returns the text.
+    /// Returns the text, without copying it.
     pub fn into_string(self) -> String
         ensures { string_bytes result ≡ self.text }
     {
@@ -134,8 +141,12 @@ impl JoinedText {
         text
     }
 
-    /// Appends a piece, which may be one token or any other text, so that all tokens stay: directly after the text; if they
-    /// would not stay so, after a space; and if not so either, after a newline. A piece that is refused changes nothing.
+    /// Appends a piece without changing any token: directly after the text if possible, otherwise after a space, and
+    /// otherwise after a newline. A piece can be one token or any other text.
+    ///
+    /// # Errors
+    ///
+    /// Returns an error if the piece is rejected. In that case nothing has changed.
     pub fn push(&mut self, piece: &str) -> Result<(), JoinError>
         ensures joined { OnOk result
             (IsJoined self.old.edition self.old.text piece.now self.new.text) }
@@ -165,8 +176,8 @@ impl JoinedText {
         Ok(())
     }
 
-    /// Cuts the text back to its first `len` bytes if their tokens are the first ones of the text, as at the end of each
-    /// piece. Returns whether it did; otherwise nothing changes.
+    /// Shortens the text to its first `len` bytes if it can be split there without changing its tokens, for example at
+    /// the end of a piece. Returns whether it can; if not, nothing changes.
     pub fn truncate(&mut self, len: usize) -> bool
         ensures may { IsTrue result ↔ MayEnd self.old len }
         ensures cut { IsTrue result → self.new ≡ cut_to self.old len }
@@ -185,7 +196,8 @@ impl JoinedText {
     }
 }
 
-/// Returns a boundary that is sure in the text up to `at`, by one of the whole text, if the text may end there.
+/// Returns a final boundary of the text up to `at`, from a final boundary of the whole text, or `None` if the text
+/// cannot be split at `at`.
 #[tactic(auto, using(crate::proofs::lemmas::joined::Sure::sure_start, crate::proofs::lemmas::joined::Sure::sure_place, crate::proofs::lemmas::joined::Sure::sure_cut))]
 fn sure_before(text: &str, sure: usize, at: usize, edition: Edition) -> Option<usize>
     requires fits { Fits text.now }
@@ -203,8 +215,8 @@ fn sure_before(text: &str, sure: usize, at: usize, edition: Edition) -> Option<u
     }
 }
 
-/// Appends the piece after the first separator that keeps the tokens. Returns whether one does; if none does, the text
-/// stays. There is room for a separator of one byte.
+/// Appends the piece with the first separator that keeps all tokens. Returns whether there is one; if not, the text is
+/// unchanged. The text already has capacity for a separator of one byte.
 #[tactic(auto, using(crate::proofs::lemmas::joined::Joined::joined_lemmas, std::proofs::lemmas::Grind::common_steps))]
 fn append_separated(text: &mut String, sure: usize, edition: Edition, piece: &str) -> bool
     requires fits { length (string_bytes text.old) + (length piece.now + 1) < 2 ^ 32 }
@@ -224,7 +236,8 @@ fn append_separated(text: &mut String, sure: usize, edition: Edition, piece: &st
     append(text, sure, edition, "\n", piece)
 }
 
-/// Appends the separator and the piece if the tokens stay so. Returns whether it did. There is room for them.
+/// Appends the separator and the piece if that keeps all tokens. Returns whether it does. The text already has capacity
+/// for them.
 fn append(text: &mut String, sure: usize, edition: Edition, separator: &str, piece: &str) -> bool
     requires fits { length (string_bytes text.old) + (length separator.now + length piece.now)
         < 2 ^ 32 }
@@ -248,7 +261,7 @@ fn append(text: &mut String, sure: usize, edition: Edition, separator: &str, pie
     separated
 }
 
-/// Appends both texts. There is room for them.
+/// Appends both texts. The text already has capacity for them.
 fn append_both(text: &mut String, separator: &str, piece: &str)
     requires fits { length (string_bytes text.old) + (length separator.now + length piece.now)
         < 2 ^ 32 }
@@ -258,13 +271,14 @@ fn append_both(text: &mut String, separator: &str, piece: &str)
     ensures capacity { string_capacity text.old ≤ string_capacity text.new }
 {
     let put_separator = text.push_str(separator);
-    // There is room, so neither of them allocates.
+    // There is room, so neither call allocates.
     prove!(put_separator.is_ok());
     let put_piece = text.push_str(piece);
     prove!(put_piece.is_ok());
 }
 
-/// Returns whether the `len` bytes from `at` on keep their tokens before what follows them. No bytes do.
+/// Returns whether the separator, which is the `len` bytes from `at` on, keeps its tokens before the text after it. An
+/// empty separator does.
 #[inline(always)]
 fn keeps_separator(text: &str, at: usize, len: usize, edition: Edition) -> bool
     requires fits { Fits text.now }
@@ -279,7 +293,7 @@ fn keeps_separator(text: &str, at: usize, len: usize, edition: Edition) -> bool
     is_token_boundary(&text[at..], len, edition)
 }
 
-/// Returns whether the `len` bytes from `at` on keep the texts before and after them apart.
+/// Returns whether the `len` bytes from `at` on separate the texts before and after them without changing any token.
 fn separates(text: &str, sure: usize, at: usize, len: usize, edition: Edition) -> bool
     requires fits { Fits text.now }
     requires boundary { IsCharBoundary text.now at }
@@ -291,7 +305,7 @@ fn separates(text: &str, sure: usize, at: usize, len: usize, edition: Edition) -
     keeps_separator(text, at, len, edition) && is_prefix_stable(text, sure, at, edition)
 }
 
-/// Returns whether the tokens before `at` are the first ones of the whole text, too. Those before `sure` are.
+/// Returns whether the tokens before `at` are also the first tokens of the whole text. The tokens before `sure` are.
 fn is_prefix_stable(text: &str, sure: usize, at: usize, edition: Edition) -> bool
     requires fits { Fits text.now }
     requires boundary { IsCharBoundary text.now at }
@@ -301,8 +315,8 @@ fn is_prefix_stable(text: &str, sure: usize, at: usize, edition: Edition) -> boo
     is_token_boundary(&text[sure..], at - sure, edition)
 }
 
-/// Returns a boundary that is sure in a joined text: the end of the text before the piece, if two characters follow it,
-/// or else the given one.
+/// Returns a final boundary of a joined text: the end of the text before the piece, if two characters follow it, and
+/// otherwise `sure`.
 fn sure_joined(text: &str, sure: usize, at: usize) -> usize
     ensures { (first : List ℕ → Token) → IsSure first text.now sure
         → (has_two text.now at (length text.now) ≡ true → IsSure first text.now at)
@@ -315,7 +329,7 @@ fn sure_joined(text: &str, sure: usize, at: usize) -> usize
     }
 }
 
-/// Returns a later boundary that is sure, from one that is: the last one, unless few bytes follow.
+/// Returns the last final boundary of the text, or `sure` itself if only few bytes follow it.
 fn sure_later(text: &str, sure: usize, edition: Edition) -> usize
     requires fits { Fits text.now }
     requires sure { IsSure (first_in edition) text.now sure }

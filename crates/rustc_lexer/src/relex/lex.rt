@@ -46,9 +46,9 @@ pub(crate) fn lex_all<S: Stepper>(
     Ok(checkpoints)
 }
 
-/// Makes room for `count` more tokens. A list that has to grow gets room for the tokens to expect in the bytes that
-/// are left: at the rate of the bytes lexed so far, but at least an eighth of its length and at most its length
-/// again.
+/// Makes room for `count` more tokens. A list that has to grow grows by the number of tokens to expect in the `left`
+/// bytes, which is estimated from the `lexed` bytes so far, but at most to twice its length. In any case it grows by an
+/// eighth of its length, and by `count`.
 pub(crate) fn make_room(
     list: &mut Vec<Token>,
     count: usize,

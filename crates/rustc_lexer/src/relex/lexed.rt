@@ -1,4 +1,4 @@
-//! A text that is kept with its tokens while it is edited: a whole document, or a part of one.
+//! Incrementally lexed texts: `LexedText` for a fragment of a file, `LexedDocument` for a whole file.
 ghost use Rattle.std.specs.Prelude.{◌≡◌, ◌+◌, ◌↔◌, IfOk, IsTrue, OnErr, OnOk, length};
 ghost use Rattle.std.specs.String.{string_bytes};
 ghost use Rattle.rustc_lexer.specs.Classes.{Fits, IsText};
@@ -23,29 +23,31 @@ mod look_up;
 mod set_text;
 mod stream;
 
-/// A text that is kept with its tokens, and with the stepper that lexed them.
+/// A text with its tokens, which are kept up to date as it is edited, and with the stepper that lexed them.
 ///
-/// After each edit its tokens are the same as if the present text was lexed from scratch. An edit lexes from the first
-/// token that ends less than two characters before it to where old and new tokens meet.
+/// After each edit, the tokens equal a full re-lex of the current text. An edit lexes from the first token that ends
+/// less than two characters before it, up to the offset at which old and new tokens meet.
 #[derive(Drop)]
 pub struct Lexed<S: Stepper, E: Extent> {
     kept: Kept<S, E>,
 }
 
-/// A part of a document that is kept with its tokens. It has no frontmatter.
+/// A fragment of a file, with tokens that are kept up to date as it is edited. It has no head: a shebang line or a
+/// frontmatter is lexed as code.
 pub type LexedText<S> = Lexed<S, Fragment>;
 
-/// A whole document that is kept with its tokens while it is edited: shebang line, frontmatter and all.
+/// A whole file, with tokens that are kept up to date as it is edited.
 ///
-/// Its tokens begin past the shebang line, and a frontmatter may be the first of them. An edit that keeps both lexes
-/// few tokens; any other lexes all in front of it, too. Each edit also looks for a frontmatter, so it sees one that
-/// appears, disappears or ends elsewhere.
+/// Byte order mark, shebang line and frontmatter are the *head*. The tokens start after the byte order mark and the
+/// shebang line, and a frontmatter is one token. An edit after the head that does not change the head lexes few tokens.
+/// Any other edit also lexes all tokens before it. Each edit finds the head again, so a frontmatter can appear,
+/// disappear or end elsewhere.
 ///
 /// ```ignore
-/// let mut held = LexedDocument::new(alloc, "#!/bin/sh\n---cargo\n---\nfn")?;
-/// let end = held.text().len();
-/// if held.accepts(end, end, "x") {
-///     let counts = held.edit(end, end, "x")?;
+/// let mut lexed = LexedDocument::new(alloc, "#!/bin/sh\n---cargo\n---\nfn")?;
+/// let end = lexed.text().len();
+/// if lexed.accepts(end, end, "x") {
+///     let counts = lexed.edit(end, end, "x")?;
 ///     assert_eq!((counts.kept_front, counts.lexed, counts.kept_back), (3, 1, 0));
 /// }
 /// ```
@@ -69,7 +71,7 @@ impl<S: Stepper, E: Extent> Model for Lexed<S, E> {
 }
 
 impl<S: Stepper, E: Extent> Lexed<S, E> {
-    /// Copies the text and lexes it, as [`with_string`](Lexed::with_string) does.
+    /// Copies the text and lexes it, like [`with_string`](Lexed::with_string).
     pub fn with(alloc: Global, text: &str, stepper: S) -> Result<Lexed<S, E>, AllocError>
         requires fits { Fits text.now }
         ensures text { IfOk result (λ l. l.text ≡ text.now) }
@@ -83,9 +85,13 @@ impl<S: Stepper, E: Extent> Lexed<S, E> {
         Lexed::with_string(alloc, String::from_str(alloc, text)?, stepper)
     }
 
-    /// Keeps the text, of which it copies nothing, and lexes it: the head of a document by itself, all else with the
-    /// stepper, one step for each token. The text may have at most `u32::MAX` bytes. Keeps the stepper. `Err` means
-    /// that an allocation failed.
+    /// Lexes the text, taking ownership of it without copying it. The text may have at most `u32::MAX` bytes.
+    ///
+    /// The stepper lexes everything after the head of a document, one step for each token, and is kept for later edits.
+    ///
+    /// # Errors
+    ///
+    /// Returns an error if an allocation fails.
     pub fn with_string(alloc: Global, text: String, stepper: S) -> Result<Lexed<S, E>, AllocError>
         requires fits { Fits (string_bytes text) }
         ensures text { IfOk result (λ l. l.text ≡ string_bytes text) }
@@ -121,7 +127,7 @@ impl<S: Stepper, E: Extent> Lexed<S, E> {
         self.kept.text.as_str()
     }
 
-    /// Returns the tokens of the text, in order. A shebang line has none.
+    /// Returns the tokens of the text, in order. A byte order mark and a shebang line are not tokens.
     pub fn tokens(&self) -> &[Token]
         ensures tokens { result.now ≡ self.now.tokens }
         ensures from_scratch { result.now
@@ -137,7 +143,7 @@ impl<S: Stepper, E: Extent> Lexed<S, E> {
         &self.kept.stepper
     }
 
-    /// Returns the text, and drops its tokens. It copies nothing.
+    /// Returns the text, without copying it, and drops its tokens.
     pub fn into_string(self) -> String
         ensures { string_bytes result ≡ self.text }
     {
@@ -146,8 +152,8 @@ impl<S: Stepper, E: Extent> Lexed<S, E> {
         text
     }
 
-    /// Gives back memory that edits have left unused, as `Vec::shrink_to_fit` does. Text, tokens and stepper stay. If
-    /// an allocation fails on the way, the unused memory stays too.
+    /// Frees memory that edits have left unused, like `Vec::shrink_to_fit`. Text, tokens and stepper do not change. If
+    /// an allocation fails, the unused memory is kept.
     pub fn shrink_to_fit(&mut self)
         ensures { self.new ≡ self.old }
     {
@@ -155,8 +161,11 @@ impl<S: Stepper, E: Extent> Lexed<S, E> {
         self.kept.tokens.shrink_to_fit();
     }
 
-    /// Lexes the text again, with another stepper. The head of a document stays. `Err` means that an allocation
-    /// failed, and then nothing has changed.
+    /// Lexes the text again with another stepper. The head of a document is kept.
+    ///
+    /// # Errors
+    ///
+    /// Returns an error if an allocation fails. Text and tokens are then unchanged.
     pub fn set_stepper(&mut self, stepper: S) -> Result<(), AllocError>
         ensures text { self.new.text ≡ self.old.text }
         ensures is_text { IsText self.new.text }
@@ -178,8 +187,8 @@ impl<S: Stepper, E: Extent> Lexed<S, E> {
         Ok(())
     }
 
-    /// Takes another text, and lexes it by the stepper. Nothing of what is kept matters for it. `Err` means that an
-    /// allocation failed, and then both texts stay where they are.
+    /// Replaces the text and lexes the new one from scratch with the stepper, whatever the old text and tokens are. If
+    /// an allocation fails, both texts are left as they were.
     pub(crate) fn lex_anew(&mut self, text: &mut String) -> Result<(), AllocError>
         requires fits { Fits (string_bytes text.old) }
         ensures text { OnOk result (self.new.text ≡ string_bytes text.old) }
@@ -198,20 +207,22 @@ impl<S: Stepper, E: Extent> Lexed<S, E> {
         Ok(())
     }
 
-    /// Returns whether an edit can be made: whether its range is inside the text, between characters, and the new
-    /// text has at most `u32::MAX` bytes.
+    /// Returns whether an edit is valid: its range is in bounds and on character boundaries, and the new text has at
+    /// most `u32::MAX` bytes.
     pub fn accepts(&self, start: usize, stop: usize, insert: &str) -> bool
         ensures { IsTrue result ↔ IsEdit self.now.text start stop insert.now }
     {
         accepts(self.kept.text.as_str(), start, stop, insert)
     }
 
-    /// Replaces the bytes from `start` up to `stop` with `insert`. The edit has to be [accepted](Lexed::accepts).
+    /// Replaces the bytes in `start..stop` with `insert`. The edit must be [accepted](Lexed::accepts).
     ///
-    /// Returns how many tokens it kept at the front, how many it lexed, and how many it kept at the back. The
-    /// tokens of a frontmatter count too: an edit after an unchanged frontmatter keeps them, and a frontmatter
-    /// that the edit changes counts as lexed. `Err` means that an allocation failed, and then text and tokens are as
-    /// before.
+    /// Returns how many tokens it kept at the front, how many it lexed, and how many it kept at the back. The tokens of
+    /// the head are counted too: an edit after an unchanged head keeps them, and any other edit counts them as lexed.
+    ///
+    /// # Errors
+    ///
+    /// Returns an error if an allocation fails. Text and tokens are then unchanged.
     pub fn edit(&mut self, start: usize, stop: usize, insert: &str) -> Result<Relexed, AllocError>
         requires accepted { IsEdit self.old.text start stop insert.now }
         ensures edited { IsEdited (layout_in E.whole (S.grammar self.old.stepper).first) self.old start stop

@@ -1,4 +1,4 @@
-//! The pieces of a text that is kept with its tokens.
+//! The pieces of a lexed text.
 ghost use Rattle.std.specs.Prelude.{◌≡◌, IfSome, Some, length};
 ghost use Rattle.std.specs.Iterator.{UpTo, at_most};
 ghost use Rattle.std.specs.Iterator.SizeHint.{IsWithinCount};
@@ -8,10 +8,10 @@ use crate::token::Token;
 use std::iter::{DoubleEndedIterator, ExactSizeIterator, Iterator};
 use std::marker::Model;
 
-/// A token, the offset at which it begins, and its text.
+/// A token with its offset and text.
 #[derive(Clone, Copy, Debug, PartialEq, Eq)]
 pub struct Piece<'a> {
-    /// Where the token begins, in bytes from the start of the text.
+    /// The start of the token, in bytes from the start of the text.
     pub start: u32,
     /// The token.
     pub token: Token,
@@ -19,11 +19,10 @@ pub struct Piece<'a> {
     pub text: &'a str,
 }
 
-/// An iterator over the pieces of a text.
+/// An iterator over the pieces of a text. It can also be iterated from the back.
 ///
-/// `pieces`, `pieces_by_index` and `pieces_in_bytes` of a [`LexedText`](crate::LexedText) and of a document return it.
-/// Each piece begins where the one before it ends, and its text is the part of the text that its token takes.
-/// Pieces can be taken from either end.
+/// It is returned by `pieces`, `pieces_by_index` and `pieces_in_bytes` of a [`LexedText`](crate::LexedText) or a
+/// [`LexedDocument`](crate::LexedDocument). Each piece starts where the piece before it ends.
 #[derive(Drop)]
 pub struct Pieces<'a> {
     pub(crate) text: &'a str,
@@ -51,7 +50,7 @@ impl<'a> Iterator for Pieces<'a> {
 
     ghost remaining = { λ s. at_most (length s) };
 
-    /// Returns the next piece, or `None` if no piece is left. After `None` it returns `None` again.
+    /// Returns the next piece, or `None` if no piece is left. After `None` it always returns `None`.
     fn next(&mut self) -> Option<Piece<'a>> {
         let (token, tokens) = self.tokens.split_first()?;
         let end = self.start + token.len;
@@ -65,7 +64,7 @@ impl<'a> Iterator for Pieces<'a> {
         Some(piece)
     }
 
-    /// Returns how many pieces are left, as the lower and as the upper bound.
+    /// Returns the number of pieces that are left, as lower and as upper bound.
     #[tactic(auto, using(crate::proofs::lemmas::edits::Pieces::as_many_left, std::proofs::lemmas::Grind::common_steps))]
     fn size_hint(&self) -> (usize, Option<usize>)
         ensures lower { IsWithinCount result.0 (at_most (length self.now)) }
@@ -80,8 +79,7 @@ impl<'a> Iterator for Pieces<'a> {
 impl<'a> DoubleEndedIterator for Pieces<'a> {
     ghost next_back_gives = { YieldsPieceBack };
 
-    /// Returns the last piece that is left, or `None` if no piece is left. After `None` it
-    /// returns `None` again.
+    /// Returns the last piece that is left, or `None` if no piece is left. After `None` it always returns `None`.
     fn next_back(&mut self) -> Option<Piece<'a>> {
         let (token, tokens) = self.tokens.split_last()?;
         let start = self.end - token.len;
@@ -97,7 +95,7 @@ impl<'a> DoubleEndedIterator for Pieces<'a> {
 }
 
 impl<'a> ExactSizeIterator for Pieces<'a> {
-    /// Returns how many pieces are left.
+    /// Returns the number of pieces that are left.
     #[tactic(auto, using(crate::proofs::lemmas::edits::Pieces::as_many_left, std::proofs::lemmas::Grind::common_steps))]
     fn len(&self) -> usize {
         self.tokens.len()

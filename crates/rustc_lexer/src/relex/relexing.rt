@@ -1,14 +1,16 @@
-//! Relexing: lexes only the part of an edited text that the edit changed.
-ghost use Rattle.std.specs.Prelude.{◌≡◌, ◌+◌, ◌-◌, ◌^◌, ◌<◌, ◌≤◌, ◌∷◌, ◌++◌, ◌↔◌, IsTrue, IfSome, None, List, MatchOption, drop, false, length, map, min, take, ℕ, true};
+//! Re-lexes only the part of a text that an edit changed.
+ghost use Rattle.std.specs.Prelude.{◌≡◌, ◌+◌, ◌-◌, ◌^◌, ◌<◌, ◌≤◌, ◌∷◌, ◌++◌, ◌↔◌, IsTrue, IfSome, None, List};
+ghost use Rattle.std.specs.Prelude.{MatchOption, drop, false, length, map, min, take, ℕ, true};
 ghost use Rattle.rustc_lexer.specs.declared.relex.relexing.Change.{Change};
 ghost use Rattle.rustc_lexer.specs.{Token};
 ghost use Rattle.rustc_lexer.specs.Offsets.{IsBound};
-ghost use Rattle.rustc_lexer.specs.Edits.{IsRelexed, all_stay, count_after, none_stays, part_by};
+ghost use Rattle.rustc_lexer.specs.Edits.{IsRelexed, all_stay, count_after, none_stays, fragment_by};
 ghost use Rattle.rustc_lexer.specs.LexedText.{AreKept};
 ghost use Rattle.rustc_lexer.specs.Relexing.{known};
 ghost use Rattle.rustc_lexer.specs.Classes.{Fits, IsText};
 ghost use Rattle.rustc_lexer.specs.Tokens.{tokens_by};
-ghost use Rattle.rustc_lexer.specs.Relexing.{GoesOn, IsChange, IsMadeOf, IsUnderWay, IsWhole, CanContinue, TakesSteps, is_done};
+ghost use Rattle.rustc_lexer.specs.Relexing.{GoesOn, IsChange, IsMadeOf, IsUnderWay, IsWhole, CanContinue, TakesSteps};
+ghost use Rattle.rustc_lexer.specs.Relexing.{is_done};
 ghost use Rattle.rustc_lexer.specs.model.Relexing.{damage_of};
 ghost use Rattle.rustc_lexer.specs.Locality.{IsGrammar};
 
@@ -25,11 +27,11 @@ const MOST: usize = usize::MAX / 2;
 /// the current text.
 #[derive(Clone, Copy, Debug, PartialEq, Eq)]
 pub struct Change {
-    /// Where the change starts, in both texts.
+    /// The start of the change, in both texts.
     pub start: usize,
-    /// Where the removed bytes ended, in the old text.
+    /// The end of the removed bytes, in the old text.
     pub old_end: usize,
-    /// Where the inserted bytes end, in the current text.
+    /// The end of the inserted bytes, in the current text.
     pub new_end: usize,
 }
 
@@ -72,16 +74,16 @@ impl<'a, T> EditedText<'a, T> {
 /// The counts of an edit, or of a list of edits.
 #[derive(Clone, Copy, Debug, PartialEq, Eq)]
 pub struct Relexed {
-    /// The number of tokens at the front that stay as they are.
+    /// The number of tokens that were kept at the front.
     pub kept_front: usize,
     /// The number of tokens between the kept ones. After a single edit, these are the tokens that were lexed.
     pub lexed: usize,
-    /// The number of tokens at the back that stay as they are.
+    /// The number of tokens that were kept at the back.
     pub kept_back: usize,
 }
 
 impl Relexed {
-    /// Returns the counts of an empty list of edits: all `count` tokens stay, at the front.
+    /// Returns the counts of an empty list of edits: all `count` tokens are kept at the front.
     pub fn all(count: usize) -> Relexed
         ensures { result ≡ all_stay count }
     {
@@ -92,7 +94,7 @@ impl Relexed {
         }
     }
 
-    /// Returns the counts of a new text with `count` tokens: none of them was there before.
+    /// Returns the counts of a new text with `count` tokens, none of them kept.
     pub fn none(count: usize) -> Relexed
         ensures { result ≡ none_stays count }
     {
@@ -154,7 +156,7 @@ impl Relexed {
         }
     }
 
-    /// Returns whether all `count` tokens stay at the front, and none is new.
+    /// Returns whether all `count` tokens are kept at the front, and none is new.
     fn keeps_all(self, count: usize) -> bool
         ensures { IsTrue result ↔ (self ≡ all_stay count) }
     {
@@ -167,11 +169,11 @@ impl Relexed {
 /// [`Relex::state`] returns it, and [`Relex::resume`] continues from it.
 #[derive(Clone, Copy, Debug, PartialEq, Eq)]
 pub struct Relexing {
-    /// The end of the kept front: how many of the old tokens stay there, and where they end.
+    /// The end of the kept front: the number of old tokens in it, and the offset at which it ends.
     pub front: TokenStart,
-    /// The number of tokens that were lexed.
+    /// The number of tokens lexed so far.
     pub lexed: usize,
-    /// A boundary of the old tokens. Once lexing meets it, the tokens after it stay.
+    /// A boundary of the old tokens. Once lexing meets it, the tokens after it are kept.
     pub back: TokenStart,
     /// The end of the last token that was lexed, in bytes from the start of the current text.
     pub at: usize,
@@ -203,8 +205,8 @@ impl Relexing {
         }
     }
 
-    /// Returns whether relexing this text with this many old tokens can continue from this state. It can from each
-    /// state that `begin` and `next` leave.
+    /// Returns whether re-lexing this text, with `old_count` old tokens, can continue from this state. Every state that
+    /// `begin` and `next` leave is valid.
     fn can_continue(&self, text: &str, old_count: usize) -> bool
         ensures { IsTrue result ↔ CanContinue text.now old_count self.now }
     {
@@ -215,8 +217,8 @@ impl Relexing {
             && self.lexed <= self.at
     }
 
-    /// Returns whether lexing has met the old tokens, or no text is left. With the old tokens of the old text, lexing
-    /// meets them at the end of the text at the latest.
+    /// Returns whether lexing has met the old tokens, or no text is left. With the tokens of the old text, lexing meets
+    /// them at the end of the text at the latest.
     pub(crate) fn is_done(&self, text: &str) -> bool
         ensures over { result ≡ is_done text.now self.now }
         ensures met { (first : List ℕ → Token) (before lengths insert : List ℕ) (change : Change)
@@ -227,7 +229,7 @@ impl Relexing {
         self.met || self.at == text.len()
     }
 
-    /// Lexes and returns the next token, or returns `None` if lexing is over.
+    /// Lexes and returns the next token, or returns `None` if lexing is done.
     pub(crate) fn next<S: Stepper, T: Measured>(
         &mut self,
         stepper: &mut S,
@@ -237,11 +239,11 @@ impl Relexing {
         requires change { IsChange edited.now.text.now edited.now.change }
         requires can_continue { CanContinue edited.now.text.now (length edited.now.old_tokens.now) self.old }
 
-        // It may go on, by the same grammar.
+        // It can continue, with the same grammar.
         ensures can_continue { CanContinue edited.now.text.now (length edited.now.old_tokens.now) self.new }
         ensures grammar { S.grammar stepper.new ≡ S.grammar stepper.old }
 
-        // Which token was lexed; none only if lexing is over.
+        // The token that was lexed, or none, only if lexing is done.
         ensures step { MatchOption result
             ((self.new ≡ self.old) × (S.count stepper.new ≡ S.count stepper.old)
             × (is_done edited.now.text.now self.old ≡ true))
@@ -251,7 +253,7 @@ impl Relexing {
             × (S.count stepper.new ≡ S.count stepper.old + 1)
             × (is_done edited.now.text.now self.old ≡ false)) }
 
-        // If the old tokens are those of an old text, it is the next token of the present one.
+        // If the old tokens are the tokens of an old text, it is the next token of the current text.
         ensures under_way { (before insert : List ℕ)
             → IsMadeOf (S.grammar stepper.old).first before (map T.bytes edited.now.old_tokens.now)
             edited.now.change insert edited.now.text.now
@@ -277,7 +279,7 @@ impl Relexing {
         Some(token)
     }
 
-    /// Writes the next tokens into the buffer, until it is full or lexing is over. Returns their number.
+    /// Writes the next tokens into the buffer, until it is full or lexing is done. Returns their number.
     fn fill<S: Stepper, T: Measured, R: FromToken>(
         &mut self,
         stepper: &mut S,
@@ -288,11 +290,11 @@ impl Relexing {
         requires change { IsChange edited.now.text.now edited.now.change }
         requires can_continue { CanContinue edited.now.text.now (length edited.now.old_tokens.now) self.old }
 
-        // It may go on, by the same grammar.
+        // It can continue, with the same grammar.
         ensures can_continue { CanContinue edited.now.text.now (length edited.now.old_tokens.now) self.new }
         ensures grammar { S.grammar stepper.new ≡ S.grammar stepper.old }
 
-        // How many tokens were lexed, and which ones the buffer has.
+        // The number of tokens that were lexed, and the contents of the buffer.
         ensures count { S.count stepper.new ≡ S.count stepper.old + result }
         ensures steps { TakesSteps (S.grammar stepper.old).first edited.now.text.now edited.now.change.new_end
             self.old result self.new }
@@ -302,11 +304,11 @@ impl Relexing {
             ++ drop result buffer.old }
         ensures buffer { result ≤ length buffer.old }
 
-        // It stops before the buffer is full only if lexing is over.
+        // It stops before the buffer is full only if lexing is done.
         ensures begins { 0 < result → is_done edited.now.text.now self.old ≡ false }
         ensures over { result < length buffer.old → is_done edited.now.text.now self.new ≡ true }
 
-        // If the old tokens are those of an old text, these are the next tokens of the present one.
+        // If the old tokens are the tokens of an old text, these are the next tokens of the current text.
         ensures under_way { GoesOn (S.grammar stepper.old).first
             (map T.bytes edited.now.old_tokens.now) edited.now.text.now edited.now.change self.old self.new }
     {
@@ -363,7 +365,7 @@ impl Relexing {
         count
     }
 
-    /// Returns an offset after `at`. Lexing cannot meet the old tokens between the two.
+    /// Returns an offset after `at`, with none in between at which lexing can meet the old tokens.
     fn least_meeting<T>(&self, edited: &EditedText<'_, T>) -> usize
         requires fits { Fits edited.now.text.now }
         requires change { IsChange edited.now.text.now edited.now.change }
@@ -391,7 +393,7 @@ impl Relexing {
         }
     }
 
-    /// Returns the counts of the edit, once lexing is over. There are `old_count` old tokens.
+    /// Returns the counts of the edit, once lexing is done. There are `old_count` old tokens.
     pub(crate) fn counts(&self, old_count: usize) -> Relexed
         requires number { self.now.back.index ≤ old_count }
         ensures counts { result
@@ -405,7 +407,7 @@ impl Relexing {
             → IsGrammar first → IsMadeOf first before lengths change insert text
             → length lengths ≡ old_count → IsUnderWay first before change text self.now
             → self.now.met ≡ true
-            → IsRelexed (part_by first) before change.start change.old_end insert result
+            → IsRelexed (fragment_by first) before change.start change.old_end insert result
             × IsWhole (tokens_by first before) (tokens_by first text) self.now }
     {
         Relexed {
@@ -416,13 +418,11 @@ impl Relexing {
     }
 }
 
-/// Lexes the part of an edited text that the edit changed, from old tokens in a list of your own.
+/// Re-lexes the part of a text that an edit changed, with old tokens in a list of your own.
 ///
-/// It reads only the lengths of the old tokens. If these are the tokens of the old text, and the change resulted in
-/// the current text, then the tokens and the counts are exact. Any other tokens are safe, but then the result has no
+/// It reads only the lengths of the old tokens. If these are the tokens of the old text, and the change resulted in the
+/// current text, then the tokens and the counts are exact. Any other tokens are safe, but then the result has no
 /// meaning.
-///
-/// In plain Rust:
 ///
 /// ```
 /// use rustc_lexer::incremental::{Change, Relex};
@@ -470,8 +470,8 @@ impl<'a, T: Measured> Model for Relex<'a, T> {
 }
 
 impl<'a, T: Measured> Relex<'a, T> {
-    /// Finds the tokens that stay at the front. Returns `None` if the text has more than `u32::MAX` bytes or
-    /// [`Change::is_valid_for`] is false.
+    /// Starts re-lexing: finds the tokens that are kept at the front. Returns `None` if the text has more than
+    /// `u32::MAX` bytes or [`Change::is_valid_for`] is false.
     ///
     /// The search starts at `near`, which can be any boundary of the old tokens.
     pub fn begin(
@@ -532,7 +532,7 @@ impl<'a, T: Measured> Relex<'a, T> {
         Some(Relex { edited, at: state })
     }
 
-    /// Returns how far the text is lexed.
+    /// Returns the progress so far.
     pub fn state(&self) -> Relexing
         ensures state { result ≡ self.now.at }
         ensures can_continue { CanContinue self.now.text (length self.now.lengths) self.now.at }
@@ -540,8 +540,8 @@ impl<'a, T: Measured> Relex<'a, T> {
         self.at
     }
 
-    /// Returns whether lexing has met the old tokens, or no text is left. With the old tokens of the old text, lexing
-    /// meets them at the end of the text at the latest.
+    /// Returns whether lexing has met the old tokens, or no text is left. With the tokens of the old text, lexing meets
+    /// them at the end of the text at the latest.
     pub fn is_done(&self) -> bool
         ensures over { result ≡ is_done self.now.text self.now.at }
         ensures met { (first : List ℕ → Token) (before insert : List ℕ) → IsGrammar first
@@ -552,14 +552,14 @@ impl<'a, T: Measured> Relex<'a, T> {
         self.at.is_done(self.edited.text)
     }
 
-    /// Lexes and returns the next token, or returns `None` if lexing is over.
+    /// Lexes and returns the next token, or returns `None` if lexing is done.
     pub fn next<S: Stepper>(&mut self, stepper: &mut S) -> Option<Token>
-        // The text stays, and so does the grammar.
+        // Text, old tokens, change and grammar stay the same.
         ensures edited { (self.new.text ≡ self.old.text) × (self.new.lengths ≡ self.old.lengths)
             × (self.new.change ≡ self.old.change) }
         ensures grammar { S.grammar stepper.new ≡ S.grammar stepper.old }
 
-        // Which token was lexed; none only if lexing is over.
+        // The token that was lexed, or none, only if lexing is done.
         ensures step { MatchOption result
             ((self.new ≡ self.old) × (S.count stepper.new ≡ S.count stepper.old)
             × (is_done self.old.text self.old.at ≡ true))
@@ -569,7 +569,7 @@ impl<'a, T: Measured> Relex<'a, T> {
             × (S.count stepper.new ≡ S.count stepper.old + 1)
             × (is_done self.old.text self.old.at ≡ false)) }
 
-        // If the old tokens are those of an old text, it is the next token of the current one.
+        // If the old tokens are the tokens of an old text, it is the next token of the current text.
         ensures under_way { (before insert : List ℕ)
             → IsMadeOf (S.grammar stepper.old).first before self.old.lengths self.old.change insert
             self.old.text
@@ -582,16 +582,16 @@ impl<'a, T: Measured> Relex<'a, T> {
         self.at.next(stepper, &self.edited)
     }
 
-    /// Writes the next tokens into the buffer, until it is full or lexing is over. Returns their number.
+    /// Writes the next tokens into the buffer, until it is full or lexing is done. Returns their number.
     ///
     /// These are the tokens that the same number of calls of [`next`](Relex::next) would return.
     pub fn fill<S: Stepper, R: FromToken>(&mut self, stepper: &mut S, buffer: &mut [R]) -> usize
-        // The text stays, and so does the grammar.
+        // Text, old tokens, change and grammar stay the same.
         ensures edited { (self.new.text ≡ self.old.text) × (self.new.lengths ≡ self.old.lengths)
             × (self.new.change ≡ self.old.change) }
         ensures grammar { S.grammar stepper.new ≡ S.grammar stepper.old }
 
-        // How many tokens were lexed, and which ones the buffer has.
+        // The number of tokens that were lexed, and the contents of the buffer.
         ensures count { S.count stepper.new ≡ S.count stepper.old + result }
         ensures steps { TakesSteps (S.grammar stepper.old).first self.old.text self.old.change.new_end
             self.old.at result self.new.at }
@@ -601,18 +601,18 @@ impl<'a, T: Measured> Relex<'a, T> {
             ++ drop result buffer.old }
         ensures buffer { result ≤ length buffer.old }
 
-        // It stops before the buffer is full only if lexing is over.
+        // It stops before the buffer is full only if lexing is done.
         ensures begins { 0 < result → is_done self.old.text self.old.at ≡ false }
         ensures over { result < length buffer.old → is_done self.old.text self.new.at ≡ true }
 
-        // If the old tokens are those of an old text, these are the next tokens of the current one.
+        // If the old tokens are the tokens of an old text, these are the next tokens of the current text.
         ensures under_way { GoesOn (S.grammar stepper.old).first self.old.lengths self.old.text
             self.old.change self.old.at self.new.at }
     {
         self.at.fill(stepper, &self.edited, buffer)
     }
 
-    /// Returns the counts of the edit, once lexing is over.
+    /// Returns the counts of the edit, once lexing is done.
     pub fn counts(&self) -> Relexed
         ensures counts { result ≡ record {
           kept_front = self.now.at.front.index;
@@ -623,7 +623,7 @@ impl<'a, T: Measured> Relex<'a, T> {
             → IsMadeOf first before self.now.lengths self.now.change insert self.now.text
             → IsUnderWay first before self.now.change self.now.text self.now.at
             → self.now.at.met ≡ true
-            → IsRelexed (part_by first) before self.now.change.start self.now.change.old_end insert
+            → IsRelexed (fragment_by first) before self.now.change.start self.now.change.old_end insert
             result × IsWhole (tokens_by first before) (tokens_by first self.now.text) self.now.at }
     {
         self.at.counts(self.edited.old_tokens.len())

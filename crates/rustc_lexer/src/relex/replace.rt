@@ -5,8 +5,9 @@ use crate::relex::lex::make_room;
 use crate::token::{Token, TokenKind};
 use std::alloc::AllocError;
 
-/// Replaces the tokens from `from` up to `to`. It allocates at most once, only if the list has no room, and before it
-/// changes anything. A list that keeps no token and is to grow is not written: `with` becomes the list.
+/// Replaces the tokens `from..to` with the tokens in `with`. It allocates at most once, only if the list has no room,
+/// and before it changes anything. If the list keeps no token and has to grow, `with` becomes the list and nothing is
+/// copied.
 pub(crate) fn replace(
     list: &mut Vec<Token>,
     from: usize,
@@ -43,7 +44,7 @@ pub(crate) fn replace(
     Ok(())
 }
 
-/// Overwrites the tokens from `from` on with the given ones.
+/// Overwrites the tokens from index `from` on with the given ones.
 fn overwrite(all: &mut [Token], from: usize, with: &[Token])
     requires { from + length with.now ≤ length all.old }
     ensures { all.new ≡ take from all.old ++ (with.now ++ drop (from + length with.now) all.old) }

@@ -1,4 +1,4 @@
-//! Which tokens of a text are certain, however the text continues.
+//! The final tokens of a text, which stay the same however the text continues.
 ghost use Rattle.rustc_lexer.specs.Classes.{Fits};
 ghost use Rattle.rustc_lexer.specs.Tokens.{tokens_by, tokens_of};
 ghost use Rattle.rustc_lexer.specs.LanguageText.{part, newest};
@@ -8,10 +8,10 @@ use crate::edition::Edition;
 use crate::entry::stepper::{Stepper, Steps};
 use crate::relex::front::two_stand;
 
-/// Returns where the last token that at least two characters follow ends, in bytes, or 0 if there is no such token.
-/// The tokens are read with `FrontmatterAllowed::No`.
+/// Returns the byte offset up to which tokens are final, whatever is appended to the text, or 0 if none are.
 ///
-/// Whatever is appended to the text, its tokens up to this place stay as they are.
+/// A token is final once at least two characters follow it. The text is lexed in the newest edition, with
+/// `FrontmatterAllowed::No`.
 pub fn settled(text: &str) -> usize
     requires fits { Fits text.now }
     ensures settled { IsSettled text.now (tokens_of (part newest) text.now) result }
@@ -21,10 +21,10 @@ pub fn settled(text: &str) -> usize
     settled_in(text, Edition::NEWEST)
 }
 
-/// Returns where the last token that at least two characters follow ends, in bytes, or 0 if there is no such token.
-/// The tokens are those of [`tokenize_in`](crate::tokenize_in).
+/// Returns the byte offset up to which tokens are final, whatever is appended to the text, or 0 if none are.
 ///
-/// Whatever is appended to the text, its tokens up to this place stay as they are.
+/// A token is final once at least two characters follow it. The tokens are those of
+/// [`tokenize_in`](crate::tokenize_in).
 pub fn settled_in(text: &str, edition: Edition) -> usize
     requires fits { Fits text.now }
     ensures settled { IsSettled text.now (tokens_of (part edition) text.now) result }
@@ -33,7 +33,7 @@ pub fn settled_in(text: &str, edition: Edition) -> usize
     settled_by(&mut Steps::new_in(edition), text)
 }
 
-/// Returns where the last token that at least two characters follow ends, in bytes, or 0 if there is none.
+/// Returns the end of the last token that at least two characters follow, in bytes, or 0 if there is none.
 fn settled_by<S: Stepper>(stepper: &mut S, text: &str) -> usize
     requires fits { Fits text.now }
     ensures { IsSettled text.now (tokens_by (S.grammar stepper.old).first text.now) result }

@@ -6,7 +6,7 @@ use std::fs::File;
 use std::path::Path;
 use std::process::Command;
 
-/// A shell command in which `$P` is the program, the output, the message after the program's name, and the status.
+/// A shell command with `$P` for the program, the output, the message after the program's name, and the status.
 pub type Row = (&'static str, &'static str, &'static str, i32);
 
 /// Runs each command in Cargo's folder for the files of tests.

@@ -1,5 +1,5 @@
 //! Readers and writers for tests, also of other packages: they fail at one call and then continue, return bytes after
-//! their end, or move a part of the bytes.
+//! their end, or move only some of the bytes.
 
 #![allow(dead_code)] // not each test uses all of it
 
@@ -7,7 +7,7 @@ use program_io::Watched;
 use rattle_std::io::{Error, ErrorKind, Read, Result, Write};
 use rattle_std::prelude::String;
 
-/// The result of one call in place of moving bytes.
+/// The result of one call instead of moving bytes.
 #[derive(Clone, Copy, Debug)]
 pub enum Turn {
     Fails(ErrorKind),
@@ -193,8 +193,8 @@ impl Program<'_> {
         }
     }
 
-    /// All is written, this many bytes at a time, and flushed once. After its end the reader would return a byte that
-    /// is not UTF-8, so nothing is read after it.
+    /// Everything is written, this many bytes at a time, and flushed once. After its end the reader would return a byte
+    /// that is not UTF-8, so nothing is read after it.
     fn pieces(&self) {
         for piece in [1, 2, 7, usize::MAX] {
             let script = Script { piece, ..WHOLE };

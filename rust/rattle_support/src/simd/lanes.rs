@@ -1,4 +1,4 @@
-//! 8 bytes at once, in a word of any processor. It has no `unsafe`.
+//! 8 bytes at once, in a word. This works on any processor and needs no `unsafe`.
 
 pub type Lanes = u64;
 pub const COUNT: usize = 8;
@@ -16,7 +16,7 @@ pub fn load(bytes: &[u8; COUNT]) -> Lanes {
     u64::from_le_bytes(*bytes)
 }
 
-// A mask has the high bit of each byte alone.
+// A mask contains only the high bit of each byte.
 lanewise! {
     sub(a, b) = ((a | HIGH) - (b & !HIGH)) ^ ((a ^ !b) & HIGH);
     or(a, b) = a | b;

@@ -1,14 +1,14 @@
-//! 16 bytes at once, by NEON of aarch64.
+//! 16 bytes at once, with NEON on aarch64.
 
 use super::arch::*;
 
 pub type Lanes = uint8x16_t;
 pub const COUNT: usize = 16;
 
-/// What bit of its byte a lane gives.
+/// The bit of a lane in its byte of the mask.
 const WEIGHTS: [u8; 16] = [1, 2, 4, 8, 16, 32, 64, 128, 1, 2, 4, 8, 16, 32, 64, 128];
 
-// SAFETY: each intrinsic is safe where the target has NEON, and this module is built for no other.
+// SAFETY: each intrinsic is safe if the target has NEON, and this module is built only for such targets.
 #[inline(always)]
 pub fn splat(byte: u8) -> Lanes {
     unsafe { vdupq_n_u8(byte) }

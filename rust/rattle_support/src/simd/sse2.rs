@@ -1,11 +1,11 @@
-//! 16 bytes at once, by SSE2 of x86-64.
+//! 16 bytes at once, with SSE2 on x86-64.
 
 use core::arch::x86_64::*;
 
 pub type Lanes = __m128i;
 pub const COUNT: usize = 16;
 
-// SAFETY: each intrinsic is safe where the target has SSE2, and this module is built for no other.
+// SAFETY: each intrinsic is safe if the target has SSE2, and this module is built only for such targets.
 #[inline(always)]
 pub fn splat(byte: u8) -> Lanes {
     unsafe { _mm_set1_epi8(byte as i8) }

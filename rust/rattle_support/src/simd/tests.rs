@@ -1,15 +1,15 @@
-//! Each operation on vectors of bytes, against the same operation on one byte at a time: the implementation of this
-//! target, and those for NEON and WebAssembly over plain functions with the names of their instructions.
+//! Compares each operation on vectors of bytes with the same operation on single bytes. It tests the implementation of
+//! this target, and the implementations for NEON and WebAssembly with plain functions in place of their instructions.
 
 use super::{Bytes, COUNT, Mask, u8x16, u8x32, u8x64};
 
-/// Bit k is whether the test holds of the two bytes in lane k.
+/// Returns the results of a test as bits. Bit k is set if the test holds for the two bytes in lane k.
 fn bits(a: &[u8], b: &[u8], test: impl Fn(u8, u8) -> bool) -> u64 {
     let pairs = a.iter().zip(b).enumerate();
     pairs.fold(0, |bits, (k, (a, b))| bits | u64::from(test(*a, *b)) << k)
 }
 
-/// Each pair of bytes, in each lane in turn, against the same said of one byte.
+/// Compares the results for each pair of bytes, in each lane, with the results for single bytes.
 fn all_pairs<const N: usize>() {
     let len = N * COUNT;
     for apart in 0..=255u8 {
@@ -50,7 +50,7 @@ fn lanes_are_bytes() {
     assert_eq!(u8x64::from_slice(&bytes).simd_lt(three).to_bitmask(), 7);
 }
 
-/// The same of the lanes of a file, for each pair of bytes.
+/// Does the same for the functions on lanes in a module.
 #[cfg(not(feature = "portable"))]
 macro_rules! all_pairs_of {
     ($lanes:ident) => {
@@ -89,7 +89,7 @@ macro_rules! all_pairs_of {
     };
 }
 
-/// The instructions that both files name, each by the reference of its processor.
+/// The instructions that both modules use, as the references of the processors define them.
 #[cfg(not(feature = "portable"))]
 #[allow(non_camel_case_types)]
 mod arch {
@@ -102,12 +102,12 @@ mod arch {
         core::array::from_fn(|n| f(a[n], b[n]))
     }
 
-    /// What a comparison puts into a lane.
+    /// Returns a lane of the result of a comparison.
     fn all(is: bool) -> u8 {
         if is { 255 } else { 0 }
     }
 
-    /// Instructions that do one thing to each lane: that of Arm, which is `unsafe` to call, and that of WebAssembly.
+    /// Declares instructions on lanes: for Arm, where they are `unsafe` to call, and for WebAssembly.
     macro_rules! lanewise {
         ($($neon:ident, $wasm:ident: $f:expr;)*) => {$(
             pub unsafe fn $neon(a: Sixteen, b: Sixteen) -> Sixteen {
@@ -139,7 +139,7 @@ mod arch {
         a.map(|a| !a)
     }
 
-    /// The sums of neighbours, of the first and then of the second.
+    /// Returns the sums of neighbouring bytes, first of `a` and then of `b`.
     pub unsafe fn vpaddq_u8(a: Sixteen, b: Sixteen) -> Sixteen {
         let of = |n: usize| if n < 16 { a[n] } else { b[n - 16] };
         core::array::from_fn(|n| of(2 * n).wrapping_add(of(2 * n + 1)))
@@ -165,7 +165,7 @@ mod arch {
         a.map(|a| !a)
     }
 
-    /// The high bits of the lanes.
+    /// Returns the high bits of the lanes.
     pub fn u8x16_bitmask(a: Sixteen) -> u16 {
         (0..16).fold(0, |bits, n| bits | u16::from(a[n] >> 7) << n)
     }

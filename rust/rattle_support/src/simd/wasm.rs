@@ -1,4 +1,4 @@
-//! 16 bytes at once, by the vectors of WebAssembly.
+//! 16 bytes at once, with the vectors of WebAssembly.
 
 use super::arch::*;
 
@@ -12,7 +12,7 @@ pub fn splat(byte: u8) -> Lanes {
 
 #[inline(always)]
 pub fn load(bytes: &[u8; COUNT]) -> Lanes {
-    // It asks for no alignment.
+    // SAFETY: the array has 16 bytes, and `v128_load` requires no alignment.
     unsafe { v128_load(bytes.as_ptr().cast()) }
 }
 

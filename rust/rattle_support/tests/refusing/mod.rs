@@ -24,7 +24,7 @@ fn is_given(size: usize) -> bool {
     left.is_some()
 }
 
-// SAFETY: each call is that of the system's allocator, or returns null, which means that it failed.
+// SAFETY: each method calls the system's allocator, or returns null, which means that the allocation failed.
 unsafe impl GlobalAlloc for Refusing {
     unsafe fn alloc(&self, layout: Layout) -> *mut u8 {
         if is_given(layout.size()) {
@@ -59,7 +59,7 @@ pub fn given<T>(count: usize, call: impl FnOnce() -> T) -> T {
 }
 
 /// Returns the result of a call if only its first allocation fails: a panic allocates too.
-#[allow(dead_code)] // not each test has calls that panic
+#[allow(dead_code)] // not every test has calls that panic
 pub fn refused_once<T>(call: impl FnOnce() -> T) -> T {
     ONCE.set(true);
     let answer = given(0, call);
@@ -67,10 +67,10 @@ pub fn refused_once<T>(call: impl FnOnce() -> T) -> T {
     answer
 }
 
-/// Makes a call on a new value each time: with its first allocation failing, then its second, and so on, until none
-/// fails. In one pass all allocations after the failing one fail too, in another one only that one. Each time it checks
-/// the value and the result. Returns how many allocations failed, which is the same in both passes.
-#[allow(dead_code)] // not each test fails one after another
+/// Repeats a call on new values: its first allocation fails, then its second, and so on, until none fails. In one pass,
+/// all later allocations fail too; in another, only one fails. Each time it checks the value and the result. Returns
+/// how many allocations failed, which is the same in both passes.
+#[allow(dead_code)] // not every test uses it
 pub fn in_turn<H, T, E>(
     make: impl Fn() -> H,
     call: impl Fn(&mut H) -> Result<T, E>,
@@ -93,7 +93,7 @@ pub fn in_turn<H, T, E>(
 }
 
 /// Returns the number of allocations of a call, if there are at most 100.
-#[allow(dead_code)] // not each test counts them
+#[allow(dead_code)] // not every test counts them
 pub fn requests<T>(call: impl FnOnce() -> T) -> usize {
     GIVEN.set(100);
     call();
@@ -101,7 +101,7 @@ pub fn requests<T>(call: impl FnOnce() -> T) -> usize {
 }
 
 /// Returns the size of the largest allocation of a call, in bytes.
-#[allow(dead_code)] // not each test measures them
+#[allow(dead_code)] // not every test measures them
 pub fn greatest_request<T>(call: impl FnOnce() -> T) -> usize {
     GREATEST.set(0);
     call();

@@ -1,4 +1,4 @@
-//! What the examples share: input by name, buffered output, and errors.
+//! Shared by the examples: input by name, buffered output, and errors.
 #![allow(dead_code, reason = "some examples read no text")]
 
 use std::error::Error;
@@ -7,7 +7,7 @@ use std::{fs, process::ExitCode};
 
 pub type Output = BufWriter<StdoutLock<'static>>;
 
-/// Runs an example, and prints its error. A closed pipe, as after `| head -1`, is no error.
+/// Runs an example, and prints its error. A closed pipe, as after `| head -1`, is not an error.
 pub fn run(example: impl FnOnce(&mut Output) -> Result<(), Box<dyn Error>>) -> ExitCode {
     let mut output = BufWriter::new(io::stdout().lock());
     match example(&mut output).and_then(|()| Ok(output.flush()?)) {

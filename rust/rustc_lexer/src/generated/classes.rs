@@ -3,15 +3,15 @@
 
 pub(crate) mod emoji;
 
-/// The version of Unicode of the proved tables, which say which characters begin or continue an identifier.
+/// The Unicode version of the proved tables that decide which characters start or continue an identifier.
 ///
-/// The table of emoji is that of Unicode 15. No answer depends on this constant.
+/// The table of emoji has Unicode version 15. No result depends on this constant.
 pub const UNICODE_VERSION: (u8, u8, u8) = (18, 0, 0);
 
-/// Returns whether the character is white space in Rust: one of the eleven characters of `Pattern_White_Space`. No
-/// version of Unicode adds one.
+/// Returns whether the character is whitespace in Rust: one of the eleven characters of `Pattern_White_Space`, to which
+/// no version of Unicode adds any.
 ///
-/// Rust Reference, [Whitespace](https://doc.rust-lang.org/reference/whitespace.html).
+/// Rust Reference: [whitespace](https://doc.rust-lang.org/reference/whitespace.html).
 #[inline]
 pub fn is_whitespace(c: char) -> bool {
     matches!(
@@ -29,21 +29,21 @@ pub fn is_whitespace(c: char) -> bool {
     )
 }
 
-/// Returns whether the character is white space that does not end a line: a tab or a space. A frontmatter has only
-/// these on the lines of its fences.
+/// Returns whether the character is horizontal whitespace: a tab or a space. The lines of the fences of a frontmatter
+/// can contain no other whitespace.
 ///
-/// Rust RFC 3503, [Frontmatter](https://rust-lang.github.io/rfcs/3503-frontmatter.html).
+/// Rust RFC 3503: [frontmatter](https://rust-lang.github.io/rfcs/3503-frontmatter.html).
 #[inline]
 pub fn is_horizontal_whitespace(c: char) -> bool {
     matches!(c, '\t' | ' ')
 }
 
-/// Returns whether an identifier may begin with the character: with `_`, or with an `XID_Start` character of
+/// Returns whether an identifier can start with the character: `_`, or a character with the property `XID_Start` in
 /// `unicode_ident`.
 ///
-/// The proved table is made from `DerivedCoreProperties.txt` of Unicode 18.0.
+/// The proved table is generated from `DerivedCoreProperties.txt` of Unicode 18.0.
 ///
-/// Rust Reference, [Identifiers](https://doc.rust-lang.org/reference/identifiers.html).
+/// Rust Reference: [identifiers](https://doc.rust-lang.org/reference/identifiers.html).
 #[inline]
 pub fn is_id_start(c: char) -> bool {
     if c.is_ascii() {
@@ -53,20 +53,20 @@ pub fn is_id_start(c: char) -> bool {
     }
 }
 
-/// Returns whether an identifier may continue with the character: with an `XID_Continue` character of
+/// Returns whether an identifier can continue with the character, which has the property `XID_Continue` in
 /// `unicode_ident`.
 ///
-/// The proved table is made from `DerivedCoreProperties.txt` of Unicode 18.0.
+/// The proved table is generated from `DerivedCoreProperties.txt` of Unicode 18.0.
 ///
-/// Rust Reference, [Identifiers](https://doc.rust-lang.org/reference/identifiers.html).
+/// Rust Reference: [identifiers](https://doc.rust-lang.org/reference/identifiers.html).
 #[inline]
 pub fn is_id_continue(c: char) -> bool {
     unicode_ident::is_xid_continue(c)
 }
 
-/// Returns whether the text has at most `u32::MAX` bytes, so that every length in it is a `u32`.
+/// Returns whether the text has at most `u32::MAX` bytes, so that all lengths fit in a `u32`.
 ///
-/// Each call that takes a whole text requires this.
+/// Every function that lexes a whole text requires it.
 #[inline]
 pub fn fits(text: &str) -> bool {
     text.len() <= u32::MAX as usize

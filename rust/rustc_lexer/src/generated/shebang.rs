@@ -5,13 +5,13 @@ use crate::generated::entry::tokenize;
 use crate::generated::scan::split_first;
 use crate::generated::token::{FrontmatterAllowed, TokenKind};
 
-/// Returns the length in bytes of the shebang line at the front of a text, without the end of the line. Returns
-/// `None` if there is no such line. The text may have at most `u32::MAX` bytes.
+/// Returns the length of the shebang line at the start of a text in bytes, without its line ending, or `None` if there
+/// is none. The text may have at most `u32::MAX` bytes.
 ///
-/// A shebang line begins with `#!`. If the next token after white space and comments that are not doc comments is
-/// `[`, then it is an attribute, not a shebang line.
+/// A shebang line starts with `#!`. If the next token after whitespace and comments that are not doc comments is `[`,
+/// the text starts with an attribute instead.
 ///
-/// Rust Reference, [Shebang removal](https://doc.rust-lang.org/reference/input-format.html#shebang-removal).
+/// Rust Reference: [shebang removal](https://doc.rust-lang.org/reference/input-format.html#shebang-removal).
 pub fn strip_shebang(input: &str) -> Option<usize> {
     let tail = input.strip_prefix("#!")?;
     if is_attribute(tail) {
@@ -40,7 +40,7 @@ pub fn byte_order_mark_len(text: &str) -> usize {
     }
 }
 
-/// Returns whether the text after `#!` makes it an attribute.
+/// Returns whether `#!` is the start of an attribute. `tail` is the text after it.
 fn is_attribute(tail: &str) -> bool {
     for token in tokenize(tail, FrontmatterAllowed::No) {
         if !is_passed(token.kind) {
@@ -50,7 +50,7 @@ fn is_attribute(tail: &str) -> bool {
     false
 }
 
-/// Returns whether a token of this kind may come between `#!` and the bracket of an attribute.
+/// Returns whether a token of this kind can come between `#!` and the bracket of an attribute.
 fn is_passed(kind: TokenKind) -> bool {
     match kind {
         TokenKind::Whitespace => true,
@@ -61,7 +61,7 @@ fn is_passed(kind: TokenKind) -> bool {
     }
 }
 
-/// Returns the length of the first line in bytes, without its end.
+/// Returns the length of the first line in bytes, without its line ending.
 fn line_len(text: &str) -> usize {
     let Some(newline) = text.find('\n') else {
         return text.len();

@@ -1,5 +1,5 @@
 //! The definition of the calls that edit a `LexedText`: the new text is lexed from scratch, the counts follow the rules
-//! of docs/RELEXING.md, and each lexed token is one step, except those of a new head.
+//! of docs/RELEXING.md, and each lexed token is one step, except in a new head.
 
 use crate::made::{counts, edit, token};
 use rustc_lexer::{
@@ -116,7 +116,7 @@ impl Layout {
     }
 }
 
-/// The counts of an edit, and its steps: the tokens of a new head take none.
+/// The counts of an edit, and its steps: the tokens of a new head need none.
 fn of_edit(text: &str, old: &Layout, new: &Layout, edit: &Edit<'_>) -> (Relexed, usize) {
     let (before, after) = (old.bounds(), new.bounds());
     let keeps_head = before[old.head] <= edit.start
@@ -185,7 +185,7 @@ pub fn of_list<K: Kept>(text: &str, language: Language, edits: &[Edit<'_>]) -> M
     }
 }
 
-/// The result of edits at once, or the first edit that is out of order.
+/// The result of a batch, or the first edit that is out of order.
 pub fn of_all<K: Kept>(
     text: &str,
     language: Language,
@@ -205,7 +205,7 @@ pub fn of_all<K: Kept>(
     Ok(of_list::<K>(text, language, whole.as_slice()))
 }
 
-/// The result of `set_text`: one edit of what differs, on character boundaries.
+/// The result of `set_text`: one edit of the part that differs, on char boundaries.
 pub fn of_other<K: Kept>(text: &str, language: Language, other: &str) -> Made {
     if text == other {
         return of_list::<K>(text, language, &[]);
@@ -239,7 +239,7 @@ pub trait Kept: Clone {
     fn edit_batch(&mut self, edits: &[Edit<'_>]) -> Result<Relexed, EditStop>;
     fn try_edit(&mut self, edit: &Edit<'_>) -> Result<Relexed, EditError>;
     fn try_set_text(&mut self, text: &str) -> Result<Relexed, EditError>;
-    /// Asserts that text, tokens and look-ups are those of the text.
+    /// Asserts that text, tokens and look-ups are correct for the text.
     fn is_of(&self, text: &str, layout: &Layout, context: &str);
 }
 

@@ -10,7 +10,7 @@ thread_local! {
     static LAST: Cell<(String, u32)> = const { Cell::new((String::new(), 0)) };
 }
 
-/// Returns the file and the line where a call panics.
+/// Returns the file and the line at which a call panics.
 pub fn panic_place<T>(call: impl FnOnce() -> T) -> (String, u32) {
     static HOOK: Once = Once::new();
     HOOK.call_once(|| {

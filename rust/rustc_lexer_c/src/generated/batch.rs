@@ -6,7 +6,7 @@ use crate::generated::status::{Refusal, done, refuse, text_of, utf8_text_of};
 use crate::generated::token::{CToken, token_numbers};
 use rustc_lexer::generated::{Edition, FrontmatterAllowed, tokenize, tokenize_as};
 
-/// The position in a text from which the next tokens are lexed.
+/// A position in a text, at which lexing continues.
 #[repr(C)]
 #[derive(Clone, Copy, Debug, PartialEq, Eq)]
 pub struct CPlace {
@@ -17,10 +17,10 @@ pub struct CPlace {
 }
 
 /// Writes the tokens from a position on into the buffer, as many as there is room for, and their number into `count`.
-/// Moves the position to the end of these tokens, where the next call continues. After the last token the number is 0.
-/// The tokens are those of the newest edition.
+/// Lexes in the newest edition.
 ///
-/// Each call checks the whole text. `rustc_lexer_tokens_unchecked` does not.
+/// Moves the position to the end of these tokens, so the next call continues there. After the last token the number is
+/// 0. Each call checks the whole text. `rustc_lexer_tokens_unchecked` does not.
 pub fn rustc_lexer_tokens(
     text: &[u8],
     place: &mut CPlace,
@@ -33,8 +33,7 @@ pub fn rustc_lexer_tokens(
     }
 }
 
-/// Does what `rustc_lexer_tokens` does, without checking again that the text is UTF-8. `rustc_lexer_check` must have
-/// accepted it.
+/// Like `rustc_lexer_tokens`, but does not check that the text is UTF-8. `rustc_lexer_check` must have accepted it.
 pub fn rustc_lexer_tokens_unchecked(
     text: &[u8],
     place: &mut CPlace,
@@ -51,7 +50,7 @@ pub fn rustc_lexer_tokens_unchecked(
     done(fill(text, Edition::NEWEST, place, buffer), count)
 }
 
-/// Does what `rustc_lexer_tokens` does, in the edition of a year: 2015, 2018, 2021 or 2024.
+/// Like `rustc_lexer_tokens`, but lexes in the edition of a year: 2015, 2018, 2021 or 2024.
 pub fn rustc_lexer_tokens_in(
     text: &[u8],
     edition: u32,
@@ -65,8 +64,7 @@ pub fn rustc_lexer_tokens_in(
     }
 }
 
-/// Does what `rustc_lexer_tokens_in` does, without checking again that the text is UTF-8. `rustc_lexer_check` must
-/// have accepted it.
+/// Like `rustc_lexer_tokens_in`, but does not check that the text is UTF-8. `rustc_lexer_check` must have accepted it.
 pub fn rustc_lexer_tokens_in_unchecked(
     text: &[u8],
     edition: u32,
@@ -107,7 +105,7 @@ fn first_token(text: &str, allowed: FrontmatterAllowed) -> CToken {
         .map_or(NO_TOKEN, token_numbers)
 }
 
-/// Zeros, which are no token.
+/// The result at the end of a text: all fields are 0.
 pub(crate) const NO_TOKEN: CToken = CToken {
     kind: 0,
     first: 0,
@@ -117,8 +115,8 @@ pub(crate) const NO_TOKEN: CToken = CToken {
     len: 0,
 };
 
-/// Writes the batch at a character boundary. Returns its number of tokens. It is inlined because the newest edition
-/// is a constant in one caller, which then does not test the edition.
+/// Writes the next tokens from a char boundary on, and returns their number. Inlined, because one caller passes the
+/// newest edition as a constant and then does not test the edition.
 #[inline(always)]
 fn fill(text: &str, edition: Edition, place: &mut CPlace, buffer: &mut [CToken]) -> usize {
     let allowed = allowed_of(place.frontmatter_allowed);
@@ -131,7 +129,7 @@ fn fill(text: &str, edition: Edition, place: &mut CPlace, buffer: &mut [CToken])
     count
 }
 
-/// Returns whether a frontmatter is allowed, from a number.
+/// Returns the flag with this number: 0 means that no frontmatter is allowed.
 fn allowed_of(number: u32) -> FrontmatterAllowed {
     if number == 0 {
         FrontmatterAllowed::No
@@ -140,7 +138,7 @@ fn allowed_of(number: u32) -> FrontmatterAllowed {
     }
 }
 
-/// Returns the number for whether a frontmatter is allowed.
+/// Returns the number of a flag: 1 if a frontmatter is allowed, otherwise 0.
 fn allowed_number(allowed: FrontmatterAllowed) -> u32 {
     match allowed {
         FrontmatterAllowed::No => 0,

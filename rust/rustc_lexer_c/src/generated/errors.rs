@@ -38,7 +38,7 @@ fn number_of(error: Option<TokenError>) -> u32 {
     }
 }
 
-/// Returns the kind with these numbers, as far as a class or an error depends on it.
+/// Returns the kind with these numbers, as far as the class or the error depends on it.
 fn kind_of(token: &CToken) -> TokenKind {
     let (first, second) = (token.first != 0, token.second != 0);
     let doc_style = if first { Some(DocStyle::Outer) } else { None };
@@ -71,7 +71,7 @@ fn kind_of(token: &CToken) -> TokenKind {
     }
 }
 
-/// Returns the kind of literal with these numbers, as far as a class or an error depends on it.
+/// Returns the kind of literal with these numbers, as far as the class or the error depends on it.
 fn literal_of(token: &CToken) -> LiteralKind {
     let base = base_of(token.second);
     let (terminated, empty) = (token.second != 0, token.third != 0);

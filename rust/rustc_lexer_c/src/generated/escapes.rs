@@ -17,7 +17,7 @@ const UNIT_ERROR: u32 = 3;
 
 const UNIT_WARNING: u32 = 4;
 
-/// A unit of a literal's value, or an error or warning, with its span in bytes.
+/// A unit of a literal's value, or an error or warning, with its range in bytes.
 #[repr(C)]
 #[derive(Clone, Copy, Debug, PartialEq, Eq)]
 pub struct CUnit {
@@ -29,10 +29,10 @@ pub struct CUnit {
     pub value: u32,
 }
 
-/// Writes units of the text between the quotes of a literal into the buffer, as many as there is room for, and
+/// Writes the units of the text between the quotes of a literal into the buffer, as many as there is room for, and
 /// their number into `count`. Skips the first `passed` units.
 ///
-/// `mode` is the number of the literal's kind, 3 to 10. Between single quotes there is one unit, whose span is the
+/// `mode` is the number of the literal's kind, 3 to 10. Between single quotes there is one unit, whose range is the
 /// whole text. Each call checks the whole text and reads it from its start.
 pub fn rustc_lexer_unescape(
     text: &[u8],
@@ -47,8 +47,7 @@ pub fn rustc_lexer_unescape(
     }
 }
 
-/// Does what `rustc_lexer_unescape` does, without checking again that the text is UTF-8. `rustc_lexer_check` must have
-/// accepted it.
+/// Like `rustc_lexer_unescape`, but does not check that the text is UTF-8. `rustc_lexer_check` must have accepted it.
 pub fn rustc_lexer_unescape_unchecked(
     text: &[u8],
     mode: u32,
@@ -66,11 +65,10 @@ pub fn rustc_lexer_unescape_unchecked(
     }
 }
 
-/// Writes the errors and warnings of a literal in the same way as `rustc_lexer_unescape` writes its units. `text`
-/// is the text between the quotes. CRLF is one newline.
+/// Writes the errors and warnings of a literal, in the same way as `rustc_lexer_unescape` writes its units. `text` is
+/// the text between the quotes. CRLF is one newline.
 ///
-/// Between single quotes there is at most one error. Its span extends from 0 to the end of the character that causes
-/// it.
+/// Between single quotes there is at most one error. Its range starts at 0 and ends after the character that causes it.
 pub fn rustc_lexer_literal_errors(
     text: &[u8],
     mode: u32,
@@ -84,8 +82,8 @@ pub fn rustc_lexer_literal_errors(
     }
 }
 
-/// Does what `rustc_lexer_literal_errors` does, without checking again that the text is UTF-8. `rustc_lexer_check`
-/// must have accepted it.
+/// Like `rustc_lexer_literal_errors`, but does not check that the text is UTF-8. `rustc_lexer_check` must have accepted
+/// it.
 pub fn rustc_lexer_literal_errors_unchecked(
     text: &[u8],
     mode: u32,
@@ -121,7 +119,7 @@ fn mode_of(number: u32) -> Option<Mode> {
     }
 }
 
-/// Writes units in a mode. Returns their number.
+/// Writes the units of a text in a mode. Returns the number of units written.
 fn fill_units(text: &str, mode: Mode, passed: usize, buffer: &mut [CUnit]) -> usize {
     match mode {
         Mode::Char | Mode::Byte => fill_one(single_unit(text, mode), passed, buffer),
@@ -134,9 +132,9 @@ fn fill_units(text: &str, mode: Mode, passed: usize, buffer: &mut [CUnit]) -> us
     }
 }
 
-/// Writes units of the text between double quotes. Returns their number.
+/// Writes the units of the text between double quotes. Returns the number of units written.
 ///
-/// It is inlined into each arm of its caller, where the mode is a constant.
+/// Inlined into each arm of its caller, which passes the mode as a constant.
 #[inline(always)]
 fn fill_string(text: &str, mode: Mode, passed: usize, buffer: &mut [CUnit]) -> usize {
     let elements = elements_of(text, mode);
@@ -171,11 +169,11 @@ fn elements_of(text: &str, mode: Mode) -> Elements<'_> {
 
 /// An iterator over units.
 trait Units {
-    /// Returns the next unit, or `None` past the last one.
+    /// Returns the next unit, or `None` after the last one.
     fn next_unit(&mut self) -> Option<CUnit>;
 }
 
-/// The units of elements in a mode.
+/// Iterates over the units of the elements in a mode.
 struct Meanings<'a> {
     elements: Elements<'a>,
     mode: Mode,
@@ -189,7 +187,7 @@ impl<'a> Units for Meanings<'a> {
     }
 }
 
-/// Only the errors and warnings.
+/// Iterates over the errors and warnings only.
 impl<'a> Units for EscapeErrorsInFile<'a> {
     #[inline(always)]
     fn next_unit(&mut self) -> Option<CUnit> {
@@ -198,7 +196,7 @@ impl<'a> Units for EscapeErrorsInFile<'a> {
     }
 }
 
-/// Skips the first `passed` units and writes those that follow. Returns the number of units written.
+/// Skips the first `passed` units and writes the units after them. Returns the number of units written.
 #[inline(always)]
 fn fill_all<U: Units>(mut units: U, passed: usize, buffer: &mut [CUnit]) -> usize {
     let mut over = 0;
@@ -219,7 +217,7 @@ fn fill_all<U: Units>(mut units: U, passed: usize, buffer: &mut [CUnit]) -> usiz
     count
 }
 
-/// Returns the value of an element between double quotes, as numbers.
+/// Returns the unit of an element between double quotes.
 #[inline(always)]
 fn item_unit(mode: Mode, place: Range<usize>, element: Element) -> CUnit {
     match mode {
@@ -238,7 +236,7 @@ fn item_unit(mode: Mode, place: Range<usize>, element: Element) -> CUnit {
     }
 }
 
-/// Returns a unit of the kind, or the error.
+/// Returns a unit of this kind, or the error as a unit.
 fn coded_unit(place: Range<usize>, kind: u32, meaning: Result<u32, EscapeError>) -> CUnit {
     match meaning {
         Ok(code) => unit_at(place, kind, code),
@@ -246,7 +244,7 @@ fn coded_unit(place: Range<usize>, kind: u32, meaning: Result<u32, EscapeError>)
     }
 }
 
-/// Returns a unit of a C string as numbers, or the error.
+/// Returns the unit of an element of a C string, or the error as a unit.
 fn mixed_unit(place: Range<usize>, element: Element) -> CUnit {
     match element.to_mixed_unit().err() {
         Some(error) => wrong_unit(place, error),
@@ -254,18 +252,18 @@ fn mixed_unit(place: Range<usize>, element: Element) -> CUnit {
     }
 }
 
-/// Returns a valid unit of a C string as numbers.
+/// Returns the unit of an element of a C string that has no error.
 fn sound_unit(place: Range<usize>, element: Element) -> CUnit {
     match element {
         Element::Plain(c) => unit_at(place, UNIT_CHAR, c as u32),
         Element::Byte(byte) if byte < 128 => unit_at(place, UNIT_CHAR, u32::from(byte)),
         Element::Byte(byte) => unit_at(place, UNIT_BYTE, u32::from(byte)),
         Element::Unicode(_) => coded_unit(place, UNIT_CHAR, element.to_char().map(u32::from)),
-        Element::TokenError(error) => wrong_unit(place, error),
+        Element::Diagnostic(error) => wrong_unit(place, error),
     }
 }
 
-/// Returns an error or warning as numbers.
+/// Returns an error or warning as a unit.
 fn wrong_unit(place: Range<usize>, error: EscapeError) -> CUnit {
     unit_at(place, wrong_kind(error), error_number(error))
 }
@@ -280,7 +278,7 @@ fn unit_at(place: Range<usize>, kind: u32, value: u32) -> CUnit {
     }
 }
 
-/// Returns the kind of the unit for an error or a warning.
+/// Returns the kind of unit for an error or a warning.
 fn wrong_kind(error: EscapeError) -> u32 {
     if error.is_fatal() {
         UNIT_ERROR

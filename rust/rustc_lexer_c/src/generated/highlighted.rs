@@ -8,8 +8,8 @@ use core::fmt;
 use rustc_lexer::generated::Edition;
 use rustc_lexer_highlight::{Format, write_first_tokens};
 
-/// Writes the first `count` tokens of a text in an edition to the start of the buffer, each between the marks of a
-/// format, or all tokens if there are fewer. Writes the number of bytes into `written`.
+/// Writes the first `count` tokens of a text in an edition, or all tokens if there are fewer, to the start of the
+/// buffer, highlighted in a format. Writes the number of bytes into `written`.
 ///
 /// If the buffer is too small, `written` is 0, and the contents of the buffer are unspecified.
 pub fn rustc_lexer_write_highlighted(
@@ -49,7 +49,7 @@ fn format_of(number: u32) -> Option<Format> {
     }
 }
 
-/// Writes highlighted tokens into an empty buffer.
+/// Writes the first `count` highlighted tokens into an empty buffer.
 fn fill(
     format: Format,
     edition: Edition,

@@ -13,8 +13,8 @@ pub fn rustc_lexer_strip_shebang(text: &[u8], line_len: &mut usize) -> u32 {
     }
 }
 
-/// Does what `rustc_lexer_strip_shebang` does, without checking again that the text is UTF-8. `rustc_lexer_check` must
-/// have accepted it.
+/// Like `rustc_lexer_strip_shebang`, but does not check that the text is UTF-8. `rustc_lexer_check` must have accepted
+/// it.
 pub fn rustc_lexer_strip_shebang_unchecked(text: &[u8], line_len: &mut usize) -> u32 {
     match utf8_text_of(text) {
         Ok(text) => done(strip_shebang(text).unwrap_or(0), line_len),
@@ -22,8 +22,8 @@ pub fn rustc_lexer_strip_shebang_unchecked(text: &[u8], line_len: &mut usize) ->
     }
 }
 
-/// Writes the byte offset up to which the tokens are final, whatever is appended: the end of the last token that at
-/// least two characters follow, or 0. No frontmatter is allowed.
+/// Writes the byte offset up to which the tokens are final, whatever is appended. It is the end of the last token that
+/// is followed by at least two characters, or 0 if there is none. No frontmatter is allowed.
 pub fn rustc_lexer_settled(text: &[u8], end: &mut usize) -> u32 {
     match text_of(text) {
         Ok(_) => rustc_lexer_settled_unchecked(text, end),
@@ -31,8 +31,7 @@ pub fn rustc_lexer_settled(text: &[u8], end: &mut usize) -> u32 {
     }
 }
 
-/// Does what `rustc_lexer_settled` does, without checking again that the text is UTF-8. `rustc_lexer_check` must have
-/// accepted it.
+/// Like `rustc_lexer_settled`, but does not check that the text is UTF-8. `rustc_lexer_check` must have accepted it.
 pub fn rustc_lexer_settled_unchecked(text: &[u8], end: &mut usize) -> u32 {
     match utf8_text_of(text) {
         Ok(text) => done(settled(text), end),

@@ -7,7 +7,8 @@ use crate::generated::token::CToken;
 /// Replaces the tokens between the first `kept_front` and the last `kept_back` of a list with `lexed`, and writes the
 /// new number of tokens into `count`. The list is at the start of the buffer and has `count` tokens.
 ///
-/// If it has fewer tokens than the two together, or the buffer is too small, nothing is written.
+/// If the list has fewer tokens than `kept_front` and `kept_back` together, or if the buffer is too small, nothing is
+/// written.
 pub fn rustc_lexer_splice(
     buffer: &mut [CToken],
     count: &mut usize,

@@ -4,7 +4,7 @@
 /// The status of a call that succeeded.
 pub(crate) const OK: u32 = 0;
 
-/// The reason why a call fails. A failed call changes nothing, unless its description says so.
+/// The reason why a call fails. Unless its documentation states otherwise, a failed call changes nothing.
 #[derive(Clone, Copy)]
 pub(crate) enum Refusal {
     /// The bytes are not UTF-8.
@@ -13,7 +13,7 @@ pub(crate) enum Refusal {
     TooLong = 2,
     /// The offset is after the end of the text, or inside a character.
     BadPlace = 3,
-    /// No raw string begins at the start of the text.
+    /// Character number `prefix_len` of the text, counted from 1, is not an `r`.
     NotRaw = 4,
     /// No edition has the year.
     BadEdition = 5,
@@ -23,7 +23,7 @@ pub(crate) enum Refusal {
     BadMode = 7,
     /// No format has the number.
     BadFormat = 8,
-    /// The buffer has too little room. Its contents are then unspecified.
+    /// The buffer is too small.
     SmallBuffer = 9,
 }
 
@@ -46,7 +46,7 @@ pub(crate) fn refuse<T: Copy>(refusal: Refusal, none: T, written: &mut T) -> u32
     refusal.number()
 }
 
-/// Returns the bytes as a text that can be lexed, or the reason why they cannot be lexed.
+/// Returns the bytes as a text, or the reason why they cannot be lexed.
 pub(crate) fn text_of(bytes: &[u8]) -> Result<&str, Refusal> {
     if bytes.len() > u32::MAX as usize {
         return Err(Refusal::TooLong);
@@ -54,18 +54,17 @@ pub(crate) fn text_of(bytes: &[u8]) -> Result<&str, Refusal> {
     core::str::from_utf8(bytes).map_err(|_| Refusal::NotUtf8)
 }
 
-/// Returns bytes that are UTF-8 as a text that can be lexed, or the reason why they cannot be lexed. Does not check
-/// that they are UTF-8.
+/// Returns the bytes as a text without checking that they are UTF-8, or the reason why they cannot be lexed.
 pub(crate) fn utf8_text_of(bytes: &[u8]) -> Result<&str, Refusal> {
     if bytes.len() > u32::MAX as usize {
         return Err(Refusal::TooLong);
     }
-    // The caller promises that the bytes are UTF-8.
+    // The caller guarantees that the bytes are UTF-8.
     Ok(unsafe { core::str::from_utf8_unchecked(bytes) })
 }
 
-/// Checks whether the bytes are a text that can be lexed: UTF-8, of at most `u32::MAX` bytes. Returns the status
-/// that each other call returns for them.
+/// Checks whether the bytes can be lexed: whether they are UTF-8, and at most `u32::MAX` bytes. If they cannot,
+/// every other function that checks its text returns the same status.
 pub fn rustc_lexer_check(text: &[u8]) -> u32 {
     match text_of(text) {
         Ok(_) => OK,

@@ -35,7 +35,7 @@ loop-piece-preserved c = record {
       c.loop-piece.invariant.joined c.in_ok-push.ensures.joined;
 }
 
--- what the loop made of all pieces
+-- After the loop, all pieces are joined.
 whole : (edition : Edition) (pieces : List (Bor (List ℕ))) (i : ℕ) (text made : List ℕ) → length pieces ≤ i
     → made ≡ text
     → AreJoined edition (map (λ (p : Bor (List ℕ)). p.now) (take i pieces)) text

@@ -1,4 +1,4 @@
--- Edits that are made at once: one more of them.
+-- Edits that are applied at once: one more edit in the list.
 use Rattle.std.proofs.Common.{◌≡◌, ◌↔◌, ℕ, zero, suc, ◌+◌, ◌-◌, ◌^◌, ◌<◌, ◌≤◌, min, List, [], ◌∷◌, ◌++◌, length, take}
 use Rattle.std.proofs.Common.{drop, reverse, get_or, refl, sym, ap, ◌∙◌, subst, arith, IsUtf8, IsCharBoundary}
 use Rattle.std.proofs.Common.{append_assoc, length-append, length-drop, length-take-le, take-take}
@@ -41,7 +41,7 @@ all-last : (text : List ℕ) (from : ℕ) (es : List Edit) (e : Edit)
 all-last text from [] e = grind (arith, common_steps, append-nil)
 all-last text from (f ∷ es) e = grind (arith, common_steps, all-last text f.stop es e, append_assoc)
 
--- one more of them: what they make so far is a text, and its length stops at the greatest number
+-- One more edit: the text up to its end is UTF-8, and its length saturates at the maximum.
 pub made-last : (text : List ℕ) (es : List Edit) (e : Edit) (last len next : ℕ) → IsUtf8 text
     → IsUtf8 (with_all text 0 es) → last ≡ stop_of_last 0 es
     → IsCharBoundary text last
@@ -77,7 +77,7 @@ order-take text from es zero are = tt
 order-take text from [] (suc n) are = tt
 order-take text from (e ∷ es) (suc n) are = (are.0, are.1, order-take text e.stop es n are.2)
 
--- where the last one ends
+-- The end of the last edit is in bounds, on a char boundary, and at or after `from`.
 order_end : (text : List ℕ) (from : ℕ) (es : List Edit) → AreInOrder text from es → from ≤ length text
     → IsCharBoundary text from
     → (from ≤ stop_of_last from es) × (stop_of_last from es ≤ length text) × IsCharBoundary text (stop_of_last from es)
@@ -91,7 +91,7 @@ order_inside text [] some are = absurd (some refl)
 order_inside text (e ∷ es) some are =
     grind (arith, common_steps, order_end text e.stop es are.2 are.1.stop_inside are.1.stop_boundary)
 
--- all that they make begins with the text in front of the first
+-- The result starts with the text before the first edit.
 from_first : (text : List ℕ) (es : List Edit) → (es ≡ [] → ⊥)
     → with_all text 0 es ≡ take (start_of_first es) text ++ with_all text (start_of_first es) es
 from_first text es w2 = grind (arith, common_steps)
@@ -102,7 +102,7 @@ pub applied_is : (text : List ℕ) (es : List Edit) → (es ≡ [] → ⊥)
 unfolding apply
 applied_is text es some = grind (arith, common_steps, from_first text es some, append_assoc)
 
--- what is behind an edit, and what it inserts, put behind the text in front of it
+-- An edit before a rest gives the text before the edit, then the inserted text, then the rest.
 put_before : (text rest : List ℕ) (from : ℕ) (e : Edit) → from ≤ e.start → IsInside text e.start e.stop
     → apply (take e.stop text ++ rest) e.start e.stop e.insert.now ≡
     take from text ++ (take (e.start - from) (drop from text) ++ (e.insert.now ++ rest))
@@ -119,7 +119,7 @@ put_before text rest from e after inside =
     rw (front, back, all)
     (append_assoc (take from text) (take (e.start - from) (drop from text)) (e.insert.now ++ rest))
 
--- one after another, from the last to the first, they make the same text
+-- Applied one after another, from the last to the first, the edits give the same text.
 backwards : (text : List ℕ) (from : ℕ) (es : List Edit) → AreInOrder text from es → from ≤ length text
     → apply_list text (reverse es) ≡ take from text ++ (with_all text from es ++ drop (stop_of_last from es) text)
 backwards text from [] are few = sym (take-append-drop from text)
@@ -142,7 +142,7 @@ pub one_by_one : (text : List ℕ) (es : List Edit) → (es ≡ [] → ⊥) → 
     apply_list text (reverse es)
 one_by_one text es some are = sym (applied_is text es some) ∙ sym (backwards text 0 es are (omega arith))
 
--- what follows a text in a text is one
+-- The rest of a text after some characters is UTF-8.
 rest_encoded : (cs ys : List ℕ) → IsUtf8 (encodes cs ++ ys) → IsUtf8 ys
 rest_encoded [] ys is = is
 rest_encoded (c ∷ cs) ys is =
@@ -156,7 +156,7 @@ insert_utf8 text es some is are all =
     rest_encoded front.0 (with_all text (start_of_first es) es)
     (rw front.1.1 (subst IsUtf8 (from_first text es some) all))
 
--- where what they insert ends
+-- The inserted text ends at the start of the first edit plus its length.
 pub insert_end : (text : List ℕ) (es : List Edit) → (es ≡ [] → ⊥) → AreInOrder text 0 es → length (with_all text 0 es) ≡
     start_of_first es + length (with_all text (start_of_first es) es)
 insert_end text es some are = grind (arith, common_steps, order_inside, from_first, length-append, length-take-le)
@@ -174,7 +174,7 @@ pub at_once_none : (text : List ℕ) (es : List Edit) → length es ≡ 0 → Is
 at_once_none text [] none is = grind (arith, common_steps, IsCharBoundary-start)
 at_once_none text (e ∷ es) none is = absurd (omega arith)
 
--- all that they make is the text that the one edit makes
+-- Applying all edits is the same as applying the one edit that is equivalent to them.
 pub put_at_once : {layout : (List ℕ → Token) → List ℕ → Layout} {first : List ℕ → Token} {before made : List ℕ}
     (es : List Edit) {edit : Change} {tokens : List Token} {head : Head} {checkpoints : Checkpoints}
     → (es ≡ [] → ⊥) → AreKeptOf layout first before tokens head checkpoints

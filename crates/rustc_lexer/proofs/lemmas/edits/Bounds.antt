@@ -1,4 +1,4 @@
--- Bounds of a list of tokens.
+-- Boundaries of a list of tokens.
 use Rattle.std.proofs.Common.{◌≡◌, ℕ, zero, suc, ◌+◌, ◌<◌, ◌≤◌, ◌^◌, Bool, cond, List, [], ◌∷◌, ◌++◌, length, drop, ap}
 use Rattle.std.proofs.Common.{◌∙◌, arith, length-drop, IsCharBoundary}
 use Rattle.std.proofs.lemmas.List.Sums.{sum_by_from}
@@ -8,7 +8,7 @@ use Rattle.rustc_lexer.specs.{Token, Classes.{IsText}, Locality.{IsGrammar}, Tok
 use Rattle.rustc_lexer.specs.{model.Relexing.{AreBoundaries}, laws.Cuts.{IsCutAt, at_bound, tokens-cons, tokens-nil}}
 use Rattle.rustc_lexer.proofs.lemmas.tokens.Progress.{IsNext, next-from_drop}
 
--- what is left of a text from a boundary on
+-- The rest of a text from a boundary on is a text.
 pub rest_is : (text : List ℕ) (at : ℕ) → IsText text → IsCharBoundary text at → IsText (drop at text)
 rest_is text at is here =
     record { utf8 = IsUtf8-drop text at is.utf8 here; fits = omega (arith, is.fits, length-drop at text) }
@@ -20,7 +20,7 @@ bound_mono [] (suc i) (suc j) le = omega arith
 bound_mono (t ∷ ts) (suc i) zero le = absurd (omega arith)
 bound_mono (t ∷ ts) (suc i) (suc j) le = omega (arith, bound_mono ts i j (omega arith))
 
--- the end of one token more
+-- One more token moves the end by its length.
 pub bound-end : (ts : List Token) (t : Token) → bound (ts ++ t ∷ []) (length (ts ++ t ∷ [])) ≡
     bound ts (length ts) + t.len
 bound-end [] t = omega arith
@@ -41,7 +41,7 @@ rises {first} law text is k few =
         omega (arith, length-drop k (tokens_by first text)))
     non-empty (c ∷ cs) e = omega arith
 
--- a text has no more tokens than bytes
+-- There are at least k bytes before token boundary k, because no token is empty.
 pub number_le_bound : (ts : List Token) (k : ℕ) → k ≤ length ts
     → ((j : ℕ) → j < length ts → bound ts j < bound ts (suc j)) → k ≤ bound ts k
 number_le_bound ts zero few up = omega arith
@@ -51,7 +51,7 @@ pub count-cons : {X : Type 0} (test : X → Bool) (x : X) (xs : List X)
     → count_by test (x ∷ xs) ≡ cond (test x) 1 0 + count_by test xs
 count-cons test x xs = grind (arith, common_steps, sum_by_from)
 
--- the last bound is the text's end
+-- The last token boundary is the end of the text.
 pub bound-last : {first : List ℕ → Token} (law : IsGrammar first) (text : List ℕ) → IsText text
     → bound (tokens_by first text) (length (tokens_by first text)) ≡ length text
 bound-last {first} law text is = grind (arith, common_steps, at_bound, drop_all, length-drop, tokens-cons)
@@ -61,7 +61,7 @@ pub tokens_le_bytes : {first : List ℕ → Token} (law : IsGrammar first) (text
 tokens_le_bytes {first} law text is = grind (arith, common_steps, number_le_bound, bound-last law text is, rises)
 
 module _ {first : List ℕ → Token} (law : IsGrammar first) (text : List ℕ) (is : IsText text) where
-  -- each bound is inside the text, between characters
+  -- Each token boundary is in bounds and on a char boundary.
   pub cuts : AreBoundaries text (tokens_by first text)
   cuts k few = let cut = at_bound law k text is in IsCharBoundary-from_drop text _ cut.inside cut.past.utf8
 

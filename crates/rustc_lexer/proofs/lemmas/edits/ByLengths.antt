@@ -1,4 +1,4 @@
--- Tokens that are known by their lengths alone: which bounds are found, and where a search of the old ones ends.
+-- Tokens with known lengths only: the token boundaries that are found, and where the search of the old boundaries ends.
 use Rattle.std.proofs.Common.{◌≡◌, ℕ, ◌+◌, ◌-◌, ◌<◌, ◌≤◌, Bool, false, ◌||◌, eqb, eq-eqb, List, ◌++◌, length, map, take}
 use Rattle.std.proofs.Common.{drop, sym, ap, ◌∙◌, subst, arith, length-drop, length-append, IsUtf8, drop-drop}
 use Rattle.std.proofs.Common.{length-take-le, append_assoc, eq-or-lt_of_le, IsCharBoundary, max, true, get_or}
@@ -15,7 +15,7 @@ use Rattle.rustc_lexer.proofs.lemmas.edits.FrontAndBack.{edited, has_two-late, h
 use Rattle.std.proofs.lemmas.{List.{get_or-map, length-map, take-take}, Bool.Decides.{leb_tells}}
 use Rattle.rustc_lexer.proofs.lemmas.edits.KeptFront.{bound-next}
 
--- what stands past the end of a list
+-- After the end of a list, this token is read.
 pub no_token : Token
 no_token = record { kind = Eof; len = 0 }
 
@@ -28,7 +28,7 @@ module _ {X : Type 0} (f : X → ℕ) (xs : List X) (ts : List Token) (are : Has
   as_long i x len its at few =
       grind (arith, common_steps, as_many, its, at, get_or-map f xs i x 0 few, are, get_or-map, no_token)
 
--- whether two characters stand before an offset is decided by the text up to there
+-- The text up to `start` decides whether two characters are between an offset and `start`.
 pub stand_alike : (old text : List ℕ) (offset start : ℕ) (two : Bool) → IsUtf8 old → IsUtf8 text
     → take start text ≡ take start old → start ≤ length text → IsCharBoundary old offset
     → (start ≤ offset → two ≡ false) → (IsCharBoundary text offset → two ≡ has_two text offset start)
@@ -36,7 +36,7 @@ pub stand_alike : (old text : List ℕ) (offset start : ℕ) (two : Bool) → Is
 stand_alike old text offset start two is its same inside cut late here =
     grind (arith, common_steps, leb_tells, has_two-late, take-take, IsCharBoundary-from_take, IsUtf8-take, has_two-same)
 
--- the bound past one more token, and whether two characters stand behind it
+-- After one more token there is a token boundary again, and the test decides whether two characters follow it.
 pub next_stands : {X : Type 0} (f : X → ℕ) (xs : List X) {old text : List ℕ} {ts : List Token} {start : ℕ}
     → IsFront old ts (map f xs) text start → IsUtf8 text
     → start ≤ length text → (at : TokenStart) → IsBound ts at → at.index < length xs → (x : X) (len : ℕ) → len ≡ f x
@@ -55,7 +55,7 @@ next_stands f xs {old} {text} {ts} {start} is its inside at here_is few x len le
           (rw next (is.cuts (at.index + 1) (omega arith))) late here,
     )
 
--- where two characters stand before an offset, it is past them
+-- An offset with two characters between it and `start` is at or before `start`.
 pub stood_before : (offset start : ℕ) (two : Bool) → (start ≤ offset → two ≡ false) → two ≡ true → offset ≤ start
 stood_before offset start two late hit = grind (arith, common_steps, leb_tells)
 
@@ -69,12 +69,12 @@ module _ {first : List ℕ → Token} (law : IsGrammar first) {before lengths in
   pub made_front : IsFront before old lengths text change.start
   made_front = grind (arith, common_steps, cuts, edited is.edit_of)
 
-  -- the end of the text, moved back, is the end of the old tokens
+  -- The end of the text, as an offset in the old text, is the end of the old tokens.
   end_last : (offset : ℕ) → offset ≡ length text → IsLast old (offset - change.new_end + change.old_end)
   end_last offset at =
       grind (arith, (edited is.edit_of).len, bound-last law before is.edit_of.is_text, rises, bound_mono)
 
-  -- how far the old tokens are followed for an offset, from a bound before that
+  -- The old boundaries are followed up to an offset, from an earlier boundary on.
   pub follows : {damage : Damage} {from back : TokenStart} {met : Bool} (offset : ℕ) → damage ≡ damage_of text change
       → IsBound old from
       → ((k : ℕ) → k < from.index → bound old k + change.new_end < max change.new_end offset + change.old_end)
@@ -89,7 +89,7 @@ module _ {first : List ℕ → Token} (law : IsGrammar first) {before lengths in
       → (offset ≡ d.end → IsLast old (offset - d.past + d.old_end))
       → IsFollowed old d.old_end d.past offset back met)) e (follow is.lengths_are) at passed (end_last offset)
 
--- the offset past a token
+-- A step over a token advances by at least one byte, and ends at a char boundary.
 pub step_offset : {first : List ℕ → Token} (law : IsGrammar first) (text : List ℕ) (at : ℕ) (token : Token)
     → IsText text → IsCharBoundary text at → at < length text → token ≡ first (drop at text)
     → (0 < token.len) × IsCharBoundary text (at + token.len)
@@ -104,11 +104,11 @@ step_offset {first} law text at token is cut more token_is =
       IsCharBoundary-from_drop,
     )
 
--- where relexing is not over, more text is left
+-- If relexing is not done, some text is left.
 pub not_over : (met : Bool) (at end : ℕ) → at ≤ end → (met || eqb at end) ≡ false → (met ≡ false) × (at < end)
 not_over w0 at end le e = grind (arith, common_steps, eq-or-lt_of_le, eq-eqb)
 
--- such a change may have made the text
+-- A change that produced the text is a possible change.
 pub made_change : {text insert new : List ℕ} {change : Change} → IsEditOf text change insert new → IsChange new change
 unfolding apply
 made_change {text} {insert} {new} {change} e =

@@ -1,4 +1,4 @@
--- Bounds that are remembered are bounds of the tokens that an edit leaves.
+-- Checkpoints are token boundaries after an edit, too.
 use Rattle.std.proofs.Common.{◌≡◌, ℕ, ◌+◌, ◌-◌, ◌≤◌, List, length, take, drop, sym, ap, ◌∙◌, arith, length-drop}
 use Rattle.std.proofs.Common.{take-take}
 use Rattle.std.specs.List.{All}
@@ -10,7 +10,7 @@ use Rattle.rustc_lexer.proofs.lemmas.edits.{Bounds.{bound_mono, bounds_fit, toke
 use Rattle.rustc_lexer.proofs.lemmas.edits.KeptFront.{bound-shift}
 
 module _ (old new : List Token) (kept met now : TokenStart) (is : IsReplaced old new kept met now) where
-  -- a bound of the kept front stays
+  -- A boundary in the kept front is still a boundary.
   pub front_stays : (at : TokenStart) → at.index ≤ kept.index → IsBound old at → IsBound new at
   front_stays at few here =
       grind (
@@ -29,7 +29,7 @@ module _ (old new : List Token) (kept met now : TokenStart) (is : IsReplaced old
   pub kept_stays : IsBound new kept
   kept_stays = front_stays kept (omega arith) is.kept_bound
 
-  -- a bound of the kept back moves with the one that was met
+  -- A boundary in the kept back moves together with the boundary where old and new tokens meet.
   pub back_moves : (at : TokenStart) → met.index ≤ at.index → IsBound old at
       → IsBound new (record { index = at.index - met.index + now.index; offset = at.offset - met.offset + now.offset })
   back_moves at past here =
@@ -54,7 +54,7 @@ module _ (old new : List Token) (kept met now : TokenStart) (is : IsReplaced old
         omega (arith, before, after, is.met_bound.1, is.now_bound.1),
       )
 
--- numbers and places of both lists are small
+-- Indices and offsets of both lists are small enough to be moved.
 pub movable_for : {first : List ℕ → Token} (law : IsGrammar first) {text made : List ℕ} {old new : List Token}
     {kept met now : TokenStart}
     → IsText text → IsText made → (checkpoints : Checkpoints) → old ≡ tokens_by first text → new ≡ tokens_by first made

@@ -1,4 +1,4 @@
--- An edit of what is kept with a text: what is put in place of its old tokens.
+-- An edit of a lexed text: the tokens that replace its old tokens.
 use Rattle.std.proofs.Common.{◌≡◌, ◌↔◌, ℕ, ◌+◌, ◌-◌, ◌<◌, ◌≤◌, ◌^◌, Bool, true, false, if◌then◌else◌, IsTrue, List}
 use Rattle.std.proofs.Common.{◌++◌, length, map, take, drop, refl, sym, ap, ap₂, ◌∙◌, subst, arith, length-append}
 use Rattle.std.proofs.Common.{length-drop, rules, Result, Ok, Err, ◌&&◌, nat_le, true≢false, IsUtf8}
@@ -11,7 +11,8 @@ use Rattle.rustc_lexer.specs.declared.head.Head.{Head}
 use Rattle.rustc_lexer.specs.{declared.relex.relexing.{Change.Change, Relexed.Relexed, Relexing.Relexing}, Token}
 use Rattle.rustc_lexer.specs.model.Document.{body_change, body_insert, counted, IsHeadIn, IsPut, tokens_of_head}
 use Rattle.rustc_lexer.specs.model.Document.{AreKeptOf, TakesFew, edit_change, text_left}
-use Rattle.rustc_lexer.specs.{Partition.{Layout, tokens_in}, LexedText.{AreKept, Held, HasStepCount, IsEdited, layout_in}}
+use Rattle.rustc_lexer.specs.Partition.{Layout, tokens_in}
+use Rattle.rustc_lexer.specs.LexedText.{AreKept, Held, HasStepCount, IsEdited, layout_in}
 use Rattle.rustc_lexer.specs.{Offsets.{IsBound}, Relexing.{IsMadeOf, known, IsEditOf}, Locality.{IsGrammar}}
 use Rattle.rustc_lexer.specs.{Tokens.{tokens_by}, model.Checkpoints.{AreBounds, IsMovable, IsReplaced, end_of}}
 use Rattle.rustc_lexer.specs.model.Relexing.{IsLexed, kept_front}
@@ -40,7 +41,7 @@ module _ {layout : (List ℕ → Token) → List ℕ → Layout} {first : List �
   pub old_behind : drop n tokens ≡ behind
   old_behind = ap (drop n) all ∙ drop-append_seam (tokens_of_head old) behind
 
-  -- a remembered bound is one of the body's tokens
+  -- A checkpoint is a boundary of the body's tokens.
   pub near_behind : {near : TokenStart} → Contains checkpoints.bounds near → IsBound behind near
   near_behind is = grind (arith, common_steps, All-contains, p.kept.4, old_behind)
 
@@ -56,7 +57,7 @@ module _ {layout : (List ℕ → Token) → List ℕ → Layout} {first : List �
         (body_insert kept change insert body) body
     made_here = body_made law p.edit_of p.kept.2 now_is decided
 
-    -- what was lexed is put in place of the old tokens
+    -- The new list of tokens: the lexed tokens replace the old ones.
     module _ {lexed : List Token} {at : Relexing} (l : IsLexed first (drop old.body before) change body lexed at)
         {new : List Token}
         (put : new ≡ (if kept then take n tokens else tokens_of_head now)
@@ -74,7 +75,7 @@ module _ {layout : (List ℕ → Token) → List ℕ → Layout} {first : List �
             front true same = old_front ∙ ap tokens_of_head (decided.0 same).0
             front false same = refl
 
-        -- they are the tokens of the changed document
+        -- They are the tokens of the changed document.
         pub new_are : new ≡ tokens_in (layout first made)
         new_are = new_is ∙ sym (all_are now_is first)
 
@@ -87,7 +88,7 @@ module _ {layout : (List ℕ → Token) → List ℕ → Layout} {first : List �
         rest : drop (known at) fresh ≡ drop at.back.index behind
         rest = rest_met law made_here l.under_way l.met
 
-        -- the checkpoints can be moved, and stay checkpoints
+        -- The checkpoints can be moved, and are still checkpoints.
         pub bounds_move : All (IsMovable at.back (end_of at)) checkpoints.bounds
             × IsReplaced behind fresh at.front at.back (end_of at)
         bounds_move =
@@ -128,7 +129,7 @@ module _ {layout : (List ℕ → Token) → List ℕ → Layout} {first : List �
             ∙ (drop-append-add (tokens_of_head now) fresh (known at)
             ∙ (rest ∙ sym (ap₂ drop f all ∙ drop-append-add (tokens_of_head old) behind at.back.index)))
 
-        -- the counts are those of all tokens
+        -- The counts are the counts of all tokens, with the head.
         pub counted_are : AreKept tokens new (counted kept n (length (tokens_of_head now)) counts)
         counted_are = by_kept kept refl
           where
@@ -162,7 +163,7 @@ module _ {layout : (List ℕ → Token) → List ℕ → Layout} {first : List �
               made_here.edit_of.is_text.fits,
             )
 
--- the edit of the body, as it is read
+-- The body is the result of its change, in terms of the variables of the code.
 pub made_read : {layout : (List ℕ → Token) → List ℕ → Layout} {first : List ℕ → Token}
     (law : IsGrammar first) {before insert made read body : List ℕ} {tokens slice : List Token} {old now : Head}
     {checkpoints : Checkpoints}
@@ -176,14 +177,14 @@ made_read law {slice = slice} {n = n} p read_is now_is decided n_is body_is chan
     rw (take_rest slice n, slice_is, n_is, old_behind law p, change_is, body_is, read_is)
     (made_here law p (rw read_is at now_is) decided)
 
--- ---- an edit of what is kept
+-- ---- an edit of a lexed text
 
--- whether the head stays
+-- The test decides whether the head is kept.
 stays_by : (old now : Head) (start : ℕ) (same : Bool) → IsTrue same ↔ (old ≡ now)
     → IsTrue (nat_le old.body start && same) ↔ ((old ≡ now) × (old.body ≤ start))
 stays_by old now start same tells = grind (arith, common_steps, tells)
 
--- so it does that takes none
+-- A step count that did not grow meets the bound for every edit.
 pub few_none : {first : List ℕ → Token} (law : IsGrammar first) (whole : Bool) (text insert : List ℕ)
     (start stop before : ℕ)
     → IsText text → IsUtf8 insert → IsEdit text start stop insert
@@ -196,7 +197,7 @@ few_none law whole text insert start stop before is its edit =
     few_by law e old.1 now.1 (stays_by old.0 now.0 start (is_same_head old.0 now.0) (decided_head _ old.0 now.0 refl))
     before before (λ x counts. omega arith)
 
--- the text is made by an edit of what is kept
+-- The new text is the result of an edit of the lexed text.
 pub put_by : {layout : (List ℕ → Token) → List ℕ → Layout} {first : List ℕ → Token}
     {before insert made reserved : List ℕ} {start stop : ℕ} {tokens : List Token} {head : Head}
     {checkpoints : Checkpoints}
@@ -219,7 +220,7 @@ pub left_back : {R E : Type 0} (r : Result R E) (made before : List ℕ) → IsE
 left_back (Ok x) made before err = absurd (true≢false (sym err))
 left_back (Err e) made before err = refl
 
--- an edit that is refused: the text is put back, and all else is as it was
+-- A failed edit restores the text and changes nothing else.
 pub refused : {S E : Type 0} {layout : List ℕ → Layout} {text left insert : List ℕ} {start stop : ℕ}
     {tokens now : List Token} {stepper later : S} (r : Result Relexed E)
     → IsErr r → tokens ≡ tokens_in (layout text) → left ≡ text → now ≡ tokens
@@ -242,7 +243,7 @@ pub counted_refused : {E : Type 0} {layout : List ℕ → Layout} {text insert :
 counted_refused (Ok x) err rose few = absurd (true≢false (sym err))
 counted_refused (Err e) err rose few = record { count = search rules; rose = rose; few = few }
 
--- one that is made is so whatever its errors are
+-- The type of the error does not matter for a successful edit.
 pub made_as : {S A B : Type 0} {layout : List ℕ → Layout} {old new : Held S} {start stop : ℕ} {insert : List ℕ}
     {r : Relexed}
     → IsEdited {E = A} layout old start stop insert (Ok r) new

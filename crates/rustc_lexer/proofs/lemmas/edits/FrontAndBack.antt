@@ -1,4 +1,4 @@
--- What an edit keeps: the front by locality, the back by a bound that both texts have.
+-- The tokens that an edit keeps: in front because of locality, and in the back after a boundary of both texts.
 use Rattle.std.proofs.Common.{◌≡◌, ℕ, zero, suc, ◌+◌, ◌-◌, ◌*◌, ◌<◌, ◌≤◌, true, false, List, [], ◌∷◌, ◌++◌, length}
 use Rattle.std.proofs.Common.{take, drop, refl, sym, ap, ◌∙◌, arith, length-drop, length-append, drop-drop, take-take}
 use Rattle.std.proofs.Common.{take-append-drop, take-add, take_at, drop_at, length-take-le, IsUtf8, IsCharBoundary}
@@ -14,11 +14,11 @@ use Rattle.rustc_lexer.specs.{Tokens.{bound, tokens_by}, Edits.{apply}, Relexing
 use Rattle.rustc_lexer.specs.declared.relex.relexing.Change.{Change}
 use Rattle.rustc_lexer.specs.laws.Cuts.{IsCutAt, at_bound, tokens_local, look}
 
--- what holds anyway holds of an error
+-- A proposition that always holds also holds for an error.
 pub IfErr-always : {T E : Type 0} {P : Type 0} (r : Result T E) → P → IfErr r (λ _. P)
 IfErr-always r w1 = grind (arith, common_steps)
 
--- the edited text: its parts
+-- Holds if `new` is the edited text: it has the same bytes as `text` before the edit and after it.
 pub record IsEdited (text : List ℕ) (edit : Change) (new : List ℕ) : Type 0 where
   pub start_le_old : edit.start ≤ edit.old_end
   pub old_inside : edit.old_end ≤ length text
@@ -66,7 +66,7 @@ edited {text} {insert} {new} {edit} e =
       };
     }
 
--- two characters or more decide what a text shows
+-- A prefix with two characters decides the first two characters of a text.
 pub look-enough : (xs ys zs : List ℕ) → IsUtf8 xs → 2 ≤ length (chars xs) → look (xs ++ ys) ≡ look (xs ++ zs)
 look-enough xs ys zs is two =
     grind (
@@ -96,7 +96,7 @@ pub has_two-intro : (text : List ℕ) (offset to : ℕ) → 2 ≤ length (chars 
 unfolding has_two
 has_two-intro text offset to two = le-leb 2 (length (chars (take (to - offset) (drop offset text)))) two
 
--- where two characters stand before the edit, both texts agree
+-- If two characters are between an offset and the edit, both texts agree from the offset on.
 pub has_two-agree : (text new : List ℕ) (offset start : ℕ) → IsUtf8 (take (start - offset) (drop offset text))
     → take start new ≡ take start text → has_two text offset start ≡ true → AgreePast offset text new
 unfolding has_two
@@ -131,7 +131,7 @@ bound-same k ts us e = sym (bound-take k ts) ∙ (ap (λ xs. bound xs k) e ∙ b
 
 module _ {first : List ℕ → Token} (law : IsGrammar first) {text insert new : List ℕ} {edit : Change}
     (e : IsEditOf text edit insert new) where
-  -- the kept front
+  -- The tokens of the kept front are the same in both texts.
   pub kept_same : (k : ℕ) → k ≤ length (tokens_by first text)
       → (0 < k → has_two text (bound (tokens_by first text) k) edit.start ≡ true)
       → take k (tokens_by first new) ≡ take k (tokens_by first text)
@@ -147,7 +147,7 @@ module _ {first : List ℕ → Token} (law : IsGrammar first) {text insert new :
       tokens_local law (suc k) text new e.is_text (edited e).text_is few
       (has_two-agree text new offset edit.start middle (edited e).front has)
 
-  -- past the edit both texts have the same rest
+  -- After the edit both texts have the same rest.
   pub same_rest : (p : ℕ) → edit.new_end ≤ p → drop p new ≡ drop (p - edit.new_end + edit.old_end) text
   same_rest p past =
       let n : ℕ = p - edit.new_end in
@@ -156,7 +156,8 @@ module _ {first : List ℕ → Token} (law : IsGrammar first) {text insert new :
       ap (λ q. drop q new) (sym here) ∙ (sym (drop-drop n edit.new_end new)
       ∙ (ap (drop n) (edited e).back ∙ (drop-drop n edit.old_end text ∙ ap (λ q. drop q text) there)))
 
-  -- the meeting: from a bound past the edit that, moved back, is a bound of the old text, the tokens are the old ones
+  -- The meeting: after a boundary at or after the edit that is also a boundary of the old text, all tokens are old
+  -- ones.
   pub met_rest : (j i : ℕ) → edit.new_end ≤ bound (tokens_by first new) j
       → bound (tokens_by first text) i + edit.new_end ≡ bound (tokens_by first new) j + edit.old_end
       → drop j (tokens_by first new) ≡ drop i (tokens_by first text)
@@ -172,7 +173,7 @@ drop_of-take (suc p) zero xs = grind (arith, common_steps)
 drop_of-take (suc p) (suc n) [] = grind (arith, common_steps)
 drop_of-take (suc p) (suc n) (x ∷ xs) = grind (arith, common_steps, drop_of-take p n xs)
 
--- what stands from an offset up to another is in the text up to that one
+-- Whether two characters are between two offsets depends only on the text up to the second.
 pub has_two-same : (text other : List ℕ) (offset to : ℕ) → take to text ≡ take to other
     → has_two text offset to ≡ has_two other offset to
 unfolding has_two
@@ -182,7 +183,7 @@ has_two-same text other offset to same =
 pub has_two-late : (text : List ℕ) (offset to : ℕ) → to ≤ offset → has_two text offset to ≡ false
 has_two-late text offset to late = grind (arith, common_steps, has_two-before)
 
--- an offset before another has no fewer characters past it
+-- An earlier offset has at least as many characters after it.
 pub has_two-mono : (text : List ℕ) (offset later to : ℕ) → IsUtf8 text → offset ≤ later → IsCharBoundary text offset
     → IsCharBoundary text later → has_two text later to ≡ true → has_two text offset to ≡ true
 has_two-mono text offset later to is le b c two =
@@ -199,7 +200,7 @@ has_two-mono text offset later to is le b c two =
     (rw (split, chars-append xs ys (IsUtf8-between text offset later is le b c))
     (omega (arith, length-append (chars xs) (chars ys), enough)))
 
--- whether a second character stands past the first
+-- The text from `from` to `to` has two characters exactly if a character follows the first one.
 pub two_chars : (text : List ℕ) (from to : ℕ) (bs rest : List ℕ) (c : ℕ) → bs ≡ take (to - from) (drop from text)
     → IsUtf8 bs → bs ≡ encode_utf8 c ++ rest → is_some (slice_get (chars rest) 0) ≡ has_two text from to
 unfolding has_two
@@ -217,7 +218,7 @@ length-encodes [] = omega arith
 length-encodes (c ∷ cs) =
     omega (arith, length-append (encode_utf8 c) (encodes cs), length-encode c, (len_utf8_bounds c).1, length-encodes cs)
 
--- a character has four bytes at most, so eight bytes hold two characters
+-- A character has at most four bytes, so eight bytes contain two characters.
 pub has_two-long : (text : List ℕ) (offset to : ℕ) → IsUtf8 text → IsCharBoundary text offset → IsCharBoundary text to
     → 8 ≤ to - offset → has_two text offset to ≡ true
 has_two-long text offset to is from until long =
@@ -230,7 +231,7 @@ has_two-long text offset to is from until long =
     omega (arith, bytes, ap length (encodes-chars xs its), length-encodes (chars xs)) in
     has_two-intro text offset to enough
 
--- what is put in place, where there is room for it
+-- The replacement gives the edited text, if there is room for it.
 pub put_is : {E : Type 0} (result : Result Unit E) (text insert new : List ℕ) (start stop len room : ℕ)
     → len + length insert ≤ room
     → OnOk result (new ≡ replace_range text start stop insert) → OnErr result (room < len + length insert)
@@ -238,7 +239,7 @@ pub put_is : {E : Type 0} (result : Result Unit E) (text insert new : List ℕ) 
 unfolding apply
 put_is result text insert new start stop len room w8 w9 w10 = grind (arith, common_steps, append_assoc)
 
--- a text is what stands before, inside and behind a range of it
+-- A text is the part before a range, the range, and the part after it.
 pub three_parts : (text : List ℕ) (start stop : ℕ) → start ≤ stop
     → take start text ++ (slice_range text start stop ++ drop stop text) ≡ text
 three_parts text start stop less =
@@ -248,7 +249,7 @@ three_parts text start stop less =
     ∙ (ap (λ rest. take start text ++ rest) (take-append-drop (stop - start) (drop start text))
     ∙ take-append-drop start text)
 
--- what was taken out is put back
+-- Replacing the inserted text with the removed text restores the old text.
 pub put_back : {text insert new : List ℕ} {edit : Change} → IsEditOf text edit insert new
     → apply new edit.start edit.new_end (slice_range text edit.start edit.old_end) ≡ text
 unfolding apply

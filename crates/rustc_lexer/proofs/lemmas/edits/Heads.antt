@@ -1,10 +1,10 @@
--- The head of a text, by where the tokens of the text are.
+-- The head of a text, and the offsets of its tokens.
 use Rattle.std.proofs.Common.{◌≡◌, ◌↔◌, ℕ, zero, suc, ◌+◌, ◌≤◌, Bool, true, false, List, [], length, refl, sym, ap, ap₂}
 use Rattle.std.proofs.Common.{◌∙◌, subst, arith, drop, length-take-le, Option, None, IsCharBoundary}
 use Rattle.std.proofs.lemmas.{Grind.{common_steps}, Str.{IsCharBoundary-start}}
 use Rattle.rustc_lexer.specs.{Edition, Token, declared.head.Head.{Head}, Answers.{first_in}, Classes.{IsText}}
-use Rattle.rustc_lexer.specs.Document.{body_start, head_tokens, tokens_start, whole_by}
-use Rattle.rustc_lexer.specs.{Edits.{body_in, KeepsHead, part_by}, LexedText.{edition_tokens_in, layout_in, start_in}}
+use Rattle.rustc_lexer.specs.Document.{body_start, head_tokens, tokens_start, document_by}
+use Rattle.rustc_lexer.specs.{Edits.{body_in, KeepsHead, fragment_by}, LexedText.{edition_tokens_in, layout_in, start_in}}
 use Rattle.rustc_lexer.specs.{LanguageText.{newest}, Partition.{Layout, tokens_in}, Relexing.{IsHeadOf}}
 use Rattle.rustc_lexer.specs.Tokens.{bound, tokens_by}
 use Rattle.rustc_lexer.specs.model.Document.{by_head, front_tokens, IsHeadIn, tokens_of_head}
@@ -16,27 +16,27 @@ use Rattle.rustc_lexer.proofs.lemmas.heads.ByTokens.{bound-append, head_cuts, in
 body_by : (text : List ℕ) → body_start text ≡ tokens_start text + bound (head_tokens text) (length (head_tokens text))
 body_by text = grind (arith, common_steps, length-take-le, bound-take)
 
-pub whole_head : (text : List ℕ) → IsText text → (head : Head) → IsHeadOf text head → IsHeadIn whole_by text head
+pub whole_head : (text : List ℕ) → IsText text → (head : Head) → IsHeadOf text head → IsHeadIn document_by text head
 whole_head text is head h = grind (arith, common_steps, body_by, head_cuts)
 
-pub is_page : (text : List ℕ) (head : Head) → IsHeadIn whole_by text head → IsHeadOf text head
+pub is_page : (text : List ℕ) (head : Head) → IsHeadIn document_by text head → IsHeadOf text head
 is_page text head h = grind (arith, common_steps, h.layout_is (first_in newest), body_by)
 
--- ---- the head of a text, a whole document or a part of one
+-- ---- the head of a text, which is a whole document or a fragment
 
 none_cut : (text : List ℕ) → IsText text → (k : ℕ) → k ≤ 0 → IsCharBoundary text (0 + bound [] k)
 none_cut text is zero few = IsCharBoundary-start text is.utf8
 none_cut text is (suc k) few = absurd (omega arith)
 
 pub part_head : (text : List ℕ) → IsText text
-    → IsHeadIn part_by text (record { tokens_start = 0; space_len = 0; frontmatter = None; body = 0 })
+    → IsHeadIn fragment_by text (record { tokens_start = 0; space_len = 0; frontmatter = None; body = 0 })
 part_head text is = record { layout_is = λ first. refl; bare = λ none. refl; ends = refl; cuts = none_cut text is }
 
 pub head_in : (whole : Bool) (text : List ℕ) → IsText text → (head : Head) × IsHeadIn (layout_in whole) text head
 head_in true text is = let some = some_head text is in (some.0, whole_head text is some.0 some.1.of)
 head_in false text is = (_, part_head text is)
 
--- the tokens begin where the shebang line ends
+-- The first token starts where the shebang line ends.
 pub start_is : (whole : Bool) (text : List ℕ) (head : Head) → IsHeadIn (layout_in whole) text head
     → head.tokens_start ≡ start_in whole text
 start_is true text head h = (is_page text head h).shebang_is
@@ -60,14 +60,14 @@ module _ {layout : (List ℕ → Token) → List ℕ → Layout} {text : List �
   pub heads_are : (first : List ℕ → Token) → length (layout first text).head ≡ length (tokens_of_head head)
   heads_are first = ap (λ (l : Layout). length l.head) (h.layout_is first)
 
-  -- the body begins where the tokens of the head end
+  -- The body starts where the tokens of the head end.
   pub body_at : (first : List ℕ → Token) → body_in (by_head head first text) ≡ head.body
   body_at first = ap (λ n. head.tokens_start + n)
       (bound-append (tokens_of_head head) (tokens_by first (drop head.body text))) ∙ sym h.ends
 
--- ---- whether the head stays
+-- ---- whether the head is kept
 
--- the tokens tell the head
+-- The tokens of a head determine its parts.
 same-parts : (s s' : ℕ) (f f' : Option Token) → (f ≡ None → s ≡ 0) → (f' ≡ None → s' ≡ 0)
     → front_tokens s f ≡ front_tokens s' f' → (s ≡ s') × (f ≡ f')
 same-parts s s' f f' w4 w5 w6 = grind (arith, common_steps)

@@ -1,4 +1,4 @@
--- What two texts have in common at their ends, and the edit of what is between.
+-- The common prefix and suffix of two texts, and the edit between them.
 use Rattle.std.proofs.lemmas.Grind.{common_steps}
 use Rattle.std.proofs.Common.{◌≡◌, ◌↔◌, Bool, false, IsTrue, ℕ, ◌+◌, ◌-◌, ◌^◌, ◌<◌, ◌≤◌, ◌++◌, List, length, take, drop}
 use Rattle.std.proofs.Common.{slice_range, refl, sym, ap, ap₂, ◌∙◌, subst, arith, drop-drop, take-take, take_at}
@@ -8,9 +8,9 @@ use Rattle.std.proofs.{lemmas.Str.{IsCharBoundary-from_take, IsCharBoundary-star
 use Rattle.rustc_lexer.specs.{Edits.{IsNarrowest, Makes, apply}, model.Relexing.{IsSameBack, IsSameFront}}
 use Rattle.rustc_lexer.proofs.lemmas.edits.FrontAndBack.{three_parts}
 
--- ---- the front
+-- ---- the common prefix
 
--- it goes on by a slice that both texts have
+-- A common prefix, followed by a slice that is equal in both texts, is a common prefix.
 pub front_more : (old new : List ℕ) (at to : ℕ) → IsSameFront old new at → at ≤ to → to ≤ length old
     → to ≤ length new → slice_range old at to ≡ slice_range new at to → IsSameFront old new to
 front_more old new at to is less in_old in_new same =
@@ -29,7 +29,7 @@ front_less old new at n is less = record {
   same = sym (take-take n at old less) ∙ (ap (take n) is.same ∙ take-take n at new less);
 }
 
--- a longer one has each slice
+-- Every slice of a common prefix is equal in both texts.
 pub front_slice : (old new : List ℕ) (at to n : ℕ) → IsSameFront old new n → at ≤ to → to ≤ n
     → slice_range old at to ≡ slice_range new at to
 front_slice old new at to n is less in_front =
@@ -37,7 +37,7 @@ front_slice old new at to n is less in_front =
     λ xs. ap (λ k. drop at (take k xs)) (omega arith) ∙ drop-take at (to - at) xs in
     sym (part old) ∙ (ap (drop at) (front_less old new n to is in_front).same ∙ part new)
 
--- where it is cut between characters of one text, it is so in the other
+-- A char boundary of one text within the common prefix is a char boundary of both.
 pub front_boundary : (old new : List ℕ) (n : ℕ) → IsUtf8 old → IsUtf8 new → IsSameFront old new n
     → IsCharBoundary old n → IsCharBoundary new n
 front_boundary old new n old_is new_is is at =
@@ -52,11 +52,12 @@ pub some_front : {text : List ℕ} {n : ℕ} {r : Bool} → IsUtf8 text → (IsT
     → r ≡ false → 0 < n
 some_front {text} {n} {r} is test cut = grind (arith, test, IsCharBoundary-start text is)
 
--- the longest one between characters is shorter than one that is cut inside a character; so is the back
+-- The longest common prefix that ends on a char boundary is shorter than one that ends inside a character; the same
+-- holds for a suffix.
 pub shorter : {at n : ℕ} {r : Bool} (P : ℕ → Type 0) → (IsTrue r ↔ P at) → r ≡ false → P n → n ≤ at → n + 1 ≤ at
 shorter P test cut is less = grind (arith, test)
 
--- ---- the back
+-- ---- the common suffix
 
 pub back_more : (old new : List ℕ) (start at to : ℕ) → IsSameBack old new start at → at ≤ to
     → start + to ≤ length old → start + to ≤ length new
@@ -84,7 +85,7 @@ back_less old new start at n is less =
       same = sym (part old is.in_old) ∙ (ap (drop (at - n)) is.same ∙ part new is.in_new);
     }
 
--- none is so long where the slices differ
+-- No common suffix extends over a slice that differs.
 pub back_differs : (old new : List ℕ) (start at to n : ℕ) → IsSameBack old new start n → at ≤ to
     → (slice_range old (length old - to) (length old - at)
     ≡ slice_range new (length new - to) (length new - at) → ⊥)
@@ -96,9 +97,9 @@ back_differs old new start at to n is less differ =
     ap₂ (λ (k : ℕ) (xs : List ℕ). take k xs) (omega (arith, whole.in_old, whole.in_new)) whole.same in
     grind (arith, differ, same)
 
--- ---- the edit of what is between
+-- ---- the edit between prefix and suffix
 
--- each edit that makes the new text leaves a front and a back that both have
+-- Each edit that turns the old text into the new one leaves a common prefix and a common suffix.
 pub front_left : {old new : List ℕ} {start stop : ℕ} {insert : List ℕ} → Makes old new start stop insert
     → IsSameFront old new start
 unfolding apply

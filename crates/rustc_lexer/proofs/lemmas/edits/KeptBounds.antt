@@ -1,4 +1,4 @@
--- Where the bounds are of the tokens that are kept with a text, also in the words of its definitions.
+-- The token boundaries of a lexed text, as the code stores them and as the specification defines them.
 use Rattle.std.proofs.Common.{◌≡◌, ℕ, ◌+◌, ◌-◌, ◌^◌, ◌<◌, ◌≤◌, List, ◌++◌, length, take, drop, sym, ap, ◌∙◌, subst}
 use Rattle.std.proofs.Common.{arith, length-append, length-drop, inl, inr, IsCharBoundary, ◌↔◌, Bool, Option, IsSome}
 use Rattle.std.proofs.Common.{None}
@@ -32,17 +32,17 @@ module _ {first : List ℕ → Token} (law : IsGrammar first) {layout : (List �
       (length fronts + k)
   body_at k = grind (arith, common_steps, are.2.ends, all_are, bound-append, bound-shift)
 
-  -- a bound of the body's tokens is one of all
+  -- A boundary of the body's tokens is a boundary of all tokens.
   pub near_at : (near : TokenStart) (n : ℕ) → n ≡ length fronts → IsBound (drop (length fronts) tokens) near
       → head.body + near.offset ≡ head.tokens_start + bound tokens (n + near.index)
   near_at near n e at = omega (arith, at.1, body_at near.index, ap (λ m. bound tokens (m + near.index)) e)
 
-  -- the same, with its offset in the text
+  -- The same holds for its offset in the whole text.
   pub near_from : (near : TokenStart) (n : ℕ) → n ≡ length fronts → IsBound (drop (length fronts) tokens) near
       → IsBoundFrom head.tokens_start tokens (record { index = n + near.index; offset = head.body + near.offset })
   near_from near n e at = grind (arith, common_steps, all_are, length-append, length-drop, near_at)
 
-  -- the last bound is the text's end
+  -- The last boundary is the end of the text.
   pub end_is : head.tokens_start + bound tokens (length tokens) ≡ length text
   end_is =
       let n : ℕ = length (tokens_by first body) in
@@ -74,7 +74,7 @@ module _ {first : List ℕ → Token} (law : IsGrammar first) {layout : (List �
       subst (IsCharBoundary text) offset
       (IsCharBoundary-from_rest text head.body (bound (tokens_by first body) j) are.3.0 there)
 
-  -- the tokens cut the text between characters
+  -- The tokens cut the text at char boundaries.
   pub kept_cuts : AreCut text head.tokens_start (length text) tokens
   kept_cuts = (are.0.fits, by_front, sym end_is)
     where
@@ -87,7 +87,7 @@ module _ {first : List ℕ → Token} (law : IsGrammar first) {layout : (List �
             (cut_back (k - length fronts) (omega arith))
       ]
 
--- what the invariant says of the view
+-- Consequences of the invariant for the view.
 module _ {S : Type 0} {first : List ℕ → Token} (law : IsGrammar first) (whole : Bool) (text : List ℕ)
     (tokens : List Token) (head : Head) (checkpoints : Checkpoints)
     (are : AreKeptOf (layout_in whole) first text tokens head checkpoints) (held : Held S) (text_is : text ≡ held.text)
@@ -119,7 +119,7 @@ module _ {S : Type 0} {first : List ℕ → Token} (law : IsGrammar first) (whol
       (subst (λ n. AreCut text n (length text) tokens) (start_is whole text head are.2)
       (kept_cuts law text tokens head checkpoints are))
 
--- where no token has the offset, the text has ended
+-- If no token contains the offset, it is at or after the end of the text.
 pub none_past : {result : Option TokenStart} {first offset len : ℕ} → IsSome result
     ↔ ((first ≤ offset) × (offset < len)) → result ≡ None → first ≤ offset → len ≤ offset
 none_past {result} {first} {offset} {len} some none from = grind (arith, common_steps, cases_lt)

@@ -1,4 +1,4 @@
--- The kept front: the tokens whose ends two characters follow.
+-- The kept front: the tokens that at least two characters follow before the edit.
 use Rattle.std.proofs.Common.{◌≡◌, ◌↔◌, refl, ap, inl, inr, ℕ, zero, suc, ◌+◌, ◌<◌, ◌≤◌, Bool, true, false, true≢false}
 use Rattle.std.proofs.Common.{List, [], ◌∷◌, length, get_or, drop, sym, ◌∙◌, arith, IsUtf8, drop-cons, inl}
 use Rattle.std.specs.List.{count_by}
@@ -22,7 +22,7 @@ none_counted test (x ∷ xs) none =
       none 0 (omega arith),
     )
 
--- where none passes behind one that does not, those that pass are the first
+-- If every item before a passing item passes, the passing items are the first ones.
 counted_first : (test : ℕ → Bool) (xs : List ℕ)
     → ((i j : ℕ) → i ≤ j → j < length xs → test (get_or xs j 0) ≡ true → test (get_or xs i 0) ≡ true) → (k : ℕ)
     → k < length xs → (test (get_or xs k 0) ≡ true) ↔ (k < count_by test xs)
@@ -54,7 +54,7 @@ get_or-ends_from from (t ∷ ts) (suc k) few = omega (arith, get_or-ends_from (f
 
 -- ---- the kept front
 
--- nothing is kept before an edit at the front
+-- An edit at the start of the text keeps nothing in front.
 pub kept_none : (text : List ℕ) (ts : List Token) → kept_front text ts 0 ≡ 0
 kept_none text ts =
     none_counted (λ end. has_two text end 0) (ends_from 0 ts) (λ k few. has_two-late text _ 0 (omega arith))
@@ -67,7 +67,7 @@ module _ (text : List ℕ) (tokens : List Token) (to : ℕ) (is : IsUtf8 text) (
     length-ends_from 0 tokens,
   )
 
-  -- a bound that two characters follow is in it, and so are those before it
+  -- A boundary is in the kept front exactly if two characters follow it.
   pub kept_tells : (k : ℕ) → k ≤ length tokens → (0 < k → has_two text (bound tokens k) to ≡ true)
       ↔ (k ≤ kept_front text tokens to)
   kept_tells zero few = (λ two. omega arith, λ first some. absurd (omega arith))
@@ -82,7 +82,7 @@ module _ (text : List ℕ) (tokens : List Token) (to : ℕ) (is : IsUtf8 text) (
       (cuts (suc j) (omega arith)) (rw (at j (omega arith)) at two))) k (omega arith) in
       (λ two. tells.0 (rw (at k few) (two (omega arith))), λ first some. rw (at k few) at (tells.1 first))
 
-  -- the last bound that two characters follow
+  -- The kept front ends at the last boundary that two characters follow.
   pub kept_is : (n : ℕ) → n ≤ length tokens → (0 < n → has_two text (bound tokens n) to ≡ true)
       → (n < length tokens → has_two text (bound tokens (n + 1)) to ≡ false) → n ≡ kept_front text tokens to
   kept_is n few two out = elim (cases_lt n (kept_front text tokens to)) [
@@ -92,7 +92,7 @@ module _ (text : List ℕ) (tokens : List Token) (to : ℕ) (is : IsUtf8 text) (
     | inr more ↦ omega (arith, more, (kept_tells n few).0 two)
   ]
 
--- ---- a bound behind a bound
+-- ---- a boundary after a boundary
 
 bound-nil : (k : ℕ) → bound [] k ≡ 0
 bound-nil zero = refl

@@ -1,4 +1,4 @@
--- A list of edits, one edit at a time, and how far it was made.
+-- A list of edits, one edit at a time, and how much of it was applied.
 use Rattle.std.proofs.Common.{◌≡◌, ℕ, ◌+◌, ◌-◌, ◌<◌, ◌≤◌, min, List, [], ◌∷◌, ◌++◌, length, take, drop, get_or, refl}
 use Rattle.std.proofs.Common.{sym, ap, ◌∙◌, subst, arith, length-drop, length-take-le, drop-drop, Option, IfSome, Ok}
 use Rattle.std.proofs.Common.{Err}
@@ -10,7 +10,7 @@ use Rattle.rustc_lexer.specs.declared.relex.edit_list.EditStop.{EditStop, TheVar
 use Rattle.rustc_lexer.specs.declared.relex.relexing.Relexed.{Relexed}
 use Rattle.rustc_lexer.specs.Edits.{IsEdit, IsRelexed, applied, apply, apply_list, count_after, AreEdits, AreRelexed}
 use Rattle.rustc_lexer.specs.Edits.{AreStepped, IsGreatest, IsRefusedOn, IsStop, IsStopStepped, stop_at}
-use Rattle.rustc_lexer.specs.LexedText.{HaveStepCounts, AreKept, AreKeptThrough, AreMade, Held, HasStepCount, IsEdited}
+use Rattle.rustc_lexer.specs.LexedText.{HaveStepCounts, AreKept, AreKeptThrough, AreApplied, Held, HasStepCount, IsEdited}
 use Rattle.rustc_lexer.specs.Partition.{Layout, tokens_in}
 use Rattle.rustc_lexer.specs.model.EditList.{AreLeast, StayAtEnds, AreKeptTo, AreMadeTo}
 use Rattle.rustc_lexer.specs.declared.relex.lexed.edits.Made.{Made}
@@ -23,19 +23,19 @@ apply-last text (f ∷ es) e = apply-last (applied text f) es e
 abbrev pub none : Edit
 none = record { start = 0; stop = 0; insert = record { ref_ptr = (0, 0); now = [] } }
 
--- one more edit: what the text is then, and what was lexed by then
+-- After one more edit, the text is the result of one more edit of the list.
 pub text-more : (text now after : List ℕ) (es : List Edit) (n : ℕ) → n < length es → now ≡ apply_list text (take n es)
     → after ≡ applied now (get_or es n none) → after ≡ apply_list text (take (n + 1) es)
 text-more text now after es n few is made =
     rw (take_more es n none few, apply-last text (take n es) (get_or es n none), sym is) made
 
--- the steps that one edit takes
+-- Holds if the step count grew by the steps of the edit.
 abbrev pub IsStepped : (List ℕ → Layout) → List ℕ → ℕ → ℕ → List ℕ → ℕ → ℕ → Type 0
 IsStepped layout text start stop insert before after =
     (r : Relexed) × IsRelexed layout text start stop insert r
     × (after + (length (layout (apply text start stop insert)).head - r.kept_front) ≡ before + r.lexed)
 
--- what takes no more than these
+-- A step count that grew less is bounded by one that grew by the steps of the edit.
 most_of : (layout : List ℕ → Layout) (text : List ℕ) (start stop : ℕ) (insert : List ℕ) (before after : ℕ)
     → (r : Relexed) × IsRelexed layout text start stop insert r
     × (after + (length (layout (apply text start stop insert)).head - r.kept_front) ≤ before + r.lexed)
@@ -45,7 +45,7 @@ most_of layout text start stop insert before after few =
     let at_most : after + own ≤ before + few.0.lexed = few.2 in
     (before + few.0.lexed - own, (few.0, few.1, omega (arith, at_most)), omega (arith, at_most))
 
--- one more edit takes its steps more
+-- One more edit adds its own steps.
 module _ (layout : List ℕ → Layout) where
   abbrev IsSteppedBy : List ℕ → Edit → ℕ → ℕ → Type 0
   IsSteppedBy text e before after = IsStepped layout text e.start e.stop e.insert.now before after
@@ -67,7 +67,7 @@ module _ (layout : List ℕ → Layout) where
       rw (take_more es n none few)
       (stepped-last text (take n es) (get_or es n none) before between after are (rw (sym is) one))
 
-  -- where memory is refused, the steps are at most those of one edit more
+  -- If an allocation fails, the step count grew at most by the steps of one more edit.
   pub stop-stepped : (text now : List ℕ) (es : List Edit) (n before between after : ℕ) → n < length es
       → now ≡ apply_list text (take n es) → AreStepped layout text (take n es) before between → between ≤ after
       → (r : Relexed) × IsRelexed layout now (get_or es n none).start (get_or es n none).stop
@@ -79,7 +79,7 @@ module _ (layout : List ℕ → Layout) where
       (get_or es n none).insert.now between after at_most in
       (between, most.0, are, rose, stepped-more text now es n before between most.0 few is are most.1, most.2)
 
--- one more edit keeps no more
+-- With one more edit, the counts are still the minimum.
 module _ (layout : List ℕ → Layout) (r : Relexed) where
   least-last : (text : List ℕ) (es : List Edit) (e : Edit) (f b front back next_front next_back : ℕ)
       → next_front ≡ min front r.kept_front
@@ -104,7 +104,7 @@ module _ (layout : List ℕ → Layout) (r : Relexed) where
       (least-last text (take n es) (get_or es n none) f b front back next_front next_back front_is back_is are
       (rw (sym is) one))
 
--- the least of some numbers is the greatest that is at most each of them
+-- The minimum of some numbers is the greatest number that does not exceed any of them.
 greatest-next : (read : Relexed → ℕ) (r : Relexed) (rs : List Relexed) (most n : ℕ)
     → IsGreatest (λ n. (n ≤ min most (read r)) × All (λ (c : Relexed). n ≤ read c) rs) n
     → IsGreatest (λ n. (n ≤ most) × All (λ (c : Relexed). n ≤ read c) (r ∷ rs)) n
@@ -144,7 +144,7 @@ pub edits-more : (text now : List ℕ) (es : List Edit) (n : ℕ) → n < length
 edits-more text now es n few same are is =
     rw (take_more es n none few) (edits-last text (take n es) (get_or es n none) are (rw (sym same) is))
 
--- which edit stopped the list, and why
+-- An edit that fails stops the list there, for the same reason.
 pub stop_of : (text : List ℕ) (es : List Edit) (s : EditStop) → stop_at s < length es
     → IsRefusedOn s text (get_or es (stop_at s) none) → IsStop s text es
 stop_of text es s few refused = (
@@ -153,7 +153,7 @@ stop_of text es s few refused = (
       refused,
 )
 
--- fewer of them stay too
+-- If tokens are kept at the back, fewer tokens are kept too.
 fewer_back : (n back : ℕ) (old new : List Token) → n ≤ back → back ≤ length old → back ≤ length new
     → drop (length new - back) new ≡ drop (length old - back) old
     → drop (length new - n) new ≡ drop (length old - n) old
@@ -167,26 +167,26 @@ fewer_stay : {old new : List Token} {front back : ℕ} (n m : ℕ) → n ≤ fro
     → StayAtEnds old new n m
 fewer_stay {old} {new} {front} {back} n m few_front few_back stay = grind (arith, common_steps, cut, fewer_back)
 
--- what the counts of one edit say
+-- The counts of an edit determine the tokens that it keeps at both ends.
 pub counts_stay : (old new : List Token) (front lexed back : ℕ) → front + lexed + back ≡ length new
     → take front new ≡ take front old → drop (front + lexed) new ≡ drop (length old - back) old
     → StayAtEnds old new front back
 counts_stay old new front lexed back all same_front same_back =
     grind (arith, common_steps, length-drop, length-take-le, length-take)
 
--- one more edit
+-- After one more edit, the tokens that both edits keep at an end are kept.
 pub stay-more : {old between new : List Token} {front back n m : ℕ} (next_front next_back : ℕ)
     → next_front ≡ min front n → next_back ≡ min back m → StayAtEnds old between front back → StayAtEnds between new n m
     → StayAtEnds old new next_front next_back
 stay-more next_front next_back front_is back_is before then = grind (arith, common_steps, fewer_stay)
 
--- the counts of all edits together
+-- The counts of all edits together describe tokens that are the same at the back.
 pub counts_back : {old new : List Token} {front back : ℕ} (len kept_back : ℕ) → len ≡ length new
     → kept_back ≡ min back (min (length new) (length old) - front) → StayAtEnds old new front back
     → drop (front + (len - front - kept_back)) new ≡ drop (length old - kept_back) old
 counts_back {old} {new} {front} {back} len kept_back len_is fewer stay = grind (arith, common_steps, fewer_stay)
 
--- what two edits after one another keep
+-- Two consecutive edits keep the tokens that both of them keep.
 pub kept_then : {old between new : List Token} {a b r : Relexed} → r.kept_front ≡ min a.kept_front b.kept_front
     → r.kept_back ≡ min a.kept_back b.kept_back → count_after r ≡ count_after b → AreKept old between a
     → AreKept between new b → AreKept old new r
@@ -202,15 +202,15 @@ kept_then {old} {between} {new} {a} {b} {r} front back count before then =
       back = subst (λ k. drop k new ≡ drop (length old - r.kept_back) old) from stay.same_back;
     }
 
--- ---- how far a list of edits was made
+-- ---- how much of a list was applied
 
 module _ {S : Type 0} {layout : List ℕ → Layout} {old mid : Held S} {edits : List Edit} {made : Made}
     (m : AreMadeTo layout old edits made mid) where
-  -- the list stops here
+  -- The list stops at this edit.
   pub made_stop : (s : EditStop) {T : Type 0} {new : Held S} → stop_at s ≡ made.count → made.count < length edits
       → IsRefusedOn s new.text (get_or edits made.count none) → new.text ≡ mid.text
       → new.tokens ≡ tokens_in (layout new.text)
-      → AreMade {T = T} layout old edits (Err s) new
+      → AreApplied {T = T} layout old edits (Err s) new
   made_stop s {T} {new} at few refused same scratch = grind (arith, common_steps, stop_of)
 
   module _ (few : made.count < length edits)
@@ -228,7 +228,7 @@ module _ {S : Type 0} {layout : List ℕ → Layout} {old mid : Held S} {edits :
         → AreMadeTo layout old edits next new
     made_more {X} {r} {new} next i count_is front_is back_is = grind (arith, common_steps, edits-more, text-more)
 
-    -- the steps of one more edit
+    -- After one more edit, the step count has grown by its steps.
     pub counted_more : {X : Type 0} {r : Relexed} (before between after : ℕ) (next : Made) → next.count ≡ at + 1
         → IsRelexed layout mid.text edit.start edit.stop edit.insert.now r
         → HasStepCount {E = X} layout mid.text edit.start edit.stop edit.insert.now (Ok r) between after
@@ -252,7 +252,7 @@ module _ {S : Type 0} {layout : List ℕ → Layout} {old mid : Held S} {edits :
           kept.least i.relexed);
     }
 
-    -- an edit that is refused keeps the tokens
+    -- A failed edit does not change the tokens.
     pub kept_refused : {X : Type 0} {x : X} {new : Held S} → AreKeptTo layout old edits made mid
         → IsEdited {E = X} layout mid edit.start edit.stop edit.insert.now (Err x) new
         → AreKeptTo layout old edits made new
@@ -264,7 +264,7 @@ module _ {S : Type 0} {layout : List ℕ → Layout} {old mid : Held S} {edits :
 
     pub made_refused : {X T : Type 0} {x : X} {new : Held S}
         → IsEdited {E = X} layout mid edit.start edit.stop edit.insert.now (Err x) new
-        → AreMade {T = T} layout old edits (Err (Memory at)) new
+        → AreApplied {T = T} layout old edits (Err (Memory at)) new
     made_refused {X} {T} {x} {new} i =
         made_stop (Memory at) refl few
         (subst (λ xs. IsEdit xs edit.start edit.stop edit.insert.now) (sym i.same_text) is) i.same_text
@@ -279,7 +279,7 @@ module _ {S : Type 0} {layout : List ℕ → Layout} {old mid : Held S} {edits :
       stop_count = stop-stepped layout old.text mid.text edits at before between after few m.text are i.rose i.few;
     }
 
--- none is made yet
+-- No edit is applied yet.
 pub made_none : {S : Type 0} {layout : List ℕ → Layout} {old : Held S} (edits : List Edit) (n : ℕ)
     → old.tokens ≡ tokens_in (layout old.text)
     → AreMadeTo layout old edits (record { count = 0; front = n; back = n }) old
@@ -289,7 +289,7 @@ pub kept_none : {S : Type 0} {layout : List ℕ → Layout} {old : Held S} (edit
     → n ≡ length old.tokens → AreKeptTo layout old edits (record { count = 0; front = n; back = n }) old
 kept_none edits n all = grind (arith, common_steps)
 
--- ---- what all edits of a list kept
+-- ---- the tokens that all edits of a list keep
 
 pub kept_through : {S : Type 0} {layout : List ℕ → Layout} {old new : Held S} {edits : List Edit} {made : Made}
     (r : Relexed)

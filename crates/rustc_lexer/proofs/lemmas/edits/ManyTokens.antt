@@ -1,4 +1,4 @@
--- Lexing and relexing by many tokens at once, each block a buffer that is filled with the next ones, and one by one.
+-- Lexing and relexing in blocks, which are buffers filled with the next tokens, and one token at a time.
 use Rattle.std.proofs.Common.{◌≡◌, ℕ, ◌+◌, ◌<◌, ◌≤◌, List, ◌++◌, length, map, take, drop, sym, ap, ◌∙◌, subst, arith}
 use Rattle.std.proofs.Common.{length-append, length-drop, length-take-le, take_at, drop-drop, take-add, IsCharBoundary}
 use Rattle.std.proofs.Common.{IsUtf8, false, ◌∷◌}
@@ -9,7 +9,7 @@ use Rattle.rustc_lexer.specs.{Tokens.{IsFilledTo, bound, tokens_by}, laws.Cuts.{
 use Rattle.rustc_lexer.proofs.lemmas.edits.Bounds.{number_le_bound, rest_is, rises, tokens_le_bytes}
 use Rattle.rustc_lexer.proofs.lemmas.{edits.KeptFront.{bound-shift}, tokens.Progress.{IsLexedTo, lexed_offset}}
 
--- so many tokens of what is left of a text
+-- The next `count` tokens of the rest of a text.
 module _ {first : List ℕ → Token} (law : IsGrammar first) (text left : List ℕ) (is : IsText text) (at : ℕ)
     (boundary : IsCharBoundary text at) (left_is : left ≡ drop at text) (count bytes : ℕ)
     (few : count ≤ length (tokens_by first left)) (bytes_is : bytes ≡ bound (tokens_by first left) count) where
@@ -32,30 +32,30 @@ module _ {first : List ℕ → Token} (law : IsGrammar first) (text left : List 
   pub block_count : count ≤ bytes
   block_count = omega (arith, bytes_is, number_le_bound (tokens_by first left) count few (rises law left left_text))
 
--- behind the tokens that were lexed, so many more
+-- The next `count` tokens follow the tokens that were lexed.
 pub more_lexed : (new left items block : List Token) (at past : Relexing) (count : ℕ) → past.front ≡ at.front
     → past.lexed ≡ at.lexed + count → items ≡ take at.lexed (drop at.front.index new) → left ≡ drop (known at) new
     → block ≡ take count left → items ++ block ≡ take past.lexed (drop past.front.index new)
 more_lexed new left items block at past count front lexed so left_is block_is =
     grind (arith, common_steps, drop-drop, take-add)
 
--- a buffer with room has some token of a text before an offset
+-- A buffer with room gets at least one token, if `end` is after the start of the text.
 pub some_filled : {X : Type 0} (form : Token → X) (end : ℕ) (tokens : List Token) (buffer filled : List X) (count : ℕ)
     → IsFilledTo form end tokens buffer filled count → 0 < length buffer → 0 < end → 0 < count
 some_filled form end tokens buffer filled count is room some = grind (arith, common_steps, cases_lt)
 
--- what stands at the front of a buffer that was filled with tokens as they are
+-- Holds if the buffer starts with the first `count` tokens, unchanged.
 pub record IsFront (tokens : List Token) (filled : List Token) (count : ℕ) : Type 0 where
   pub few : count ≤ length tokens
   pub within : count ≤ length filled
   pub front : take count filled ≡ take count tokens
 
--- the front of a buffer that holds so many tokens, as they are
+-- Filling a buffer with unchanged tokens gives such a front.
 pub front_of : (tokens buffer filled : List Token) (count : ℕ) → count ≤ length tokens
     → filled ≡ map (λ (t : Token). t) (take count tokens) ++ drop count buffer → IsFront tokens filled count
 front_of tokens buffer filled count few is = grind (arith, common_steps, length-take-le, map-id, length-append, take_at)
 
--- the tokens of a block stand behind those that were lexed before it
+-- The tokens of a block follow the tokens that were lexed before.
 lexed_block : {first : List ℕ → Token} (law : IsGrammar first) (text left : List ℕ) (items block : List Token)
     (offset count bytes : ℕ) → IsText text
     → IsLexedTo first text items offset → left ≡ drop offset text → count ≤ length (tokens_by first left)
@@ -64,7 +64,7 @@ lexed_block : {first : List ℕ → Token} (law : IsGrammar first) (text left : 
 lexed_block law text left items block offset count bytes is at here few block_is bytes_is =
     grind (arith, common_steps, at_bound, length-append, length-take-le, length-drop, take-add, bound-shift)
 
--- one block more
+-- Holds if `filled` has the next `count` tokens, which have `bytes` bytes.
 pub record IsBlock (first : List ℕ → Token) (text : List ℕ) (items filled : List Token)
     (offset count bytes : ℕ) : Type 0 where
   pub more : IsLexedTo first text (items ++ take count filled) (offset + bytes)
@@ -72,7 +72,7 @@ pub record IsBlock (first : List ℕ → Token) (text : List ℕ) (items filled 
   pub few : offset + bytes ≤ length text
   pub some : 0 < bytes
 
--- a stepper whose grammar is the one that it had at first fills the buffer with the tokens of what is left
+-- A stepper that still has its first grammar fills the buffer with the tokens of the rest.
 pub block_more : {first now : List ℕ → Token} (law : IsGrammar first) {text left : List ℕ}
     {items buffer filled : List Token} {offset count bytes end : ℕ}
     → IsText text → now ≡ first → IsLexedTo first text items offset → offset < length text → left ≡ drop offset text
@@ -97,7 +97,7 @@ block_more law {text} {left} {items} {buffer} {filled} {offset} {count} {bytes} 
 
 -- ---- tokens one by one
 
--- no step
+-- Zero steps change nothing.
 pub no_step : (first : List ℕ → Token) (text : List ℕ) (past : ℕ) (at : Relexing) → TakesSteps first text past at 0 at
 no_step first text past at = grind (arith, common_steps)
 
@@ -106,7 +106,7 @@ module _ {first : List ℕ → Token} (law : IsGrammar first) {text : List ℕ} 
   abbrev rest : List ℕ
   rest = drop begin.at text
 
-  -- past the token where relexing stands
+  -- Lexing the next token is one step.
   pub one_step : {token : Token} {at : Relexing} → token ≡ first rest → begin.at < length text → at.front ≡ begin.front
       → at.lexed ≡ begin.lexed + 1 → at.at ≡ begin.at + token.len → (at.at < past → at.back ≡ begin.back)
       → (at.at < past → at.met ≡ false) → TakesSteps first text past begin 1 at
@@ -123,7 +123,7 @@ module _ {first : List ℕ → Token} (law : IsGrammar first) {text : List ℕ} 
         not_met = λ some early. not_met early;
       }
 
-  -- one step more
+  -- One more step.
   module _ {count : ℕ} {at : Relexing} (steps : TakesSteps first text past begin count at) where
     there : drop (bound (tokens_by first rest) count) rest ≡ drop at.at text
     there = drop-drop (bound (tokens_by first rest) count) begin.at text ∙ ap (λ n. drop n text) (sym steps.offset)

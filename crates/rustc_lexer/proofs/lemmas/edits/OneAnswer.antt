@@ -1,9 +1,9 @@
--- What an edit keeps, by all tokens of a text and by those of its body; there are counts of it.
+-- The counts of an edit exist; and the counts of the body's tokens determine the counts of all tokens.
 use Rattle.std.proofs.Common.{◌≡◌, ◌⊎◌, ℕ, zero, suc, ◌+◌, ◌-◌, ◌<◌, ◌≤◌, List, length, take, refl, sym, ap, subst}
 use Rattle.std.proofs.Common.{arith, length-take, inl, inr, eq-or-lt_of_le, ◌↔◌, [], ◌∙◌, length-append}
 use Rattle.std.proofs.lemmas.{Bool.{cases_lt, eqb-false, eqb-true}, Grind.{common_steps}}
 use Rattle.rustc_lexer.specs.{declared.relex.relexing.{Change.Change, Relexed.Relexed}, Token}
-use Rattle.rustc_lexer.specs.Edits.{IsMeeting, IsRelexedTo, part_by, body_in, IsRelexed, offset_in}
+use Rattle.rustc_lexer.specs.Edits.{IsMeeting, IsRelexedTo, fragment_by, body_in, IsRelexed, offset_in}
 use Rattle.rustc_lexer.specs.{Relexing.{IsEditOf}, Locality.{IsGrammar}, Tokens.{bound, tokens_by}}
 use Rattle.rustc_lexer.specs.model.Relexing.{kept_front}
 use Rattle.rustc_lexer.proofs.lemmas.edits.{Bounds.{bound-last, cuts}, FrontAndBack.{edited, kept_same}}
@@ -19,15 +19,17 @@ offset-behind of k = grind (arith, common_steps, drop-append_seam, bound-shift)
 abbrev pub bare : List Token → Layout
 bare tokens = record { start = 0; head = []; body = tokens }
 
--- the counts of an edit, by the text that it made
+-- The counts of an edit are the same, whether they are defined by the inserted text or by the new text.
 pub counts_of : (layout : List ℕ → Layout) {text insert made : List ℕ} {edit : Change} → IsEditOf text edit insert made
     → (r : Relexed)
     → IsRelexed layout text edit.start edit.old_end insert r
     ↔ IsRelexedTo (layout text) (layout made) text edit.start edit.old_end edit.new_end r
 counts_of layout e r = (λ c. rw (e.made, e.new_end) c, λ c. rw (sym e.made, sym e.new_end) c)
 
--- ---- a text with a head: the bodies meet where all tokens do, as `more` is how far both bodies begin past the edit
+-- ---- a text with a head
 
+-- The bodies meet at the same boundaries as all tokens. `more` is the minimum number of bytes after the edit at which
+-- both bodies have started.
 module _ (old new : Layout) (stop new_end more body_stop new_body_stop : ℕ)
     (old_more : body_stop + body_in old ≡ stop + more) (new_more : new_body_stop + body_in new ≡ new_end + more)
     (least : (other : ℕ) → body_in old ≤ stop + other → body_in new ≤ new_end + other → more ≤ other) where
@@ -68,9 +70,9 @@ module _ (old new : Layout) (stop new_end more body_stop new_body_stop : ℕ)
         same_offset = omega (arith, at, old_at, same, old_more, new_more);
       }
 
--- ---- there are counts of an edit
+-- ---- the counts of an edit exist
 
--- ---- what is decided
+-- ---- decidable properties
 
 abbrev pub Decided : Type 0 → Type 0
 Decided P = P ⊎ (P → ⊥)
@@ -84,9 +86,9 @@ numbers a b = grind (arith, common_steps, eqb-true, eqb-false)
 at_most : (a b : ℕ) → Decided (a ≤ b)
 at_most a b = grind (arith, common_steps, cases_lt)
 
--- ---- the first number at which texts meet
+-- ---- the first boundary at which the texts meet
 
--- the first number from k on of which something holds
+-- Holds if j is the first number from k on with the property.
 pub record IsFirst (P : ℕ → Type 0) (k j : ℕ) : Type 0 where
   pub from : k ≤ j
   pub holds : P j
@@ -163,7 +165,7 @@ module _ {first : List ℕ → Token} (law : IsGrammar first) {text insert new_t
   few : kept ≤ length old
   few = kept_few text old edit.start e.is_text.utf8 (cuts law text e.is_text)
 
-  -- the tokens of the kept front are tokens of the new text
+  -- The tokens of the kept front are tokens of the new text.
   pub front_same : take kept new ≡ take kept old
   front_same = kept_same law e kept few
       ((kept_tells text old edit.start e.is_text.utf8 (cuts law text e.is_text) kept few).1 (omega arith))
@@ -173,9 +175,9 @@ module _ {first : List ℕ → Token} (law : IsGrammar first) {text insert new_t
       omega (arith, few, length-take kept new, length-take kept old)
 
   abbrev Meets : ℕ → ℕ → Type 0
-  Meets = IsMeeting (part_by first text) (part_by first new_text) edit.old_end edit.new_end
+  Meets = IsMeeting (fragment_by first text) (fragment_by first new_text) edit.old_end edit.new_end
 
-  -- both ends meet
+  -- Old and new tokens meet at the end.
   pub ends_meet : Meets (length new) 0
   ends_meet =
       let ed = edited e in
@@ -191,9 +193,9 @@ module _ {first : List ℕ → Token} (law : IsGrammar first) {text insert new_t
         same_offset = omega (arith, end, old_end, ed.len);
       }
 
-  -- so there are counts of it
+  -- Therefore the counts of the edit exist.
   pub relexed_is : (r : Relexed)
-      × IsRelexedTo (part_by first text) (part_by first new_text) text edit.start edit.old_end edit.new_end r
+      × IsRelexedTo (fragment_by first text) (fragment_by first new_text) text edit.start edit.old_end edit.new_end r
   relexed_is = elim (first_or_none (λ j. (back : ℕ) × Meets j back) (meets_or_not old new edit.old_end edit.new_end)
       (suc (length new - kept)) kept) [
         | inl at ↦

@@ -1,15 +1,16 @@
--- The pieces of a text, one by one.
+-- The pieces of a text, one at a time.
 use Rattle.std.proofs.Common.{◌≡◌, ℕ, zero, suc, ◌+◌, ◌-◌, ◌≤◌, List, [], ◌∷◌, ◌++◌, length, take, drop, slice_range}
 use Rattle.std.proofs.Common.{refl, sym, ap, ◌∙◌, subst, arith, length-append, length-take, length-take-le, length-drop}
 use Rattle.std.proofs.Common.{take-take, IsCharBoundary, Option, Some, None, IfSome, IsSome}
 use Rattle.std.proofs.lemmas.{Grind.{common_steps}, List.{take-append-le}}
 use Rattle.rustc_lexer.specs.{declared.relex.{front.TokenStart.TokenStart, pieces.Piece.Piece}, Token, Tokens.{bound}}
-use Rattle.rustc_lexer.specs.{model.Pieces.{AreBoundariesFrom, AreCut}, LexedText.{Placed, YieldsPiece, pieces_from, placed}}
+use Rattle.rustc_lexer.specs.model.Pieces.{AreBoundariesFrom, AreCut}
+use Rattle.rustc_lexer.specs.LexedText.{Placed, YieldsPiece, pieces_from, placed}
 use Rattle.rustc_lexer.specs.Offsets.{ContainsByte}
 use Rattle.rustc_lexer.proofs.lemmas.edits.{Bounds.{bound-end}, FrontAndBack.{bound-same, bound-take}}
 use Rattle.rustc_lexer.proofs.lemmas.edits.KeptFront.{bound-shift}
 
--- the tokens that are left begin and end between characters
+-- The remaining tokens start and end at char boundaries.
 pub cut_edges : (text : List ℕ) (start end : ℕ) (tokens : List Token) → AreCut text start end tokens
     → IsCharBoundary text start × IsCharBoundary text end
 cut_edges text start end tokens are =
@@ -19,7 +20,7 @@ cut_edges text start end tokens are =
           (are.1 (length tokens) (omega arith)),
     )
 
--- past the first token
+-- The tokens after the first one cut the rest of the range.
 pub cut_tail : (text : List ℕ) (start end : ℕ) (all : List Token) (token : Token) (tokens : List Token)
     → all ≡ token ∷ tokens → AreCut text start end all → AreCut text (start + token.len) end tokens
 cut_tail text start end all token tokens e are =
@@ -27,7 +28,7 @@ cut_tail text start end all token tokens e are =
     let same : (k : ℕ) → start + (token.len + bound tokens k) ≡ start + token.len + bound tokens k = λ k. omega arith in
     (all.0, λ k few. subst (IsCharBoundary text) (same k) (all.1 (suc k) (omega arith)), all.2 ∙ same (length tokens))
 
--- before the last token
+-- The tokens before the last one cut the range before it.
 pub cut_front : (text : List ℕ) (start end : ℕ) (all tokens : List Token) (token : Token) → all ≡ tokens ++ token ∷ []
     → AreCut text start end all → (token.len ≤ end) × AreCut text start (end - token.len) tokens
 cut_front text start end all tokens token e are =
@@ -45,18 +46,18 @@ cut_front text start end all tokens token e are =
       ),
     )
 
--- ---- the pieces of some of the tokens
+-- ---- the pieces of a range of tokens
 
 pub length-pieces : (text : List ℕ) (start : ℕ) (ts : List Token) → length (pieces_from text start ts) ≡ length ts
 length-pieces text start [] = refl
 length-pieces text start (t ∷ ts) = ap suc (length-pieces text (start + t.len) ts)
 
--- as many pieces are left as tokens
+-- As many pieces as tokens remain.
 pub as_many_left : (text : List ℕ) (start : ℕ) (tokens : List Token) {left : List Placed}
     → pieces_from text start tokens ≡ left → length tokens ≡ length left
 as_many_left text start tokens is = sym (length-pieces text start tokens) ∙ ap (λ (ps : List Placed). length ps) is
 
--- the place of a bound, and the tokens from there up to another
+-- The tokens between two boundaries extend from the first boundary to the second.
 pub bound-part : (tokens items : List Token) (from to offset : ℕ) → from ≤ to → to ≤ length tokens
     → items ≡ slice_range tokens from to → offset ≡ bound tokens from
     → offset + bound items (length items) ≡ bound tokens to
@@ -69,7 +70,7 @@ bound-part tokens items from to offset le inside is at =
     ∙ (ap (λ (ts : List Token). bound ts (to - from)) is ∙ bound-take (to - from) (drop from tokens)) in
     omega (arith, at, same, bound-shift tokens from (to - from), ap (bound tokens) all)
 
--- some of the tokens
+-- A range of the tokens cuts the part of the text between its boundaries.
 pub cut_part : (text : List ℕ) (start end offset stop : ℕ) (tokens : List Token) (from to : ℕ) → from ≤ to
     → to ≤ length tokens → offset ≡ start + bound tokens from → stop ≡ start + bound tokens to
     → AreCut text start end tokens → AreCut text offset stop (take (to - from) (drop from tokens))
@@ -108,7 +109,7 @@ pub pieces-part : (text : List ℕ) (start offset : ℕ) (tokens : List Token) (
     → pieces_from text offset (take n (drop from tokens)) ≡ take n (drop from (pieces_from text start tokens))
 pieces-part text start offset tokens from n at = grind (arith, common_steps, drop-pieces, take-pieces)
 
--- the last piece
+-- Returns the piece with this start and length.
 abbrev piece_at : List ℕ → Token → ℕ → ℕ → Placed
 piece_at text token start long = record { start = start; token = token; text = take long (drop start text) }
 
@@ -130,7 +131,7 @@ last_piece text start end all tokens t e are =
     ap (pieces_from text start) e
     ∙ (pieces-last text start tokens t ∙ ap (λ p. pieces_from text start tokens ++ p ∷ []) same)
 
--- the first piece from the token on that contains a byte
+-- The first piece from this token on contains the byte.
 pub piece_is : (piece : Option Piece) (text : List ℕ) (first offset : ℕ) (tokens : List Token) (at : TokenStart)
     (rest : List Placed)
     → ContainsByte first tokens offset at

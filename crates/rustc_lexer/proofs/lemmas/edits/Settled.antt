@@ -1,4 +1,4 @@
--- How far the tokens of a text are sure.
+-- How far the tokens of a text are final.
 use Rattle.std.proofs.Common.{◌≡◌, ℕ, zero, suc, ◌+◌, ◌-◌, ◌<◌, ◌≤◌, true, false, List, [], ◌∷◌, ◌++◌, length, take}
 use Rattle.std.proofs.Common.{drop, refl, sym, ap, ◌∙◌, arith, take_at, length-append, IsUtf8, IsCharBoundary, subst}
 use Rattle.std.proofs.lemmas.Str.{IsCharBoundary-from_drop, IsCharBoundary-end, IsUtf8-between}
@@ -11,7 +11,7 @@ use Rattle.rustc_lexer.specs.laws.Cuts.{at_bound, tokens_local}
 use Rattle.rustc_lexer.proofs.lemmas.edits.FrontAndBack.{has_two-agree, has_two-mono}
 use Rattle.rustc_lexer.proofs.lemmas.tokens.Progress.{IsLexedTo, lexed_more}
 
--- the offset is a bound of the text, with two characters past it unless it is the first
+-- Holds if the offset is a token boundary, and two characters follow it unless it is the first boundary.
 pub record IsSureTo (first : List ℕ → Token) (text : List ℕ) (offset : ℕ) : Type 0 where
   pub items : List Token
   pub to : IsLexedTo first text items offset
@@ -29,7 +29,7 @@ module _ {first : List ℕ → Token} (law : IsGrammar first) (text : List ℕ) 
   boundary k = let cut = at_bound law k text is in
       (cut.inside, IsCharBoundary-from_drop text _ cut.inside cut.past.utf8)
 
-  -- the last bound that two characters follow
+  -- The text is final up to the last boundary that two characters follow.
   pub settled_at : (at : TokenStart) → at.index ≡ kept_front text (tokens_by first text) (length text)
       → IsBound (tokens_by first text) at
       → (0 < at.index → has_two text at.offset (length text) ≡ true) → IsSettled text (tokens_by first text) at.offset
@@ -46,7 +46,7 @@ module _ {first : List ℕ → Token} (law : IsGrammar first) (text : List ℕ) 
       positive zero e some = absurd (omega arith)
       positive (suc n) e some = omega arith
 
-  -- the offset is it where no more text is left, or no two characters follow the next one
+  -- The search stops at the right offset: no text is left, or fewer than two characters follow the next boundary.
   pub sure_stop : (offset : ℕ) → IsSureTo first text offset
       → (offset < length text → has_two text (offset + (first (drop offset text)).len) (length text) ≡ false)
       → IsSettled text (tokens_by first text) offset
@@ -82,7 +82,7 @@ module _ {first : List ℕ → Token} (law : IsGrammar first) (text : List ℕ) 
         boundary (length (at.items ++ first (drop offset text) ∷ [])),
       )
 
-  -- whatever is appended, the tokens before a bound that two characters follow stay
+  -- Whatever is appended, the tokens before a boundary that two characters follow do not change.
   pub stays_at : (more : List ℕ) (k : ℕ) → IsText (text ++ more) → k ≤ length (tokens_by first text)
       → has_two text (bound (tokens_by first text) k) (length text) ≡ true
       → take k (tokens_by first (text ++ more)) ≡ take k (tokens_by first text)

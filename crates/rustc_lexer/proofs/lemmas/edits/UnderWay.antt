@@ -1,11 +1,11 @@
--- Relexing is under way: from its beginning, past tokens, to the meeting.
+-- Relexing under way: from its start, token by token, to the meeting.
 use Rattle.std.proofs.Common.{◌≡◌, ◌↔◌, ℕ, ◌+◌, ◌-◌, ◌<◌, ◌≤◌, Bool, true, false, true≢false, eqb, eqb-true, List, ◌∷◌}
 use Rattle.std.proofs.Common.{◌++◌, length, take, drop, refl, sym, ap, ◌∙◌, ap₂, suc, subst, arith, inl, inr}
 use Rattle.std.proofs.Common.{length-drop, drop-drop, take-append-drop, max, eq-or-lt_of_le}
 use Rattle.std.proofs.lemmas.{Bool.{cases_lt}, Grind.{common_steps}}
 use Rattle.rustc_lexer.specs.declared.relex.front.{Meeting.Meeting, TokenStart.TokenStart}
 use Rattle.rustc_lexer.specs.{declared.relex.relexing.{Change.Change, Relexed.Relexed, Relexing.Relexing}, Token}
-use Rattle.rustc_lexer.specs.{Classes.{IsText}, Edits.{IsMeeting, IsRelexed, part_by}, Locality.{IsGrammar, has_two}}
+use Rattle.rustc_lexer.specs.{Classes.{IsText}, Edits.{IsMeeting, IsRelexed, fragment_by}, Locality.{IsGrammar, has_two}}
 use Rattle.rustc_lexer.specs.{Offsets.{IsBound}, Relexing.{IsMadeOf, IsUnderWay, IsWhole, TakesSteps, known}}
 use Rattle.rustc_lexer.specs.{Tokens.{bound, tokens_by}, model.Relexing.{IsFollowed, IsLexed, kept_front}}
 use Rattle.rustc_lexer.specs.laws.Cuts.{at_bound, tokens-cons}
@@ -20,7 +20,7 @@ module _ (old new : List Token) (old_end new_end number offset : ℕ) (back : To
       → IsMeeting (bare old) (bare new) old_end new_end number (length old - back.index)
   meets_here few here = grind (arith, common_steps)
 
-  -- of the old bounds, the new tokens can meet none but the one that was followed to
+  -- The new tokens can meet the old ones only at the boundary up to which the old boundaries were followed.
   meets_there : ((k : ℕ) → k < back.index → bound old k + new_end < max new_end offset + old_end)
       → (new_end ≤ offset → back.index < length old → offset + old_end ≤ back.offset + new_end)
       → (rest : ℕ) × IsMeeting (bare old) (bare new) old_end new_end number rest → (new_end ≤ offset)
@@ -34,7 +34,7 @@ module _ (old new : List Token) (old_end new_end number offset : ℕ) (back : To
     λ m. f.met_is.1 (meets_there f.passed f.reached m),
   )
 
--- no old token that has not been followed is met before an offset
+-- Holds if the new tokens cannot meet, before `end`, an old boundary that was not followed yet.
 abbrev pub IsClear : Change → Relexing → ℕ → Type 0
 IsClear change at end = (offset : ℕ) → at.at < offset → offset < end → change.new_end ≤ offset
     → (change.new_end ≤ at.at) × (offset + change.old_end < at.back.offset + change.new_end)
@@ -48,14 +48,14 @@ module _ {first : List ℕ → Token} (law : IsGrammar first) {before lengths in
   new = tokens_by first text
 
   abbrev Meets : ℕ → ℕ → Type 0
-  Meets = IsMeeting (part_by first before) (part_by first text) change.old_end change.new_end
+  Meets = IsMeeting (fragment_by first before) (fragment_by first text) change.old_end change.new_end
 
-  -- the old tokens of the kept front are the new ones
+  -- The tokens of the kept front are the same before and after the edit.
   pub kept_old : (number : ℕ) → number ≡ kept_front before old change.start → (take number old ≡ take number new)
       × (number ≤ length new)
   kept_old number e = rw e (sym (front_same law is.edit_of), kept_new law is.edit_of)
 
-  -- each bound before it is before the edit
+  -- Each boundary before it is before the edit.
   pub front_below : (kept : TokenStart) → IsBound old kept
       → (0 < kept.index → has_two before kept.offset change.start ≡ true) → (k : ℕ) → k < kept.index
       → bound old k + change.new_end < max change.new_end kept.offset + change.old_end
@@ -91,12 +91,12 @@ module _ {first : List ℕ → Token} (law : IsGrammar first) {before lengths in
       }
 
   module _ {at : Relexing} (u : IsUnderWay first before change text at) where
-    -- the tokens that are still to come are those of the text that is left
+    -- The remaining tokens are the tokens of the remaining text.
     pub left_at : tokens_by first (drop at.at text) ≡ drop (known at) new
     left_at = ap (λ n. tokens_by first (drop n text)) u.offset
         ∙ sym (at_bound law (known at) text (edited is.edit_of).text_is).rest
 
-    -- where the old tokens are not met, more text is left
+    -- While the tokens have not met, some text is left.
     pub more_left : at.met ≡ false → at.at < length text
     more_left out = elim (cases_lt at.at (length text)) [
       | inl less ↦ less
@@ -109,20 +109,20 @@ module _ {first : List ℕ → Token} (law : IsGrammar first) {before lengths in
       ]
     ]
 
-    -- at the end of the text they are met
+    -- At the end of the text the tokens meet.
     pub over_met : at.met ≡ false → eqb at.at (length text) ≡ at.met
     over_met out = grind (arith, common_steps, more_left, eqb-true)
 
-    -- each bound that was passed is before a later offset too
+    -- Each boundary that was passed is also before a later offset.
     pub below_later : (later : ℕ) → at.at ≤ later → (k : ℕ) → k < at.back.index
         → bound old k + change.new_end < max change.new_end later + change.old_end
     below_later later le k less = omega (arith, le, u.passed k less)
 
-    -- no more was lexed than the whole edit lexes
-    pub few_lexed : (r : Relexed) → IsRelexed (part_by first) before change.start change.old_end insert r
+    -- At most as many tokens were lexed as the whole edit lexes.
+    pub few_lexed : (r : Relexed) → IsRelexed (fragment_by first) before change.start change.old_end insert r
         → at.lexed ≤ r.lexed
     few_lexed r counts =
-        let c = (counts_of (part_by first) is.edit_of r).0 counts in
+        let c = (counts_of (fragment_by first) is.edit_of r).0 counts in
         let front : r.kept_front ≡ at.front.index = omega (arith, c.kept (omega arith, refl, refl), u.front) in
         elim (cases_lt r.lexed at.lexed) [
           | inl less ↦ absurd
@@ -131,23 +131,23 @@ module _ {first : List ℕ → Token} (law : IsGrammar first) {before lengths in
           | inr more ↦ more
         ]
 
-    -- at the meeting: the old tokens that are left are the new ones
+    -- After the meeting, the remaining new tokens are the remaining old ones.
     pub rest_met : at.met ≡ true → drop (known at) new ≡ drop at.back.index old
     rest_met hit =
         let here = meets_there old new _ _ _ _ _ u.offset u.back_bound u.passed u.reached (u.met.0 hit) in
         met_rest law is.edit_of (known at) at.back.index (omega (arith, here.0, u.offset))
         (omega (arith, here.1, u.back_bound.1, u.offset))
 
-    -- the counts are those of the edit, and the new tokens are whole
+    -- At the meeting the counts are the counts of the edit, and the new tokens are complete.
     pub counts_met : at.met ≡ true
-        → IsRelexed (part_by first) before change.start change.old_end insert
+        → IsRelexed (fragment_by first) before change.start change.old_end insert
         (record { kept_front = at.front.index; lexed = at.lexed; kept_back = length old - at.back.index })
         × IsWhole old new at
     counts_met hit =
         let front = (kept_old at.front.index u.front).0 in
         let rest = rest_met hit in
         let here = meets_there old new _ _ _ _ _ u.offset u.back_bound u.passed u.reached (u.met.0 hit) in (
-          (counts_of (part_by first) is.edit_of _).1 record {
+          (counts_of (fragment_by first) is.edit_of _).1 record {
             kept = λ _. omega (arith, u.front);
             changed = λ none. absurd (none (omega arith, refl, refl));
             meeting =
@@ -161,7 +161,7 @@ module _ {first : List ℕ → Token} (law : IsGrammar first) {before lengths in
           ),
         )
 
-    -- past so many tokens
+    -- After `count` steps.
     module _ {count : ℕ} {past : Relexing} (steps : TakesSteps first text change.new_end at count past) where
       abbrev left : List Token
       left = tokens_by first (drop at.at text)
@@ -178,7 +178,7 @@ module _ {first : List ℕ → Token} (law : IsGrammar first) {before lengths in
       offset_past : past.at ≡ bound new (known past)
       offset_past = omega (arith, steps.offset, shift count, ap (bound new) known_past)
 
-      -- it goes on, if it met no old token on the way
+      -- Relexing continues, if the tokens did not meet in between.
       pub goes_on : at.met ≡ false
           → ((number back : ℕ) → known at < number → number < known past → Meets number back → ⊥)
           → IsFollowed old change.old_end change.new_end past.at past.back past.met
@@ -204,7 +204,7 @@ module _ {first : List ℕ → Token} (law : IsGrammar first) {before lengths in
         reached = followed.reached;
       }
 
-      -- where it is clear up to an offset before which the tokens begin, none is met
+      -- The tokens do not meet in between, if relexing is clear up to `end` and all of them start before it.
       pub none_between : (end : ℕ) → IsClear change at end → ((k : ℕ) → k < count → bound left k < end - at.at)
           → (number back : ℕ) → known at < number → number < known past → Meets number back → ⊥
       none_between end clear begin number back more less m =
@@ -232,7 +232,7 @@ module _ {first : List ℕ → Token} (law : IsGrammar first) {before lengths in
             )
           ]
 
-    -- the next token
+    -- A step returns the next token of the new text.
     pub gives_next : {token : Token} {past : Relexing} → at.met ≡ false → token ≡ first (drop at.at text)
         → TakesSteps first text change.new_end at 1 past → drop (known at) new ≡ token ∷ drop (known past) new
     gives_next {token} {past} out token_is steps =
@@ -245,7 +245,7 @@ module _ {first : List ℕ → Token} (law : IsGrammar first) {before lengths in
         ap (λ n. drop n new) (known_past steps) ∙ (sym (drop-drop 1 (known at) new) ∙ ap (drop 1) cons) in
         cons ∙ ap₂ (λ (t : Token) (ts : List Token). t ∷ ts) (sym token_is) (sym behind)
 
-  -- the tokens that were lexed for it, put between those that are kept, are the new ones
+  -- The lexed tokens, between the kept tokens, are the new tokens.
   pub lexed_whole : {tokens : List Token} {at : Relexing} → IsLexed first before change text tokens at
       → take at.front.index old ++ (tokens ++ drop at.back.index old) ≡ new
   lexed_whole {tokens} {at} l = grind (arith, common_steps, counts_met)

@@ -1,4 +1,4 @@
--- An edit of a text with its head: what it is to the body, whose counts give its own.
+-- An edit of a text with its head: the edit of the body, whose counts determine the counts of the whole edit.
 use Rattle.std.proofs.Common.{◌≡◌, ℕ, max, ◌+◌, ◌-◌, ◌<◌, ◌≤◌, Bool, true, false, if◌then◌else◌, true≢false, List, []}
 use Rattle.std.proofs.Common.{◌∷◌, length, map, drop, refl, sym, ap, ◌∙◌, arith, drop-drop, IsTrue, ◌↔◌, ◌++◌, take}
 use Rattle.std.proofs.Common.{ap₂, subst, length-drop, take-append-drop, length-take-le, IsUtf8, IsCharBoundary}
@@ -7,7 +7,7 @@ use Rattle.std.proofs.Math.Nat.{le-max_left, le-max_right, max-le}
 use Rattle.std.specs.List.{count_by}
 use Rattle.std.proofs.lemmas.Grind.{common_steps}
 use Rattle.rustc_lexer.specs.{Token, declared.{head.Head.{Head}, relex.relexing.{Change.Change, Relexed.Relexed}}}
-use Rattle.rustc_lexer.specs.Edits.{body_in, ends_from, IsMeeting, IsRelexed, IsRelexedTo, part_by, apply, KeepsHead}
+use Rattle.rustc_lexer.specs.Edits.{body_in, ends_from, IsMeeting, IsRelexed, IsRelexedTo, fragment_by, apply, KeepsHead}
 use Rattle.rustc_lexer.specs.Locality.{has_two, IsGrammar}
 use Rattle.rustc_lexer.specs.{Relexing.{IsEditOf, IsMadeOf, IsBodyChange, IsHeadOf, IsInBody}, Partition.{Layout}}
 use Rattle.rustc_lexer.specs.Tokens.{tokens_by}
@@ -19,22 +19,22 @@ use Rattle.rustc_lexer.proofs.lemmas.edits.{FrontAndBack.{edited, IsEdited, same
 use Rattle.rustc_lexer.proofs.lemmas.edits.Heads.{body_at, boundary_of, head_stays, heads_are, whole_head}
 use Rattle.std.proofs.lemmas.{Bool.{cases_lt}, List.{drop-take, drop-append-le}}
 use Rattle.std.proofs.lemmas.Str.{IsUtf8-drop, IsUtf8-take, IsCharBoundary-from_drop}
-use Rattle.rustc_lexer.specs.{Classes.{IsText}, Document.{body_start, head_tokens, whole_by}}
+use Rattle.rustc_lexer.specs.{Classes.{IsText}, Document.{body_start, head_tokens, document_by}}
 
--- an offset past another is between characters of what follows that one
+-- A char boundary of a text after an offset is a char boundary of the rest from the offset on.
 pub boundary-past : (xs : List ℕ) (from p : ℕ) → IsUtf8 xs → from ≤ p → IsCharBoundary xs p
     → IsCharBoundary (drop from xs) (p - from)
 boundary-past xs from p is le at =
     grind (arith, common_steps, drop-drop, IsUtf8-drop, IsCharBoundary-from_drop, length-drop)
 
--- what is past the first of two places past the second
+-- The rest after the second of two offsets is also a rest of the rest after the first.
 drop-past : (xs : List ℕ) (from p : ℕ) → from ≤ p → drop p xs ≡ drop (p - from) (drop from xs)
 drop-past xs from p le = grind (arith, common_steps, drop-drop)
 
 by_max : (P : ℕ → Type 0) (a b : ℕ) → P a → P b → P (max a b)
 by_max P a b pa pb = grind (arith, common_steps, cases_lt, le-max_right, max-le, le-max_left)
 
--- an offset, and how far another is past it: one of the two
+-- The sum a + (b - a) is a or b.
 by_past : (P : ℕ → Type 0) (a b : ℕ) → P a → P b → P (a + (b - a))
 by_past P a b pa pb = grind (arith, common_steps, cases_lt)
 
@@ -53,7 +53,7 @@ module _ {first : List ℕ → Token} (law : IsGrammar first) {text insert made 
   old_text : IsText (drop from text)
   old_text = rest_is text from e.is_text old_at
 
-  -- the head stays
+  -- If the head is kept, the body is the result of the edit, with offsets from the start of the body.
   kept_made : from ≡ to → from ≤ edit.start
       → body ≡ apply (drop from text) (edit.start - from) (edit.old_end - from) insert
   unfolding apply
@@ -86,7 +86,7 @@ module _ {first : List ℕ → Token} (law : IsGrammar first) {text insert made 
         kept_made,
       )
 
-  -- it does not: up to here both differ
+  -- Returns how far the change of the body extends after the edit, if the head is not kept.
   abbrev past : ℕ
   past = max (from - edit.old_end) (to - edit.new_end)
 
@@ -163,14 +163,14 @@ module _ {first : List ℕ → Token} (law : IsGrammar first) {text insert made 
         lengths_are = refl;
       }
 
-  -- what an edit is to the body
+  -- The body is the result of its change.
   pub made_body : (kept : Bool) → (kept ≡ true → (from ≡ to) × (from ≤ edit.start))
       → IsMadeOf first (drop from text) lengths (body_change kept from to edit)
       (body_insert kept (body_change kept from to edit) insert body) body
   made_body true decided = kept_body (decided refl).0 (decided refl).1
   made_body false decided = front_body
 
--- the tokens behind the first ones are replaced
+-- Tokens after the first n ones are replaced.
 put_is : (tokens lexed : List Token) (n f b : ℕ) → f ≤ b → n + b ≤ length tokens
     → take (n + f) tokens ++ (lexed ++ drop (n + b) tokens) ≡
     take n tokens ++ (take f (drop n tokens) ++ (lexed ++ drop b (drop n tokens)))
@@ -185,7 +185,7 @@ put_behind tokens lexed n f b keeps head w6 w7 w8 r now w11 = grind (arith, comm
 
 -- ---- the counts of an edit
 
--- ---- the front, by offsets of the text and of what follows an offset
+-- ---- the kept front, by offsets in the whole text and in the body
 
 pub two_behind : (text : List ℕ) (from end to : ℕ) → has_two (drop from text) end (to - from) ≡
     has_two text (from + end) to
@@ -223,7 +223,7 @@ module _ {first : List ℕ → Token} (law : IsGrammar first) {layout : (List �
   body_made = made_body law e was.body now.body (boundary_of was_is) (boundary_of now_is) kept
       (λ stays. let s = decided.0 stays in (ap (λ (h : Head). h.body) s.0, s.1))
 
-  -- how far the body's change goes past the edit
+  -- Returns how far the change of the body extends after the edit.
   abbrev more : Bool → ℕ
   more true = 0
   more false = max (was.body - edit.old_end) (now.body - edit.new_end)
@@ -248,7 +248,7 @@ module _ {first : List ℕ → Token} (law : IsGrammar first) {layout : (List �
       )
 
   abbrev InBody : Bool → Relexed → Type 0
-  InBody stays x = IsRelexedTo (part_by first (drop was.body text)) (part_by first (drop now.body made))
+  InBody stays x = IsRelexedTo (fragment_by first (drop was.body text)) (fragment_by first (drop now.body made))
       (drop was.body text) (change stays).start
       (change stays).old_end (change stays).new_end x
 
@@ -301,12 +301,12 @@ module _ {first : List ℕ → Token} (law : IsGrammar first) {layout : (List �
       }
 
   abbrev Found : Relexed → Type 0
-  Found x = IsRelexed (part_by first) (drop was.body text) (change kept).start (change kept).old_end put x
+  Found x = IsRelexed (fragment_by first) (drop was.body text) (change kept).start (change kept).old_end put x
 
   as_body : (x : Relexed) → Found x → InBody kept x
-  as_body x = (counts_of (part_by first) body_made.edit_of x).0
+  as_body x = (counts_of (fragment_by first) body_made.edit_of x).0
 
-  -- the counts of the body give those of all
+  -- The counts of the body determine the counts of all tokens.
   pub relexed_as : (x : Relexed) → Found x → IsRelexed (layout first) text edit.start edit.old_end insert
       (all_of kept x)
   relexed_as x found =
@@ -314,7 +314,7 @@ module _ {first : List ℕ → Token} (law : IsGrammar first) {layout : (List �
       (counts_of (layout first) e (all_of kept x)).1
       (rw (was_is.layout_is first, now_is.layout_is first) (relexed_to kept refl p x (as_body x found)))
 
-  -- the tokens of a new head take no step
+  -- The tokens of a new head take no steps.
   pub steps_by : (x : Relexed) → Found x → length (layout first made).head - (all_of kept x).kept_front + x.lexed ≡
       (all_of kept x).lexed
   steps_by x found = omega (arith, heads_are now_is first, by_kept kept refl (as_body x found))
@@ -325,12 +325,12 @@ module _ {first : List ℕ → Token} (law : IsGrammar first) {layout : (List �
       by_kept false same is_body =
           omega (arith, is_body.kept (omega arith, refl, refl), kept_none (drop was.body text) old.body)
 
-  -- an edit that is refused takes no more steps than it would have
+  -- A failed edit takes at most as many steps as if it had succeeded.
   pub few_by : (before after : ℕ) → ((x : Relexed) → Found x → after ≤ before + x.lexed)
       → TakesFew (layout first) text edit.start edit.old_end insert before after
   few_by before after few =
       let counts = relexed_is law body_made.edit_of in
-      let found = (counts_of (part_by first) body_made.edit_of counts.0).1 counts.1 in (
+      let found = (counts_of (fragment_by first) body_made.edit_of counts.0).1 counts.1 in (
         all_of kept counts.0,
         relexed_as counts.0 found,
         rw (sym e.made) (omega (arith, few counts.0 found, steps_by counts.0 found)),
@@ -359,13 +359,13 @@ body_is {first} law before insert text edit old now kept change e old_head now_h
       counts_new = counts false;
     }
   where
-    old_is : IsHeadIn whole_by before old
+    old_is : IsHeadIn document_by before old
     old_is = whole_head before e.is_text old old_head
 
-    now_is : IsHeadIn whole_by text now
+    now_is : IsHeadIn document_by text now
     now_is = whole_head text (edited e).text_is now now_head
 
-    stays : KeepsHead (whole_by first before) (whole_by first text) edit.start ↔ ((old ≡ now) × (old.body ≤ edit.start))
+    stays : KeepsHead (document_by first before) (document_by first text) edit.start ↔ ((old ≡ now) × (old.body ≤ edit.start))
     stays = head_stays old_is now_is first edit.start (old_is.layout_is first) (now_is.layout_is first)
 
     ch : Change
@@ -376,21 +376,21 @@ body_is {first} law before insert text edit old now kept change e old_head now_h
 
     Counted : Bool → List Token → List Token → Relexed → Type 0
     Counted k fronts new_fronts r =
-        IsRelexed (whole_by first) before edit.start edit.old_end insert
+        IsRelexed (document_by first) before edit.start edit.old_end insert
         (counted k (length fronts) (length new_fronts) r)
 
     counts : (k : Bool) → kept ≡ k → (r : Relexed)
-        → IsRelexed (part_by first) (drop (body_start before) before) ch.start ch.old_end inserted r
+        → IsRelexed (fragment_by first) (drop (body_start before) before) ch.start ch.old_end inserted r
         → Counted k (head_tokens before) (head_tokens text) r
     counts k same r x =
-        let there = subst (λ n. IsRelexed (part_by first) (drop n before) ch.start ch.old_end inserted r)
+        let there = subst (λ n. IsRelexed (fragment_by first) (drop n before) ch.start ch.old_end inserted r)
         (sym old_head.end_is) x in
         subst (λ k. Counted k (head_tokens before) (head_tokens text) r) same
         (subst (λ ts. Counted kept ts (head_tokens text) r) old_head.tokens_are
         (subst (λ ts. Counted kept (tokens_of_head old) ts r) now_head.tokens_are
         (relexed_as law e old_is now_is decided r there)))
 
--- what the change is, by its places
+-- The change of the body has these offsets.
 pub in_body : (kept : Bool) (from to : ℕ) (edit : Change)
     → (kept ≡ true → (from ≤ edit.start) × (edit.start ≤ edit.old_end) × (edit.start ≤ edit.new_end))
     → IsInBody kept from to edit (body_change kept from to edit)

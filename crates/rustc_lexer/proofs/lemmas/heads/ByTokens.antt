@@ -1,11 +1,11 @@
--- The head that is found in a document is the one that its tokens tell: those up to the frontmatter.
+-- The head that is found in a document is the head that its tokens define: the tokens up to the frontmatter.
 use Rattle.std.proofs.Common.{◌≡◌, ℕ, zero, suc, ◌+◌, ◌-◌, ◌≤◌, true, false, true≢false, List, [], ◌∷◌, ◌++◌, length}
 use Rattle.std.proofs.Common.{length-append, length-drop, drop-drop, take, drop, refl, sym, ap, ap₂, ◌∙◌, subst, arith}
 use Rattle.std.proofs.Common.{chars, Option, None, Some, IsCharBoundary}
 use Rattle.std.proofs.{Math.Seq.{take-append_seam}, lemmas.Bool.{not-true}}
 use Rattle.rustc_lexer.specs.{Edition, Token, TokenKind, declared.head.Head.{Head}, Classes.{IsText, bytes}}
 use Rattle.rustc_lexer.specs.Answers.{first_in}
-use Rattle.rustc_lexer.specs.Document.{is_frontmatter, tokens_start, document_tokens, head_count, head_tokens, whole_by}
+use Rattle.rustc_lexer.specs.Document.{is_frontmatter, tokens_start, document_tokens, head_count, head_tokens, document_by}
 use Rattle.rustc_lexer.specs.model.Document.{front_tokens}
 use Rattle.rustc_lexer.specs.LanguageText as grammar
 use Rattle.rustc_lexer.specs.LanguageText.{AreTokens, IsTokenIn, Mode, is_source, mode_after, newest, part, source}
@@ -17,7 +17,7 @@ use Rattle.rustc_lexer.proofs.lemmas.edits.FrontAndBack.{bound-same}
 use Rattle.std.proofs.lemmas.{List.{length-take, take-take}, Str.{IsCharBoundary-from_rest, IsUtf8-drop}}
 use Rattle.std.proofs.lemmas.Grind.{common_steps}
 
--- ---- no token of a part is a frontmatter
+-- ---- no token of a fragment is a frontmatter
 
 none-in : {edition : Edition} {next u : List ℕ} {kind : TokenKind} → IsTokenIn edition next kind u
     → is_frontmatter kind ≡ false
@@ -43,8 +43,8 @@ part-none edition text is = no-front ((language text (part edition) is (read_tok
 
 -- ---- the head
 
--- what stands in front of a text past its shebang line: so much white space and a frontmatter, which take `len` bytes,
--- or nothing
+-- Holds if a text without shebang line starts with `space` bytes of whitespace and a frontmatter, which have `len`
+-- bytes together, or if it has no frontmatter.
 record IsFront (rest : List ℕ) (space : ℕ) (front : Option Token) (len : ℕ) : Type 0 where
   is_one : (t : Token) → front ≡ Some t → is_frontmatter t.kind ≡ true
   bare : front ≡ None → space ≡ 0
@@ -70,7 +70,7 @@ pub bound-append : (ts us : List Token) → bound (ts ++ us) (length ts) ≡ bou
 bound-append [] us = refl
 bound-append (t ∷ ts) us = ap (λ n. t.len + n) (bound-append ts us)
 
--- the head of a text, and what is a frontmatter in it
+-- Holds if this is the head of the text, and its frontmatter is a frontmatter token.
 pub record IsHead (text : List ℕ) (head : Head) : Type 0 where
   pub of : IsHeadOf text head
   pub is_one : (t : Token) → head.frontmatter ≡ Some t → is_frontmatter t.kind ≡ true
@@ -174,14 +174,14 @@ module _ (text : List ℕ) (is : IsText text) where
       (λ f. (_, head-spaced (tokens_start text) refl rest refl past_space e refl (frontmatter past_space) f refl))
       (λ f. (_, head-none (tokens_start text) refl rest refl past_space e refl f)))
 
-  -- the tokens of a document in an edition
-  pub in_edition : (edition : Edition) → tokens_in (whole_by (first_in edition) text) ≡ document_tokens edition text
+  -- The layout of a document in an edition has the tokens of the document.
+  pub in_edition : (edition : Edition) → tokens_in (document_by (first_in edition) text) ≡ document_tokens edition text
   in_edition edition =
       let some = some_head.1 in
       sym (ap₂ (λ ts n. ts ++ tokens_by (first_in edition) (drop n text)) some.of.tokens_are some.of.end_is)
       ∙ some.tokens edition
 
-  -- the tokens of the head are cut between characters
+  -- The tokens of the head are cut at char boundaries.
   pub head_cuts : (k : ℕ) → k ≤ length (head_tokens text)
       → IsCharBoundary text (tokens_start text + bound (head_tokens text) k)
   head_cuts k few =

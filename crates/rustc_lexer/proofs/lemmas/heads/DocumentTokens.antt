@@ -1,4 +1,4 @@
--- The tokens of a document: those of its head, and those of its body.
+-- The tokens of a document are the tokens of its head and the tokens of its body.
 use Rattle.std.proofs.lemmas.Grind.{common_steps}
 use Rattle.std.proofs.Common.{◌≡◌, ℕ, zero, suc, ◌+◌, ◌-◌, ◌<◌, Bool, not, true, false, true≢false, List, [], ◌∷◌, ◌++◌}
 use Rattle.std.proofs.Common.{length, take, drop, refl, sym, ap, ap₂, ◌∙◌, subst, arith, length-drop, drop-drop}
@@ -10,7 +10,8 @@ use Rattle.std.proofs.lemmas.Str.{IsCharBoundary-from_rest, IsUtf8-drop}
 use Rattle.std.proofs.lemmas.Str.{length-le-encodes, IsCharBoundary-before_ascii, IsCharBoundary-end}
 use Rattle.std.proofs.lemmas.Str.{IsCharBoundary-start}
 use Rattle.rustc_lexer.specs.{Edition, Token, TokenKind, Eof, Whitespace, Classes.{is_whitespace, IsText, bytes}}
-use Rattle.rustc_lexer.specs.{Document.{byte_order_mark_len, tokens_start}, model.Document.{front_tokens}, Answers.{shebang}}
+use Rattle.rustc_lexer.specs.{Document.{byte_order_mark_len, tokens_start}, model.Document.{front_tokens}}
+use Rattle.rustc_lexer.specs.Answers.{shebang}
 use Rattle.rustc_lexer.specs.Language as the
 use Rattle.rustc_lexer.specs.LanguageCalls as calls
 use Rattle.rustc_lexer.specs.{LanguageCalls.{IsLineBefore, IsShebang}, laws.TheAnswers.{the_shebang}}
@@ -28,7 +29,7 @@ use Rattle.rustc_lexer.specs.model.{Lexeme.{symbol_kind}, Scan.{bytes_of, next_i
 use Rattle.rustc_lexer.specs.model.Tokens.{read_tokens}
 use Rattle.rustc_lexer.proofs.lemmas.tokens.Shebang.{mark_boundary}
 
--- ---- a token that leaves source what it is
+-- ---- tokens after which a frontmatter is still allowed
 
 abbrev stays : TokenKind → Bool
 stays Whitespace = true
@@ -39,7 +40,7 @@ solid-after : (edition : Edition) (kind : TokenKind) → stays kind ≡ false �
     part edition
 solid-after edition kind w2 = grind (arith, common_steps)
 
--- none does that has characters and begins with no white space
+-- A token with characters that does not start with whitespace is not such a token.
 solid : {next u : List ℕ} {kind : TokenKind} → IsTokenBefore next kind u → next_is is_whitespace u ≡ false
     → 0 < length u → stays kind ≡ false
 solid (the.end none) out some = absurd (omega arith)
@@ -53,19 +54,19 @@ solid-in : {edition : Edition} {next u : List ℕ} {kind : TokenKind} → IsToke
     → 0 < length u → stays kind ≡ false
 solid-in w0 out some = grind (arith, common_steps, solid)
 
--- white space does
+-- Whitespace is such a token.
 space-after : (mode : Mode) → mode_after mode Whitespace ≡ mode
 space-after mode = grind (arith, common_steps)
 
 -- ---- the tokens of a document
 
--- the token of so much white space, if there is some
+-- Returns the token of whitespace with this length, or no token for length 0.
 abbrev space_before : ℕ → List Token
 space_before zero = []
 space_before (suc n) = record { kind = Whitespace; len = suc n } ∷ []
 
 module _ (edition : Edition) where
-  -- a frontmatter, and what follows it
+  -- If a frontmatter opens, it is the first token, and the tokens of a fragment follow it.
   pub with-front : (text : List ℕ) → IsText text → opens (chars text) ≡ true → read_tokens (source edition) text ≡
       frontmatter text ∷ read_tokens (part edition) (drop (frontmatter text).len text)
   unfolding frontmatter
@@ -76,7 +77,7 @@ module _ (edition : Edition) where
       tokens-cons (source edition) text is some
       ∙ ap (λ (t : Token). t ∷ read_tokens (mode_after (source edition) t.kind) (drop t.len text)) at
 
-  -- none, and no white space
+  -- If no frontmatter opens and no whitespace is in front, the tokens are the tokens of a fragment.
   as-source : {cs : List ℕ} {tokens : List Token} → AreTokens (part edition) cs tokens → OpensNone cs
       → next_is is_whitespace cs ≡ false
       → AreTokens (source edition) cs tokens
@@ -91,7 +92,7 @@ module _ (edition : Edition) where
   without-space text is none out =
       tokens-read (as-source (tokens-are text (part edition) is) (opens-none (chars text) none) out) text is refl
 
-  -- white space, and what follows it
+  -- Whitespace and the tokens after it.
   module _ (text tail : List ℕ) (is : IsText text) (tail_is : tail ≡ past (spaces_len (chars text)) text) where
     abbrev size : ℕ
     size = length text - length tail
@@ -144,7 +145,7 @@ module _ (edition : Edition) where
             ∙ one size (read_tokens mode tail) (omega (arith, len, length-le-encodes (c ∷ take n s)))))
             (λ out. bare (ap spaces_len e ∙ rw out refl))
 
-    -- no frontmatter, past white space or none
+    -- If no frontmatter opens, with or without whitespace before, the tokens are the tokens of a fragment.
     pub without-front : opens (chars text) ≡ false → opens (chars tail) ≡ false → read_tokens (source edition) text ≡
         read_tokens (part edition) text
     without-front none none_past =
@@ -154,7 +155,8 @@ module _ (edition : Edition) where
         ∙ (ap (λ ts. space_before size ++ ts) (without-space tail tail_text none_past out)
         ∙ sym (spaced (part edition) (λ e. absurd (true≢false (sym e)))))
 
-    -- a frontmatter past white space
+    -- If a frontmatter opens after whitespace, the tokens are the whitespace, the frontmatter, and the tokens of a
+    -- fragment.
     pub with-spaced : opens (chars text) ≡ false → opens (chars tail) ≡ true
         → read_tokens (source edition) text ≡ front_tokens size (Some (frontmatter tail)) ++ read_tokens (part edition)
         (drop (size + (frontmatter tail).len) text)
@@ -171,7 +173,7 @@ module _ (edition : Edition) where
             front_tokens n (Some (frontmatter tail)) ++ tokens
         both n tokens = grind (arith, common_steps)
 
--- ---- where a shebang line ends
+-- ---- the end of a shebang line
 
 seam : (xs ys : List ℕ) → (0 < length ys → get_or ys 0 0 < 128) → IsCharBoundary (xs ++ ys) (length xs)
 seam xs [] small = subst (IsCharBoundary (xs ++ [])) (let none = length-append xs [] in
@@ -203,5 +205,6 @@ start-boundary text is =
       utf8 = IsUtf8-drop text (byte_order_mark_len text) is.utf8 (mark_boundary text is.utf8);
       fits = omega (arith, is.fits, length-drop (byte_order_mark_len text) text);
     } in
-    IsCharBoundary-from_rest text (byte_order_mark_len text) (unwrap_or (shebang (drop (byte_order_mark_len text) text)) 0)
+    IsCharBoundary-from_rest text (byte_order_mark_len text)
+    (unwrap_or (shebang (drop (byte_order_mark_len text) text)) 0)
     (mark_boundary text is.utf8).0 (line-boundary (drop (byte_order_mark_len text) text) after)

@@ -1,4 +1,4 @@
--- White space parts tokens: a token that is closed stays one before any white space.
+-- Whitespace separates tokens: a token that is not open does not change before whitespace.
 use Rattle.std.proofs.Common.{◌≡◌, ℕ, ◌<◌, ◌==◌, ◌&&◌, not, codes, Bool, true, false, true≢false, List, [], ◌∷◌, ◌++◌}
 use Rattle.std.proofs.Common.{length, refl, sym, ap, ◌∙◌, subst, arith, Option, is_some}
 use Rattle.std.proofs.lemmas.Bool.{and_parts, false_from_ne_true}
@@ -20,7 +20,7 @@ use Rattle.rustc_lexer.specs.model.{Number.{begins_fraction}, Scan.{begins, next
 use Rattle.rustc_lexer.specs.laws.{LanguageLiterals.{number-digit}, LanguageReach.{raw-alike}}
 use Rattle.rustc_lexer.specs.laws.{LanguageRuns.{IsSolid, solid-by}, NumberLongest.{fraction-solid, number-before}}
 
--- ---- white space is in no other class
+-- ---- whitespace is in no other class
 
 abbrev pub is_solid : ℕ → Bool
 is_solid c = not (is_whitespace c)
@@ -37,9 +37,10 @@ start-solid : IsSolid is_id_start
 unfolding unicode_ident
 start-solid = solid-by is_id_start refl
 
--- ---- what changes
+-- ---- the change of the text after a token
 
--- behind the same front one text ended or had white space, and the other has white space
+-- Holds if, after a common prefix, the first text ends or continues with whitespace, and the second continues with
+-- whitespace.
 pub data Changes : List ℕ → List ℕ → Type 0 where
   here : {before after : List ℕ} → NextIsNot is_solid before → NextIs is_whitespace after → Changes before after
   past : (c : ℕ) {next other : List ℕ} → Changes next other → Changes (c ∷ next) (c ∷ other)
@@ -51,7 +52,7 @@ changes-past (c ∷ w) ch = past c (changes-past w ch)
 solid-space : (after : List ℕ) → NextIs is_whitespace after → NextIsNot is_solid after
 solid-space after w1 = grind (arith, common_steps)
 
--- a class with no white space sees no change
+-- A class without whitespace is not affected by the change.
 at-end : (p : ℕ → Bool) → IsSolid p → (before : List ℕ) → NextIsNot is_solid before → next_is p before ≡ false
 at-end p w1 before w3 = grind (arith, common_steps)
 
@@ -60,7 +61,7 @@ same p out (here {before} {after} stops spaced) = at-end p out after (solid-spac
     ∙ sym (at-end p out before stops)
 same p out (past c ch) = refl
 
--- nor do characters that are none
+-- Neither are characters other than whitespace.
 begins-solid : (c : ℕ) (cs s : List ℕ) → is_solid c ≡ true → NextIsNot is_solid s → begins (c ∷ cs) s ≡ false
 begins-solid c cs s w3 w4 = grind (arith, common_steps, false_from_ne_true)
 
@@ -90,7 +91,7 @@ same-ident cs w solid ch = ident-same cs solid (changes-past w ch)
 
 -- ---- numbers
 
--- a fraction begins where it did
+-- A fraction starts in one text exactly if it starts in the other.
 fraction-same : {next other : List ℕ} → Changes next other → begins_fraction other ≡ begins_fraction next
 fraction-same {next} {other} (here stops spaced) =
     rw (begins-solid 46 [] next refl stops, begins-solid 46 [] other refl (solid-space other spaced)) refl
@@ -129,7 +130,7 @@ suffix-apart : {next w : List ℕ} → IsSuffixBefore next w → (other : List �
 suffix-apart (lit.none stop) other ch = lit.none (same is_id_start start-solid ch ∙ stop)
 suffix-apart (lit.some is stop) other ch = lit.some is (same is_id_continue continue-solid ch ∙ stop)
 
--- a literal that is closed, by what its parts are
+-- A literal that is not malformed is a literal before the changed text, if numbers and characters are.
 literal-by : {next other : List ℕ} {kind : LiteralKind} {takes : Bool} {w : List ℕ}
     → ((kind : LiteralKind) (w : List ℕ) → IsNumberBefore next kind w → IsNumberBefore other kind w)
     → ((t : Bool) (w : List ℕ) → IsSingleQuoted next t w → t ≡ true → IsSingleQuoted other t w)
@@ -166,7 +167,8 @@ abbrev pub is_line : TokenKind → Bool
 is_line (LineComment style) = true
 is_line kind = false
 
--- what white space and a line comment ask of the change: no space more, and a line that ends
+-- Holds if the change meets the conditions of this kind: it does not add whitespace to a whitespace token, and a line
+-- comment still ends.
 pub record Goes (kind : TokenKind) (next other : List ℕ) : Type 0 where
   pub space : kind ≡ Whitespace → NextIsNot is_whitespace next → NextIsNot is_whitespace other
   pub line : is_line kind ≡ true → NextIsNot is_inline next → NextIsNot is_inline other
@@ -224,7 +226,7 @@ token-apart (the.pound stop) some good other ch go =
 token-apart (the.guarded_prefix is) some good other ch go = the.guarded_prefix is
 token-apart (the.symbol is) some good other ch go = the.symbol is
 
--- of a kind that asks for nothing
+-- Every other kind has no condition.
 goes-free : (kind : TokenKind) (next other : List ℕ) → (kind ≡ Whitespace → ⊥) → is_line kind ≡ false
     → Goes kind next other
 goes-free kind next other no_space no_line = grind (arith, common_steps)

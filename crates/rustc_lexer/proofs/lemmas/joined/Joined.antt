@@ -1,4 +1,4 @@
--- Texts that touch: how to find that out, and that the end of the first text is enough for it.
+-- Texts that may touch: how to decide it, and that a suffix of the first text is enough.
 use Rattle.std.proofs.Common.{◌≡◌, ◌↔◌, ℕ, zero, suc, ◌+◌, ◌-◌, ◌<◌, ◌≤◌, true, List, [], ◌∷◌, ◌++◌, length, take, drop}
 use Rattle.std.proofs.Common.{refl, sym, ap, ◌∙◌, arith, length-append, length-drop, length-take, length-take-le}
 use Rattle.std.proofs.Common.{take-append-drop, slice_range, IsUtf8, IsCharBoundary}
@@ -15,13 +15,14 @@ use Rattle.std.proofs.lemmas.List.Folds.{drop_split}
 use Rattle.rustc_lexer.proofs.lemmas.{edits.Bounds.{bound_mono, bound-last, rises}, heads.ByTokens.{bound-append}}
 use Rattle.rustc_lexer.proofs.lemmas.edits.{Settled.{stays_at}, FrontAndBack.{bound-same, drop_of-take}}
 
--- what two lists have in front says nothing of how they differ
+-- A common front of two lists can be removed.
 front_cancels : {whole left : List Token} (front rest more us : List Token) → whole ≡ front ++ rest
     → left ≡ front ++ more → whole ≡ left ++ us
     ↔ rest ≡ more ++ us
 front_cancels front rest more us w5 w6 = grind (arith, common_steps, append_cancel_left)
 
--- the texts on both sides of `at` touch exactly if what the first has past `offset` touches the second
+-- Holds if the texts on both sides of `at` may touch exactly if the part from `offset` to `at` may touch the second
+-- text.
 pub record IsSeamFrom (edition : Edition) (text : List ℕ) (at offset : ℕ) : Type 0 where
   pub inside : offset ≤ at
   pub boundary : IsCharBoundary text offset
@@ -32,7 +33,7 @@ module _ {first : List ℕ → Token} (law : IsGrammar first) where
   abbrev pub Touch : List ℕ → List ℕ → Type 0
   Touch left right = tokens_by first (left ++ right) ≡ tokens_by first left ++ tokens_by first right
 
-  -- a text whose first token stays touches another exactly if what it has past that token does
+  -- If the first token of a text does not change, the text touches another exactly if the part after the token does.
   pub touch_past : (left right : List ℕ) → IsText left → IsText (left ++ right) → 0 < length left
       → first (left ++ right) ≡ first left
       → Touch left right ↔ Touch (drop (first left).len left) right
@@ -48,9 +49,9 @@ module _ {first : List ℕ → Token} (law : IsGrammar first) where
       → first (left ++ right) ≡ first left
   touch_first left right is whole some touch = grind (arith, common_steps, tokens-cons)
 
-  -- ---- the end of the first text is enough
+  -- ---- a suffix of the first text is enough
 
-  -- what is appended leaves the tokens up to a sure bound
+  -- Appending text does not change the tokens up to a final boundary.
   pub sure_stays : (left more : List ℕ) (from number : ℕ) → IsText left → IsText (left ++ more)
       → number ≤ length (tokens_by first left) → bound (tokens_by first left) number ≡ from
       → (0 < from → has_two left from (length left) ≡ true)
@@ -67,7 +68,7 @@ module _ {first : List ℕ → Token} (law : IsGrammar first) where
       ) in
       stays_at law left is more (suc k) whole few (rw at (two positive))
 
-  -- so a text touches another exactly if what it has past one does
+  -- So a text touches another exactly if the part after a final boundary does.
   pub sure_touch : (left more : List ℕ) (from : ℕ) → IsText left → IsText (left ++ more) → IsSure first left from
       → (from ≤ length left) × (Touch left more ↔ Touch (drop from left) more)
   sure_touch left more from is whole at =
@@ -92,7 +93,7 @@ module _ {first : List ℕ → Token} (law : IsGrammar first) where
             ∙ ap (λ (ts : List Token). take k (tokens_by first left) ++ ts) rest),
       )
 
--- a separator that keeps texts apart touches the second
+-- A separator that keeps texts apart may touch the second text.
 pub separated_past : (edition : Edition) (text : List ℕ) (at len : ℕ) → IsText text → IsCharBoundary text at
     → IsSeparated edition (take at text) (take len (drop at text)) (drop len (drop at text))
     → MayTouch edition (take len (drop at text)) (drop len (drop at text))
@@ -109,12 +110,12 @@ separated_past edition text at len is cut e =
     ∙ (sym (at_bound (edition_grammar edition) (length left) text is).rest
     ∙ (ap (drop (length left)) whole ∙ drop-append_seam left _)))
 
--- no text touches each
+-- The empty text may touch every text.
 pub touch_none : (edition : Edition) (text : List ℕ) → MayTouch edition (take 0 text) (drop 0 text)
 touch_none edition text =
     sym (ap (λ (ts : List Token). ts ++ tokens_by (first_in edition) text) (tokens-nil (first_in edition)))
 
--- ---- how to find it out
+-- ---- how to decide it
 
 pub seam_start : (edition : Edition) (text : List ℕ) (at : ℕ) → IsUtf8 text → IsSeamFrom edition text at 0
 seam_start edition text at utf8 =
@@ -178,7 +179,7 @@ module _ (edition : Edition) (text : List ℕ) (at : ℕ) (is : IsText text) (cu
         (omega (arith, long))
         (so.touch.0 touch)) ∙ (ap (first_in edition) whole ∙ sym f)))
 
--- ---- the first separator that parts a text and a piece
+-- ---- the first separator that keeps a text and a piece apart
 
 pub nothing-separates : (edition : Edition) (text piece : List ℕ) → IsSeparated edition text [] piece
     → MayTouch edition text piece

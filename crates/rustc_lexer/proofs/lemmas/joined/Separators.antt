@@ -1,5 +1,4 @@
--- A text whose tokens are closed keeps them before white space, and white space keeps its token before any other
--- character.
+-- A text without open tokens keeps them before whitespace, and whitespace keeps its token before any other character.
 use Rattle.std.proofs.lemmas.Grind.{common_steps}
 use Rattle.std.proofs.Common.{◌⊎◌, inl, inr, ◌≡◌, ℕ, ◌+◌, ◌^◌, ◌<◌, Bool, true, false, true≢false, List, [], ◌∷◌, ◌++◌}
 use Rattle.std.proofs.Common.{length, refl, sym, ap, ◌∙◌, subst, arith, append_assoc, length-append, chars, IsUtf8}
@@ -25,7 +24,7 @@ use Rattle.rustc_lexer.specs.laws.{LanguageTokens.{tokens-are, tokens-read}, Tex
 use Rattle.rustc_lexer.specs.model.Edition.{first_token_in}
 use Rattle.rustc_lexer.proofs.lemmas.joined.Apart.{Changes, here as changed, Goes, changes-past, in-apart}
 
--- the tokens of characters that are read as a part
+-- Holds if these are the tokens of the characters, lexed as a fragment.
 data Are (edition : Edition) : List ℕ → List Token → Type 0 where
   none : Are edition [] []
   one : {kind : TokenKind} {c : ℕ} {w next : List ℕ} {tokens : List Token} → IsTokenIn edition next kind (c ∷ w)
@@ -44,7 +43,7 @@ to_part : {edition : Edition} {cs : List ℕ} {tokens : List Token} → Are edit
 to_part none = grammar.nothing
 to_part (one p rest) = grammar.something p (λ source. absurd (true≢false (sym source))) (to_part rest)
 
--- a change behind a character asks for nothing
+-- A change after the next character meets all conditions.
 goes-behind : (kind : TokenKind) (d : ℕ) (s other : List ℕ) → Goes kind (d ∷ s) (d ∷ other)
 goes-behind kind d s other = record { space = λ e stop. stop; line = λ e stop. stop }
 
@@ -52,7 +51,7 @@ is_space : TokenKind → Bool
 is_space Whitespace = true
 is_space kind = false
 
--- the text of its token
+-- The text of a whitespace token consists of whitespace.
 space-text : {next : List ℕ} {kind : TokenKind} {w : List ℕ} → IsTokenBefore next kind w → kind ≡ Whitespace
     → AreAll is_whitespace w
 unfolding is_space
@@ -68,9 +67,10 @@ kind-goes kind after w2 = grind (arith, common_steps)
 kind-space : (kind : TokenKind) → takes_in kind 10 ≡ true → kind ≡ Whitespace
 kind-space kind w1 = grind (arith, common_steps)
 
--- ---- what may come next
+-- ---- the possible next characters
 
--- white space that the last token does not take in, or past white space all else
+-- Holds if the text starts with whitespace that does not become part of the last token; or if a newline becomes part of
+-- the last token, and the text does not start with whitespace.
 abbrev Parts : List Token → List ℕ → Type 0
 Parts tokens after = (NextIs is_whitespace after × NextIsNot (last_takes_in tokens) after)
     ⊎ ((last_takes_in tokens 10 ≡ true) × NextIsNot is_whitespace after)
@@ -145,7 +145,7 @@ module _ (edition : Edition) where
       read (text ++ after) whole (keeps (are text is) closed (are after (rest-is text after whole is.utf8)) e)
       (chars-append text after is.utf8)
 
-  -- all of a text that is white space is one token
+  -- A text of whitespace only is one token.
   space-tokens : (s : List ℕ) → IsText s → 0 < length s → AreAll is_whitespace (chars s)
       → Tokens s ≡ record { kind = Whitespace; len = bytes (chars s) } ∷ []
   space-tokens s is some white = by_chars (chars s) refl white
@@ -178,7 +178,7 @@ white_space_separates edition = grind (arith, common_steps, touches, begins)
 
 module _ (edition : Edition) (text piece : List ℕ) (is : IsText text) (utf8 : IsUtf8 piece)
     (room : length text + (length piece + 1) < 2 ^ 32) (closed : AreWellFormed (Tokens edition text)) where
-  -- a separator of one character
+  -- A whitespace character that does not become part of the last token is a separator.
   parts : (d : ℕ) → scalars (d ∷ []) ≡ true → encode_utf8_all (d ∷ []) ≡ d ∷ [] → is_whitespace d ≡ true
       → last_takes_in (Tokens edition text) d ≡ false → NextIsNot is_whitespace (chars piece)
       → IsSeparated edition text (d ∷ []) piece

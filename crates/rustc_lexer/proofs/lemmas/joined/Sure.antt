@@ -1,5 +1,5 @@
--- A text that grows at its end: what comes past a bound that is sure decides whether its tokens stay, and that bound
--- moves on.
+-- A text that grows at its end: the part after a final boundary decides whether its tokens change, and the boundary
+-- moves forward.
 use Rattle.std.proofs.Common.{◌≡◌, ℕ, zero, suc, ◌+◌, ◌-◌, ◌^◌, ◌<◌, ◌≤◌, true, List, ◌++◌, codes, length, take, drop}
 use Rattle.std.proofs.Common.{refl, sym, ap, ◌∙◌, subst, arith, length-append, length-drop, length-take, length-take-le}
 use Rattle.std.proofs.Common.{take-append-drop, drop-drop, take_all, chars, IsUtf8, IsCharBoundary}
@@ -35,7 +35,7 @@ module _ (edition : Edition) where
       subst (IsCharBoundary text) at.offset_is
       (IsCharBoundary-from_drop text (bound (tokens_by first text) at.number) cut.inside cut.past.utf8)
 
-  -- two characters past an offset stay there
+  -- Two characters after an offset are still there after the text grew.
   two_more : (text more : List ℕ) (from : ℕ) → IsText text → IsCharBoundary text from
       → has_two text from (length text) ≡ true → has_two (text ++ more) from (length (text ++ more)) ≡ true
   two_more text more from is cut two =
@@ -47,7 +47,7 @@ module _ (edition : Edition) where
         chars-append (drop from text) more (IsUtf8-drop text from is.utf8 cut),
       ) (omega (arith, length-append (chars (drop from text)) (chars more))))
 
-  -- what is sure stays so where the tokens up to there stay
+  -- A final boundary is still final if the tokens up to it do not change.
   sure_same : {text other : List ℕ} {from : ℕ} (at : IsSure first text from) → take at.number (tokens_by first other) ≡
       take at.number (tokens_by first text)
       → (0 < from → has_two other from (length other) ≡ true) → IsSure first other from
@@ -64,7 +64,7 @@ module _ (edition : Edition) where
     two = two;
   }
 
-  -- what is sure in a text is so in one that ends before, but two characters later
+  -- A final boundary of a text is final in a prefix that contains two characters after it.
   pub sure_cut : (text : List ℕ) (from at : ℕ) → IsText text → IsCharBoundary text at → IsSure first text from
       → has_two text from at ≡ true → IsSure first (take at text) from
   sure_cut text from at is cut here two =
@@ -86,7 +86,7 @@ module _ (edition : Edition) where
       (λ some. subst (λ (n : ℕ). has_two left from n ≡ true) (sym size)
       (has_two-same left text from at short ∙ two))
 
-  -- the bound of the end of a text is one of the text
+  -- A final boundary of the rest is a final boundary of the text.
   pub sure_on : (text : List ℕ) (from more : ℕ) → IsText text → IsSure first text from
       → IsSettled (drop from text) (tokens_by first (drop from text)) more → IsSure first text (from + more)
   sure_on text from more is at settled =
@@ -114,7 +114,7 @@ module _ (edition : Edition) where
           (has_two-count (drop from text) more (length (drop from text)) (settled.two (omega arith))) in
           has_two-intro text (from + more) (length text) (rw (take_rest text (from + more)) count)
 
-  -- ---- what comes past a bound decides
+  -- ---- the part after a boundary decides
 
   pub tail_decides : (text : List ℕ) (at : ℕ) → IsText text → IsCharBoundary text at
       → TailDecides edition (take at text) (drop at text)
@@ -144,14 +144,14 @@ module _ (edition : Edition) where
         touch = rw (drop_of-take sure at text) at split.1;
       }
 
-  -- ---- a text past a piece
+  -- ---- a text with a piece appended
 
-  -- no other text is joined so
+  -- The joined text is unique.
   pub joined-only : {text piece one other : List ℕ} → IsJoined edition text piece one
       → IsJoined edition text piece other → other ≡ one
   joined-only w0 w1 = grind (arith, common_steps)
 
-  -- what was sure is so in the new text
+  -- Final boundaries are still final in the new text.
   grown_by : (text more : List ℕ) (from : ℕ) → IsText text → IsSure first text from → length text + length more < 2 ^ 32
       → IsUtf8 (text ++ more)
       → IsText (text ++ more) × IsSure first (text ++ more) from
@@ -171,7 +171,7 @@ module _ (edition : Edition) where
   grown {text} {piece} from (the.on_a_line apart spaced parted) is at room utf8 =
       grown_by text (codes "\n" ++ piece) from is at (omega arith) utf8
 
-  -- the end of the text is sure in the new one if two characters follow it
+  -- The end of the old text is a final boundary of the new text if two characters follow it.
   sure_end : (text more : List ℕ) (others : List Token) → IsText text → tokens_by first (text ++ more) ≡
       tokens_by first text ++ others
       → has_two (text ++ more) (length text) (length (text ++ more)) ≡ true → IsSure first (text ++ more) (length text)

@@ -1,4 +1,4 @@
--- What a cursor takes, which is what its iterator takes, longer by the bytes that are pending.
+-- A cursor reads the tokens of its iterator, longer by the bytes that are pending.
 use Rattle.std.proofs.lemmas.Grind.{common_steps}
 use Rattle.std.proofs.Common.{◌≡◌, ◌≢◌, ℕ, ◌+◌, ◌<◌, ◌≤◌, ◌^◌, ◌==◌, List, [], length, length-drop, drop, false, refl}
 use Rattle.std.proofs.Common.{sym, ap, subst, ◌∙◌, arith}
@@ -12,29 +12,29 @@ use Rattle.rustc_lexer.specs.laws.State.{state, past_token, edition-after, advan
 use Rattle.rustc_lexer.proofs.lemmas.tokens.KindsOfTexts.{suffixes, token_at-not_end}
 use Rattle.rustc_lexer.specs.laws.Tokens.{tokens-cons}
 
--- pending bytes make no end of a token that is none
+-- Pending bytes do not turn a token into the end of the text.
 kind_past-end : (pending : ℕ) (kind : TokenKind) → kind_past pending kind ≡ Eof → kind ≡ Eof
 kind_past-end pending kind w2 = grind (arith, common_steps)
 
--- what a cursor takes that no end of the text stops
+-- Holds if the cursor reads this token, and is not at the end of the text.
 pub record Advances (s t : State) (token : Token) : Type 0 where
   pub token_is : token ≡ (take_next s).0
   pub state_is : t ≡ (take_next s).1
   pub no_end : token.kind ≢ Eof
   pub first : TakesFirst s token t
 
--- a part of a text that has no tokens is empty
+-- A text without tokens is empty.
 nothing_left : (mode : Mode) (text : List ℕ) → IsText text → tokens_of mode text ≡ [] → text ≡ []
 nothing_left mode text w2 w3 = grind (arith, common_steps, tokens-cons)
 
 module _ (pending : ℕ) (tokens : State) (is : IsCursor pending tokens) (s : State)
     (view : state pending tokens.rest tokens.mode ≡ s) where
-  -- past some of the text that is left, with at most these bytes pending as well
+  -- A cursor is still valid after a part of its text, with at most as many bytes pending.
   pub passed : (rest : List ℕ) → rest ≡ s.rest → (len left : ℕ) → IsCharBoundary rest len → left ≤ pending + len
       → (t : State) → t ≡ record tokens { rest = drop len tokens.rest } → IsCursor left t
   passed rest offset len left boundary few t e = grind (arith, common_steps, length-drop, IsUtf8-drop)
 
-  -- at the end of the text
+  -- At the end of the text the cursor returns `Eof`.
   pub ends : tokens_left tokens ≡ [] → take_next s ≡ (record { kind = Eof; len = 0 }, s)
   ends none = advance-end pending tokens.rest tokens.mode s view
       (ap (λ xs. length xs == 0) (nothing_left tokens.mode tokens.rest is.text none))
@@ -44,7 +44,7 @@ module _ (pending : ℕ) (tokens : State) (is : IsCursor pending tokens) (s : St
       subst (λ (x : State). (tokens_left x ≡ []) × (x.rest ≡ [])) view
       (none, nothing_left tokens.mode tokens.rest is.text none)
 
-  -- what the iterator takes, and the cursor
+  -- The iterator's token, and the cursor's.
   module _ (taken : Token) (t : State) (takes : TakesToken tokens taken t) where
     abbrev first : Token
     first = token_at tokens.mode tokens.rest
@@ -105,7 +105,7 @@ module _ (pending : ℕ) (tokens : State) (is : IsCursor pending tokens) (s : St
     pub still_cursor : (left : ℕ) → left ≤ pending → IsCursor left t
     still_cursor left few = grind (arith, common_steps, length-drop, next_is, edition-after, IsUtf8-drop)
 
--- a cursor at the start of a text
+-- A new cursor is at the start of the text.
 pub at_start : (allowed : FrontmatterAllowed) (text : List ℕ) → IsText text → (s : State)
     → s ≡ state 0 text (mode_in allowed newest) → IsCursor 0 s
 at_start allowed text is s e = grind (arith, common_steps)

@@ -1,4 +1,4 @@
--- A run of characters whose front is in ASCII, by its bytes.
+-- Runs of characters that start with ASCII, in bytes.
 use Rattle.std.proofs.Common.{◌≡◌, ℕ, suc, ◌<◌, ◌≤◌, Bool, true, false, true≢false, List, [], ◌∷◌, ◌++◌, length, drop}
 use Rattle.std.proofs.Common.{nat_lt, refl, sym, ap, ◌∙◌, arith, subst}
 use Rattle.std.specs.{Char.{encode_utf8}, List.{prefix_len}, Str.{chars, encode_utf8_all, IsUtf8, IsCharBoundary}}
@@ -10,7 +10,7 @@ use Rattle.rustc_lexer.specs.{model.{ByteRuns.{is_wide}, Scan.{past, next_is, ru
 use Rattle.rustc_lexer.specs.laws.Past.{past-one}
 use Rattle.rustc_lexer.proofs.lemmas.tokens.Runs.{run_ends}
 
--- a text that begins with a byte of ASCII
+-- A text that starts with an ASCII byte.
 module _ (b : ℕ) (bs : List ℕ) (is : IsUtf8 (b ∷ bs)) (small : b < 128) where
   reads : b ∷ bs ≡ encode_utf8 b ++ bs
   reads = ap (λ (xs : List ℕ). xs ++ bs) (sym (encode_ascii b small))
@@ -24,12 +24,12 @@ module _ (b : ℕ) (bs : List ℕ) (is : IsUtf8 (b ∷ bs)) (small : b < 128) wh
   pub past-ascii : bs ≡ past 1 (b ∷ bs)
   past-ascii = sym (past-one (b ∷ bs) bs b is reads)
 
--- q is the ASCII part of the class p
+-- Holds if q is the ASCII part of the class p.
 pub record IsPart (q p : ℕ → Bool) : Type 0 where
   pub small : (b : ℕ) → q b ≡ true → b < 128
   pub same : (b : ℕ) → b < 128 → q b ≡ p b
 
--- what is past the run of a class
+-- Returns the text after the run of a class.
 abbrev pub past_run : (ℕ → Bool) → List ℕ → List ℕ
 past_run p cs = encode_utf8_all (drop (run_len p cs) cs)
 
@@ -39,7 +39,7 @@ past_run-in p c cs e = rw e refl
 pub past_run-out : (p : ℕ → Bool) (c : ℕ) (cs : List ℕ) → p c ≡ false → past_run p (c ∷ cs) ≡ encode_utf8_all (c ∷ cs)
 past_run-out p c cs e = rw e refl
 
--- past bytes of the class the run goes on, and no such byte stands there
+-- Holds if `left` has the same text after its run of the class as the whole text, and does not start with a byte of q.
 pub record Skips (q p : ℕ → Bool) (text left : List ℕ) : Type 0 where
   pub utf8 : IsUtf8 left
   pub run : past_run p (chars text) ≡ past_run p (chars left)
@@ -63,19 +63,19 @@ skips q p part (b ∷ bs) is = by_either (q b)
     let none : prefix_len q (b ∷ bs) ≡ 0 = rw e refl in
     subst (λ n. Skips q p (b ∷ bs) (drop n (b ∷ bs))) (sym none) record { utf8 = is; run = refl; stops = e })
 
--- where the next character is not of the class the run ends
+-- The run ends if the next character is not in the class.
 pub run_over : (q p : ℕ → Bool) (text left : List ℕ) → Skips q p text left → next_is p (chars left) ≡ false
     → left ≡ past (run_len p (chars text)) text
 unfolding past
 run_over q p text left at out = sym (at.run ∙ run_ends p left at.utf8 out)
 
--- neither a byte of the class is next, nor one that is not in ASCII
+-- The next byte is neither in the class nor outside ASCII.
 none_next : (q p : ℕ → Bool) → IsPart q p → (left : List ℕ) → IsUtf8 left → next_is q left ≡ false
     → next_is is_wide left ≡ false
     → next_is p (chars left) ≡ false
 none_next q p part w3 is stops narrow = grind (arith, common_steps, chars-nil, ltb-true, chars-ascii)
 
--- where the bytes of the class at the front of a text end, it may be cut, and the run of the class goes on from there
+-- The text can be cut after the bytes of the class in front, and the run of the class continues there.
 module _ (q p : ℕ → Bool) (part : IsPart q p) (text bytes : List ℕ) (end : ℕ) (is : IsUtf8 text) (read : bytes ≡ text)
     (counted : end ≡ prefix_len q bytes) where
   e : end ≡ prefix_len q text
@@ -102,7 +102,7 @@ module _ (q p : ℕ → Bool) (part : IsPart q p) (text bytes : List ℕ) (end :
     stops_here narrow =
         run_over q p text left left_there (none_next q p part left left_there.utf8 left_there.stops narrow)
 
--- a class in ASCII: its characters are its bytes
+-- For a class within ASCII, the characters are the bytes.
 module _ (p : ℕ → Bool) (small : (c : ℕ) → p c ≡ true → c < 128) where
   pub next_byte : (text : List ℕ) → IsUtf8 text → next_is p (chars text) ≡ next_is p text
   next_byte [] is = ap (next_is p) chars-nil
@@ -125,7 +125,7 @@ module _ (p : ℕ → Bool) (small : (c : ℕ) → p c ≡ true → c < 128) whe
       none wide false e = e
       none wide true e = absurd (let in_ascii = first_byte (chars (d ∷ ds)) refl e in omega arith)
 
-  -- such a byte at the front is a character
+  -- A byte of the class in front is a character.
   pub front_small : (text : List ℕ) → IsUtf8 text → next_is p text ≡ true → IsCharBoundary text 1
       × (drop 1 text ≡ past 1 text) × (length (drop 1 text) < length text)
   front_small [] is e = absurd (true≢false (sym e))
@@ -136,7 +136,7 @@ module _ (p : ℕ → Bool) (small : (c : ℕ) → p c ≡ true → c < 128) whe
         omega arith,
       )
 
-  -- where the bytes end, so does the run
+  -- The run ends where its bytes end.
   whole_part : IsPart p p
   whole_part = record { small = small; same = λ b less. refl }
 

@@ -1,4 +1,4 @@
--- One bit of a word, through each operation on it.
+-- One bit of a word, for each operation on words.
 use Rattle.std.proofs.Common.{◌≡◌, ℕ, zero, suc, ◌+◌, ◌-◌, ◌*◌, ◌/◌, ◌%◌, ◌^◌, ◌<◌, ◌≤◌, min, max, length, map, Bool}
 use Rattle.std.proofs.Common.{true, false, true≢false, not, ◌&&◌, ◌||◌, ◌==◌, List, get_or, refl, sym, ap, ap₂, ◌∙◌}
 use Rattle.std.proofs.Common.{arith, w64, bit_and, bit_or, inl, inr, nat_lt}
@@ -50,7 +50,7 @@ ones : (k : ℕ) → k < 64 → bit (2 ^ 64 - 1) k ≡ true
 unfolding bit
 ones k l = agree_below_at (λ j. bit (2 ^ 64 - 1) j) (λ _. true) 64 k refl l
 
--- a word that is shifted: the bits come to stand higher, and none stands below
+-- A shift to the left clears the bits below n.
 pub bit-shl_below : (y n k : ℕ) → k < n → k < 64 → bit (y * 2 ^ n % 2 ^ 64) k ≡ false
 unfolding bit
 bit-shl_below y n k less l =
@@ -72,7 +72,7 @@ pub bit-above : (x i : ℕ) → x < 2 ^ 64 → 64 ≤ i → bit x i ≡ false
 unfolding bit
 bit-above x i small far = ap (λ n. n == 1) (bit_at_above x 64 i small far)
 
--- the bits below n
+-- Exactly the bits below n are set.
 pub bit-below : (n k : ℕ) → n ≤ 64 → k < 64 → bit ((2 ^ 64 - 1) / 2 ^ (64 - n)) k ≡ nat_lt k n
 bit-below n k few l = grind (arith, common_steps, bit-shr, cases_lt, ones, lt-ltb, bit-above, le-ltb)
 
@@ -80,7 +80,7 @@ pub bit-mask_l : (ms : List Bool) (i : ℕ) → bit (mask_l ms) i ≡ get_or ms 
 unfolding bit
 bit-mask_l ms i = grind (arith, common_steps, bit_mask_l)
 
--- a bit that is set is among the 64
+-- The index of a bit that is set is less than 64.
 pub within : (x i : ℕ) → x < 2 ^ 64 → bit x i ≡ true → i < 64
 within x i small set =
     elim (cases_lt i 64) [ inl near ↦ near | inr far ↦ absurd (true≢false (sym set ∙ bit-above x i small far)) ]
@@ -89,7 +89,7 @@ pub bit-zero : (i : ℕ) → bit 0 i ≡ false
 unfolding bit
 bit-zero i = ap (λ n. n == 1) (bit_at-zero i)
 
--- ---- all bits but the lowest
+-- ---- all bits except the lowest
 
 abbrev pub high : ℕ
 high = 2 ^ 64 - 2
@@ -112,7 +112,7 @@ low-off x = bit-and x high 0 ∙ and_right _ _ high-low
 pub high-stays : (x k : ℕ) → suc k < 64 → bit (bit_and x high) (suc k) ≡ bit x (suc k)
 high-stays x k h = bit-and x high (suc k) ∙ (ap (λ t. bit x (suc k) && t) (high-high k h) ∙ and-true (bit x (suc k)))
 
--- ---- bits that do not stand together in either of two words
+-- ---- bits that are not set together in either of two words
 
 module _ (w s : ℕ) (fits : w < 2 ^ 64) (fits_too : s < 2 ^ 64) where
   abbrev together : ℕ
@@ -134,7 +134,7 @@ module _ (w s : ℕ) (fits : w < 2 ^ 64) (fits_too : s < 2 ^ 64) where
       both x = bit-and (x * 2 % 2 ^ 64) x (suc k) ∙ ap (λ t. t && bit x (suc k))
           (bit-shl_on x 1 (suc k) (omega arith) h ∙ ap (bit x) (let e : suc k - 1 ≡ k = omega arith in e))
 
--- ---- bits past an offset
+-- ---- bits after an offset
 
 module _ (x n : ℕ) (near : n < 64) where
   pub after-gone : (k : ℕ) → k ≤ n → bit (bit_and x (high * 2 ^ n % 2 ^ 64)) k ≡ false
@@ -151,12 +151,12 @@ unfolding bit
 lowest_is x some small = let low = bit_at-trailing_zeros w64 x some small in
     record { set = ap (λ n. n == 1) low.1; least = λ k l. ap (λ n. n == 1) (low.2 k l) }
 
--- it is among the bits that may be set
+-- The lowest bit is among the bits that can be set.
 pub lowest_in : (x w : ℕ) → 0 < x → x < 2 ^ 64 → ((k : ℕ) → w ≤ k → bit x k ≡ false) → count_trailing_zeros 64 x < w
 lowest_in x w some small none = elim (cases_lt (count_trailing_zeros 64 x) w)
     [ inl near ↦ near | inr far ↦ absurd (true≢false (sym (lowest_is x some small).set ∙ none _ far)) ]
 
--- the mask of w bytes from `at` on
+-- The mask of w bytes from `at` on.
 module _ (p : ℕ → Bool) (bytes : List ℕ) (at w mask : ℕ) (inside : at + w ≤ length bytes)
     (e : mask ≡ mask_l (map p (chunk at w bytes))) where
   pub mask_in : (k j : ℕ) → at + k ≡ j → k < w → bit mask k ≡ p (get_or bytes j 0)
@@ -165,7 +165,7 @@ module _ (p : ℕ → Bool) (bytes : List ℕ) (at w mask : ℕ) (inside : at + 
   pub mask_past : (k : ℕ) → w ≤ k → bit mask k ≡ false
   mask_past k far = grind (arith, common_steps, bit-mask_l, get_or_past, length-map, length-chunk)
 
-  -- its lowest bit
+  -- The number of trailing zeros of the mask is its lowest bit, which is among the w bits.
   pub mask_lowest : w ≤ 64 → 0 < mask → (count_trailing_zeros 64 mask < w)
       × IsLowest mask (count_trailing_zeros 64 mask)
   mask_lowest few some =
@@ -177,7 +177,7 @@ module _ (p : ℕ → Bool) (bytes : List ℕ) (at w mask : ℕ) (inside : at + 
       ) in
       (lowest_in mask w some small mask_past, lowest_is mask some small)
 
--- ---- all bits that are set but the lowest
+-- ---- all bits except the lowest
 
 at_pred : (low x : ℕ) → 0 < x → bit_at x low ≡ 1 → ((k : ℕ) → k < low → bit_at x k ≡ 0) → bit_at (x - 1) low ≡ 0
 at_pred zero x some set least = omega (arith, bit_at_lowest x, bit_at_lowest (x - 1), set)

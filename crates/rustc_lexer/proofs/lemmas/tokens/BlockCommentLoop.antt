@@ -1,4 +1,4 @@
--- The loop over a block comment: from one star or slash to the next.
+-- The loop over a block comment, from one star or slash to the next.
 use Rattle.std.proofs.Common.{◌≡◌, ◌≢◌, ℕ, suc, ◌+◌, ◌<◌, ◌==◌, Bool, true, false, List, [], ◌∷◌, ◌++◌, length, drop}
 use Rattle.std.proofs.Common.{refl, sym, ap, ◌∙◌, arith, length-append, subst, Option, Some, None, not}
 use Rattle.std.specs.Str.{chars, IsUtf8}
@@ -12,11 +12,11 @@ use Rattle.rustc_lexer.specs.laws.{Past.{past-zero, past-past, past-two, chars-p
 use Rattle.rustc_lexer.proofs.lemmas.tokens.QuotedLoop.{run_fails}
 use Rattle.memchr.specs.Find.{is_byte2}
 
--- what is read of a text whose end is known, and what that leaves
+-- Returns the result for a text with a known end of the comment, and the text after it.
 abbrev pub leaves : Option ℕ → List ℕ → List ℕ → Bool × List ℕ
 leaves o cs text = ((or_all_at o cs).0, past (or_all_at o cs).1 text)
 
--- at this depth the rest of a text is read as the whole of it is
+-- Holds if the rest of the text, at this depth, gives the same result as the whole text.
 pub record Commenting (text rest : List ℕ) (depth : ℕ) : Type 0 where
   pub utf8 : IsUtf8 rest
   pub same : leaves (out_of depth (chars rest)) (chars rest) rest ≡ scanned (or_all comment_end) text
@@ -32,7 +32,7 @@ out_of-opening : (depth : ℕ) (s : List ℕ) → 0 < depth → out_of depth (47
 unfolding out_of
 out_of-opening depth s w2 = grind (arith, common_steps)
 
--- past some characters, which lead to this depth
+-- Characters that change the depth from `depth` to `to` can be skipped.
 step : (text rest tail w : List ℕ) (depth to n : ℕ) → Commenting text rest depth → chars rest ≡ w ++ chars tail
     → length w ≡ n → tail ≡ past n rest → out_of depth (w ++ chars tail) ≡ more n (out_of to (chars tail))
     → Commenting text tail to
@@ -53,11 +53,11 @@ step text rest tail w depth to n at reads len cut e = record {
         ap (λ xs. (false, xs)) (further (length (chars tail)) ∙ ap (λ m. past m rest) sum)
     moved (Some m) = ap (λ xs. (true, xs)) (further m)
 
--- what is neither a star nor a slash
+-- Whether a character is neither a star nor a slash.
 abbrev pub is_other : ℕ → Bool
 is_other c = not (is_byte2 42 47 c)
 
--- up to the next star or slash
+-- All characters up to the next star or slash can be skipped.
 run_on : (text rest : List ℕ) (depth : ℕ) (cs : List ℕ) → 0 < depth → chars rest ≡ cs → Commenting text rest depth
     → Commenting text (past (run_len is_other cs) rest) depth
 run_on text rest depth [] some reads at = subst (λ xs. Commenting text xs depth) (sym (past-zero rest at.utf8)) at
@@ -76,7 +76,7 @@ run_on text rest depth (c ∷ cs) some reads at = by_either (is_other c)
     let none : run_len is_other (c ∷ cs) ≡ 0 = rw e refl in
     subst (λ xs. Commenting text xs depth) (sym (ap (λ n. past n rest) none ∙ past-zero rest at.utf8)) at)
 
--- the loop at a star or a slash
+-- The loop at a star or a slash.
 module _ (text rest stop : List ℕ) (depth : ℕ) (some : 0 < depth) (at : Commenting text rest depth)
     (there : stop ≡ past (run_len is_other (chars rest)) rest) where
   pub at_stop : Commenting text stop depth
@@ -102,7 +102,7 @@ module _ (text rest stop : List ℕ) (depth : ℕ) (some : 0 < depth) (at : Comm
     begins-one : (a : ℕ) (s : List ℕ) → begins (a ∷ []) s ≡ true → s ≡ a ∷ drop 1 s
     begins-one a s w2 = grind (arith, common_steps, eqb-true, and_parts)
 
-    -- both characters of `*/` or `/*`
+    -- The text at the stop starts with both characters of `*/` or `/*`.
     pair_reads : (a b : ℕ) (past_pair : List ℕ) → c ≡ a → begins (b ∷ []) (chars tail) ≡ true → past_pair ≡ past 1 tail
         → chars stop ≡ a ∷ b ∷ chars past_pair
     pair_reads a b past_pair e f g =
@@ -142,7 +142,7 @@ unfolding out_of
 closed text rest depth at none = ap (λ xs. (true, xs)) (sym (past-zero rest at.utf8))
     ∙ (ap (λ d. leaves (out_of d (chars rest)) (chars rest) rest) (sym none) ∙ at.same)
 
--- the comment, from its style and its end
+-- The style and the end determine the comment.
 pub comment : (text rest : List ℕ) (style : Option DocStyle) (terminated : Bool) → style ≡ block_doc_style (chars text)
     → (terminated, rest) ≡ scanned (or_all comment_end) text
     → (BlockComment style terminated, rest) ≡ scanned block_comment text

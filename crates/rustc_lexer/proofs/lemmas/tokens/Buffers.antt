@@ -1,4 +1,4 @@
--- A buffer that is filled from the front with the tokens of a text.
+-- A buffer that is filled from the start with the tokens of a text.
 use Rattle.std.proofs.Common.{All, get_or, ◌≡◌, ℕ, zero, suc, ◌+◌, ◌-◌, ◌<◌, ◌≤◌, List, [], ◌∷◌, ◌++◌, length, map}
 use Rattle.std.proofs.Common.{take, drop, min, inl, inr, refl, sym, ap, ◌∙◌, arith, slice_set, length-drop}
 use Rattle.std.proofs.lemmas.Bool.{cases_lt}
@@ -14,7 +14,7 @@ use Rattle.rustc_lexer.specs.{model.{Edition.{first_token_in}, Taking.{take_next
 use Rattle.rustc_lexer.specs.laws.Cuts.{IsCutAt, at_bound, tokens-cons}
 use Rattle.rustc_lexer.proofs.lemmas.tokens.Progress.{IsOffset, next-from_drop, none_more, none_past}
 
--- the first `count` tokens are written, and the rest of the buffer is as it was
+-- Holds if the first `count` tokens are written, and the rest of the buffer is unchanged.
 pub record IsWritten {X : Type 0} (written : Token → X) (tokens : List Token) (buffer filled : List X)
     (count : ℕ) : Type 0 where
   pub front : take count filled ≡ map written (take count tokens)
@@ -40,12 +40,12 @@ pub whole_buffer : {X : Type 0} (written : Token → X) (tokens : List Token) (b
 whole_buffer written tokens buffer filled count is = sym (take-append-drop count filled)
     ∙ (ap (λ l. l ++ drop count filled) is.front ∙ ap (λ l. map written (take count tokens) ++ l) is.back)
 
--- either no token is left, or no room
+-- All tokens are written, so the buffer is filled.
 pub all_written : {X : Type 0} (written : Token → X) (tokens : List Token) (buffer filled : List X) (count : ℕ)
     → IsWritten written tokens buffer filled count → length tokens ≤ count → IsFilled written tokens buffer filled count
 all_written written tokens buffer filled count is all = grind (arith, common_steps, min-eq_right, whole_buffer)
 
--- the tokens that begin before an offset are written, and no other is left to be, or no room
+-- If the next token starts before `end`, so do all tokens up to it.
 pub begun_more : (tokens : List Token) (count at end : ℕ) → at ≡ bound tokens count → at < end
     → ((k : ℕ) → k < count → bound tokens k < end) → (k : ℕ) → k < count + 1 → bound tokens k < end
 begun_more tokens count at end offset more begun k less = grind (arith, common_steps, cases_lt)
@@ -56,7 +56,7 @@ pub written_to : {X : Type 0} (written : Token → X) (end : ℕ) (tokens : List
     → IsFilledTo written end tokens buffer filled count
 written_to written end tokens buffer filled count is begun done = grind (arith, common_steps, whole_buffer)
 
--- ---- where the tokens end in the text
+-- ---- the end of the tokens in the text
 
 module _ {first : List ℕ → Token} (law : IsGrammar first) (text : List ℕ) (is : IsText text) (count at : ℕ)
     (offset : at ≡ bound (tokens_by first text) count) where
@@ -78,7 +78,7 @@ module _ {first : List ℕ → Token} (law : IsGrammar first) (text : List ℕ) 
   pub next_offset : at < length text → at + (first (drop at text)).len ≡ bound (tokens_by first text) (count + 1)
   next_offset more = grind (arith, common_steps, next_token, next-from_drop _ count _ _ (next_token more))
 
--- those that begin before the end of the text are all
+-- The tokens that start before the end of the text are all tokens.
 pub filled_all : {first : List ℕ → Token} (law : IsGrammar first) {X : Type 0} (written : Token → X) (text : List ℕ)
     → IsText text → (end : ℕ) → end ≡ length text → (buffer filled : List X) (count : ℕ)
     → IsFilledTo written end (tokens_by first text) buffer filled count
@@ -99,14 +99,14 @@ filled_all {first} law written text is end whole buffer filled count to = record
   tokens = to.tokens;
 }
 
--- ---- the state past some tokens
+-- ---- the state after some tokens
 
--- how an iterator reads is decided by the flag and the edition that it holds
+-- The flag and the edition of an iterator determine its mode.
 pub mode_held : (allowed : FrontmatterAllowed) (edition : Edition) (mode : Mode) → mode_in allowed edition ≡ mode
     → mode ≡ mode_in allowed (mode_edition mode)
 mode_held allowed edition mode w3 = grind (arith, common_steps)
 
--- each token has a byte at least
+-- Each token has at least one byte.
 pub count_bound : (tokens : List Token) → All (λ t. 0 < t.len) tokens → (count : ℕ) → count ≤ length tokens
     → count ≤ bound tokens count
 count_bound tokens some zero few = omega arith
@@ -143,7 +143,7 @@ module _ (s at past : State) (count : ℕ) (token : Token) (there : at ≡ state
       → past.rest ≡ drop (bound (tokens_left s) (count + 1)) s.rest
   rest_more cut = grind (arith, common_steps, next-from_drop, drop-drop, more_is)
 
--- ---- one token of a part after another
+-- ---- one token of a fragment after another
 
 module _ (edition : Edition) (text : List ℕ) (is : IsText text) (s : State) (mode : s.mode ≡ part edition)
     (rest : s.rest ≡ text) (some : 0 < length text) where
@@ -158,7 +158,7 @@ module _ (edition : Edition) (text : List ℕ) (is : IsText text) (s : State) (m
   pub some_left : 0 < length (tokens_left s)
   some_left = let long = ap (λ (ts : List Token). length ts) left_is in omega (arith, long)
 
--- the tokens of a text in an edition are written so far, and all of these begin before the end
+-- Holds if the first `count` tokens of a text in an edition are written, and all of them start before `end`.
 pub record IsFilling {X : Type 0} (form : Token → X) (edition : Edition) (text : List ℕ) (end : ℕ)
     (buffer filled : List X) (count : ℕ) (s : State) : Type 0 where
   pub mode : s.mode ≡ part edition
@@ -166,7 +166,7 @@ pub record IsFilling {X : Type 0} (form : Token → X) (edition : Edition) (text
   pub written : IsWritten form (tokens_by (first_token_in edition) text) buffer filled count
   pub begun : (k : ℕ) → k < count → bound (tokens_by (first_token_in edition) text) k < end
 
--- one more of them
+-- Writing one more token keeps the invariant.
 pub filled_more : {X : Type 0} (written : Token → X) (edition : Edition) (text : List ℕ) (end : ℕ)
     (buffer filled : List X) (count : ℕ) (s t : State) (token : Token) (x : X)
     → IsText text → end ≤ length text → IsFilling written edition text end buffer filled count s

@@ -1,4 +1,4 @@
--- The run of a class that stops only at bytes of ASCII, by a search of the bytes.
+-- A search in bytes finds the end of a run, if only ASCII characters stop the class.
 use Rattle.std.proofs.Common.{◌≡◌, ℕ, ◌+◌, ◌<◌, ◌≤◌, ◌==◌, ◌||◌, ◌&&◌, not, cond, Bool, true, false, true≢false, List}
 use Rattle.std.proofs.Common.{[], ◌∷◌, ◌++◌, append-nil, length, drop, get_or, refl, sym, ap, ap₂, ◌∙◌, arith, inl, inr}
 use Rattle.std.proofs.Common.{drop-drop, map, bit_or, Some, None}
@@ -21,7 +21,7 @@ module _ (stops : ℕ → Bool) (small : (b : ℕ) → stops b ≡ true → b < 
   abbrev pub others : ℕ → Bool
   others c = not (stops c)
 
-  -- no byte of another character stops
+  -- No byte of another character stops the search.
   char_passes : (c : ℕ) → stops c ≡ false → prefix_len others (encode_utf8 c) ≡ length (encode_utf8 c)
   char_passes c f = prefix_len_is others (encode_utf8 c) (length (encode_utf8 c)) 0 (omega arith)
       (λ k l. not_from_false _ (false_from_ne_true _ (λ e. inside k l e))) (λ l. absurd (omega arith))
@@ -59,7 +59,7 @@ module _ (stops : ℕ → Bool) (small : (b : ℕ) → stops b ≡ true → b < 
 pub byte_small : (stop b : ℕ) → stop < 128 → is_byte stop b ≡ true → b < 128
 byte_small stop b l e = omega (arith, eqb-true b stop e)
 
--- a text that begins with it
+-- A text starts with this byte exactly if its next byte is this byte.
 pub begins-byte : (stop : ℕ) (s : List ℕ) → next_is (is_byte stop) s ≡ begins (stop ∷ []) s
 begins-byte w0 w1 = grind (arith, common_steps)
 
@@ -68,7 +68,7 @@ pub begins_small : (stop : ℕ) (text : List ℕ) → stop < 128 → IsUtf8 text
 begins_small stop text small is = sym (begins-byte stop (chars text))
     ∙ next_byte (is_byte stop) (λ b e. byte_small stop b small e) text is
 
--- two characters in front, one after the other
+-- A text starts with two characters if it starts with the first, and its rest with the second.
 pub begins_two : (a b : ℕ) (text tail : List ℕ) → IsUtf8 text → tail ≡ past 1 text → begins (a ∷ b ∷ []) (chars text) ≡
     (begins (a ∷ []) (chars text) && begins (b ∷ []) (chars tail))
 begins_two a b text tail is at = grind (arith, common_steps, chars-past)
@@ -81,7 +81,7 @@ byte2_small one two b l m e =
           omega (arith, eqb-true b two f)
     ]
 
--- where a search of the bytes finds one, and where it finds none
+-- A search that finds a byte ends there, and a search that finds none ends at the end of the text.
 pub found_at : (stops : ℕ → Bool) (text bytes : List ℕ) (n : ℕ) → bytes ≡ text → IsFirstByte stops bytes (Some n)
     → position_or_len stops text ≡ n
 found_at stops text bytes n read h = ap (position_or_len stops) (sym read)
@@ -97,7 +97,7 @@ found_nowhere stops small text bytes is read h =
     sym (up_to stops small text (length bytes) is (ap (position_or_len stops) (sym read) ∙ none)
     ∙ drop_of_length-le text (omega (arith, ap length read)))
 
--- ---- a look at the first n bytes
+-- ---- reading the first n bytes
 
 pub in_first : (stops : ℕ → Bool) (bytes : List ℕ) (n found : ℕ) → n ≤ 64 → n ≤ length bytes
     → found ≡ mask_l (map stops (chunk 0 n bytes)) → 0 < found
@@ -116,6 +116,6 @@ in_first stops bytes n found few le mask some =
           (at _ low.0) ∙ low.1.set,
     )
 
--- a lane is set where one of two tests is
+-- A lane is set if one of two tests passes.
 pub either_set : (a b : Bool) → top 7 (bit_or (cond a 255 0) (cond b 255 0)) ≡ (a || b)
 either_set w0 w1 = grind (arith, common_steps)

@@ -17,5 +17,5 @@ space_part = record {
   same = λ b l. agree_below_at is_space_byte is_whitespace 128 b refl l;
 }
 
--- the letters of ASCII begin an identifier
+-- ASCII letters can start an identifier.
 pub ruleset start_lemmas = (is_xid_start-ascii)

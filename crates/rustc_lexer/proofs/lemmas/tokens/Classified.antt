@@ -1,4 +1,4 @@
--- What an iterator knows of the ends of runs past its place, and the tokens that it takes by them.
+-- The ends of runs that an iterator has found after its offset, and the tokens that they determine.
 use Rattle.std.proofs.lemmas.Grind.{common_steps}
 use Rattle.std.proofs.Common.{◌≡◌, ℕ, ◌+◌, ◌-◌, ◌<◌, List, length, drop, take, sym, ap, subst, ◌∙◌, arith}
 use Rattle.std.specs.Str.{IsUtf8}
@@ -9,15 +9,15 @@ use Rattle.rustc_lexer.specs.{laws.State.{state}, model.Edition.{first_token_in}
 use Rattle.rustc_lexer.specs.model.Ends.{AreEndsPast, IsEnds, IsUnclassified, KnowsAhead, TakesClassified}
 use Rattle.rustc_lexer.proofs.lemmas.tokens.Tokens.{takes_part}
 
--- found anew at an offset
+-- The ends are known directly after a search at this offset.
 pub found_at : (text : List ℕ) (at m : ℕ) → IsEnds (drop at text) m → AreEndsPast (drop at text) (at - at) m
 found_at text at m are = grind (arith, common_steps)
 
--- the text that is left, as a slice of the bytes
+-- The remaining text is a slice of the bytes.
 pub left_is : (text bytes : List ℕ) (at : ℕ) → bytes ≡ text → take (length bytes - at) (drop at bytes) ≡ drop at text
 left_is text bytes at e = take_rest bytes at ∙ ap (drop at) e
 
--- taking the token that is determined
+-- The iterator returns the token that the ends determine.
 module _ (allowed : FrontmatterAllowed) (edition : Edition) (text : List ℕ) (s : State) (old new : Ahead)
     (view : state 0 (drop old.at text) (mode_in allowed edition) ≡ s) where
   pub takes_classified : KnowsAhead allowed text old → (token : Token) → TakesClassified text old new token
@@ -26,7 +26,7 @@ module _ (allowed : FrontmatterAllowed) (edition : Edition) (text : List ℕ) (s
       takes_part allowed edition text old.at s (known.part token.kind says.classified) view new.at token
       record { utf8 = says.utf8; fits = known.tells.fits } known.tells.bound says.some (says.first edition) says.offset
 
-  -- where none is the same text is left
+  -- If they determine no token, the remaining text is unchanged.
   module _ (says : IsUnclassified text old new) where
     pub still : state 0 (drop new.at text) (mode_in allowed edition) ≡ s
     still = subst (λ p. state 0 (drop p text) (mode_in allowed edition) ≡ s) (sym says.at) view

@@ -1,4 +1,4 @@
--- What an edition has in place of some tokens.
+-- The tokens of an edition, if they differ from the newest edition.
 use Rattle.std.proofs.Common.{◌≡◌, ◌≢◌, ◌<◌, ℕ, suc, Bool, true, false, List, [], ◌∷◌, length, ◌⊎◌, refl, codes, ap}
 use Rattle.std.proofs.Common.{◌∙◌, IsCharBoundary, arith}
 use Rattle.rustc_lexer.specs.{Edition, Token, TokenKind, E2015, E2018, E2021, E2024, Pound, GuardedStrPrefix}
@@ -12,13 +12,13 @@ use Rattle.rustc_lexer.specs.{model.Edition.{token, before_2024, changed, first_
 use Rattle.std.proofs.lemmas.Grind.{common_steps}
 use Rattle.std.specs.Fmt.{decimal, digits}
 
--- the years as words
+-- The years have these decimal digits.
 pub year_words : (decimal 2015 ≡ codes "2015") × (decimal 2018 ≡ codes "2018") × (decimal 2021 ≡ codes "2021")
     × (decimal 2024 ≡ codes "2024")
 unfolding digits
 year_words = (refl, refl, refl, refl)
 
--- whether an older edition has another token in place of one of this kind
+-- Whether an older edition can have another token instead of one of this kind.
 abbrev pub is_newer : TokenKind → Bool
 is_newer GuardedStrPrefix = true
 is_newer RawLifetime = true
@@ -29,13 +29,13 @@ is_newer kind = false
 pub older : (edition : Edition) (cs : List ℕ) (t : Token) → is_newer t.kind ≡ false → changed edition cs t ≡ t
 older edition cs t old = grind (arith, common_steps)
 
--- the token of an edition at the front of a text may be cut off
+-- The first token of a text in an edition ends at a char boundary.
 pub boundary-of : (edition : Edition) (text : List ℕ) (token : Token) → IsText text → 0 < length text
     → token ≡ first_token_in edition text → IsCharBoundary text token.len
 boundary-of edition text token is some e =
     grind (arith, common_steps, e, (edition_grammar edition).boundary text is some)
 
--- ---- tokens of the newest edition that another one has too
+-- ---- tokens that the newest edition shares with another edition
 
 hash_family : family_of 35 ≡ Hash
 unfolding is_emoji unicode_ident
@@ -48,23 +48,23 @@ kept_first (c ∷ s) none =
     unhashed (lexeme-sound (c ∷ s)) (λ e. none c s refl (ap family_of e ∙ hash_family))
     (bytes_of (suc (past_first c s).1) (c ∷ s))
 
--- where no hash stands in front
+-- A text that does not start with a hash has the same first token in 2021 and 2024.
 pub first_newer : (edition : Edition) (text : List ℕ) → BeginsWithNoHash text → (edition ≡ E2024) ⊎ (edition ≡ E2021)
     → first_token text ≡ first_token_in edition text
 unfolding first_token
 first_newer edition text w2 w3 = grind (arith, common_steps, kept_first)
 
--- the two oldest have the same
+-- The two oldest editions have the same tokens.
 pub first_oldest : (edition : Edition) (text : List ℕ) → (edition ≡ E2018) ⊎ (edition ≡ E2015)
     → first_token_in E2018 text ≡ first_token_in edition text
 first_oldest edition text w2 = grind (arith, common_steps)
 
--- a token whose kind each edition keeps
+-- A token whose kind is in all editions is the first token in each of them.
 pub first_by : (guards : Bool) (text : List ℕ) (t : Token) → IsFirstToken text t → is_newer t.kind ≡ false
     → IsFirstBy guards text t
 first_by guards text t is old = grind (arith, common_steps, older)
 
--- a hash before a quote or a hash, where the edition reserves it
+-- A hash before a quote or a hash is a token of two bytes in an edition that reserves it.
 pub guard_by : (text : List ℕ) → IsFirstToken text record { kind = GuardedStrPrefix; len = 2 }
     → IsFirstBy true text record { kind = GuardedStrPrefix; len = 2 }
 guard_by text is =

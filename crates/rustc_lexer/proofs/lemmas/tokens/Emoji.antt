@@ -1,4 +1,4 @@
--- A search of ranges that rise tells whether a character is in one of them.
+-- A binary search in sorted ranges decides whether a character is in one of them.
 use Rattle.std.proofs.Common.{◌≡◌, ℕ, zero, suc, ◌+◌, ◌<◌, ◌≤◌, Bool, true, false, ◌&&◌, not, nat_le, nat_lt, List, []}
 use Rattle.std.proofs.Common.{◌∷◌, length, refl, sym, ap, ◌∙◌, arith, Result, Ok, Err, is_ok, slice_index_or}
 use Rattle.std.proofs.Math.Bool.{and-false, or-true}
@@ -10,7 +10,8 @@ use Rattle.std.proofs.lemmas.Grind.{common_steps}
 use Rattle.rustc_lexer.specs.{Tables.{emoji_ranges, is_emoji}, model.Emoji.{Range, is_within, in_ranges, side}}
 use Rattle.rustc_lexer.specs.laws.Choice.{by_either}
 
--- each range has a member, and begins past the end of the one before, the first at n or later
+-- Whether the ranges are sorted: each is not empty and starts after the end of the previous one, and the first starts
+-- at or after n.
 abbrev rises_from : ℕ → List Range → Bool
 rises_from n [] = true
 rises_from n (r ∷ rs) = nat_le n r.0 && (nat_le r.0 r.1 && rises_from (r.1 + 1) rs)
@@ -23,7 +24,7 @@ is_equal Greater = false
 abbrev index : ℕ → Range → ℕ
 index c r = ordering_index (side c r)
 
--- the character is in the range that lies on neither side of it
+-- A character is in a range exactly if it is neither before nor after it.
 within : (c : ℕ) (r : Range) → is_within r c ≡ is_equal (side c r)
 unfolding is_equal
 within c r = grind (arith, common_steps, lt-leb, ltb-true, and-false, le-leb, ltb-false)
@@ -64,7 +65,7 @@ searched c rs (Err i) up bound found = sym (out_of_all c rs (λ k d lt. outside 
         (λ e. ap is_equal (parts.0 k d (omega arith) (ltb-true k i e)))
         (λ e. ap is_equal (parts.1 k d (ltb-false k i e) lt))
 
--- past ASCII, what the search answers
+-- For a character outside ASCII, the search finds a range exactly if the character is an emoji.
 pub past_ascii : (c : ℕ) (ascii : Bool) (r : Result ℕ ℕ) → ascii ≡ nat_lt c 128 → ascii ≡ false
     → IsSearchInRange r (length emoji_ranges) → IsBinarySearchResult (side c) emoji_ranges r → is_ok r ≡ is_emoji c
 unfolding is_emoji emoji_ranges

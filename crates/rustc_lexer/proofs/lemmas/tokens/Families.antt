@@ -1,4 +1,4 @@
--- The families that characters choose: by the table in ASCII, and by the classes past it.
+-- The family of a character: from the table for ASCII, and from the classes for other characters.
 use Rattle.std.proofs.Common.{◌≡◌, ℕ, ◌<◌, ◌≤◌, ◌==◌, not, true, false, true≢false, List, [], ◌∷◌, get_or, refl, sym}
 use Rattle.std.proofs.Common.{ap, ◌∙◌, arith}
 use Rattle.std.specs.Str.{chars}
@@ -11,7 +11,7 @@ use Rattle.rustc_lexer.specs.{Classes.{is_id_start, is_whitespace}, Tables.{is_e
 use Rattle.rustc_lexer.specs.{laws.LanguageRuns.{among}, model.Lexeme.{family_of, past_first, read_by}}
 use Rattle.rustc_lexer.specs.{model.Scan.{scanned}, laws.Scan.{scanned-same}}
 
--- what the family of the first character reads
+-- The family of the first character decides how the text is read.
 pub by_family : (f : Family) (c : ℕ) (tail : List ℕ) (read : TokenKind × List ℕ) → f ≡ family_of c
     → read ≡ scanned (read_by f c) tail → read ≡ scanned (past_first c) tail
 unfolding past_first
@@ -24,9 +24,9 @@ pub table : (c : ℕ) → c < 128 → get_or FAMILIES.now c Slash ≡ family_of 
 unfolding is_emoji unicode_ident
 table c small = get_or-map-range_with_len family_of 0 128 c c Slash small (omega arith)
 
--- ---- past ASCII
+-- ---- outside ASCII
 
--- no word begins with white space
+-- No word starts with whitespace.
 no_start : (d : ℕ) → is_whitespace d ≡ true → not (is_xid_start d) ≡ true
 unfolding unicode_ident
 no_start d e = among (λ x. not (is_xid_start x))

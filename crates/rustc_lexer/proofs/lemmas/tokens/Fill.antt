@@ -1,5 +1,4 @@
--- What the clauses `count` and `state` of `Tokens::fill`, with those of `as_str` before it, tell of the iterator after
--- it.
+-- The iterator after `Tokens::fill`, from the clauses `count` and `state` and the contract of `as_str`.
 use Rattle.std.proofs.Common.{◌≡◌, ℕ, zero, suc, ◌+◌, ◌<◌, ◌≤◌, [], length, drop, min, refl, sym, ap, subst, ◌∙◌, arith}
 use Rattle.std.proofs.Common.{length-drop, pos_of_ne-zero}
 use Rattle.std.proofs.{lemmas.{List.{nil_from_length}, Str.{IsUtf8-drop}}, Math.Nat.{min-le_right}}
@@ -47,7 +46,8 @@ is_past s is none (suc count) few =
       edition = ap (λ (m : Mode). mode_edition m) takes.mode ∙ (edition-after at.mode token.kind ∙ before.edition);
     }
 
--- `fill` took `count` tokens, and its buffer has room for so many
+-- Holds if `fill` turned the iterator `s` into `t`: it returned `count` tokens, with room for `room` tokens in its
+-- buffer.
 pub record Leaves (s t : State) (room count : ℕ) : Type 0 where
   pub text : IsText t.rest
   pub pending : t.pending ≡ 0

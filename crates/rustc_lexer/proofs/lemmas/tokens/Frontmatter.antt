@@ -1,4 +1,4 @@
--- How a frontmatter opens, by the token that is there otherwise.
+-- A frontmatter opens, or the text has another token there.
 use Rattle.std.proofs.Common.{◌≡◌, ℕ, ◌==◌, true, false, List, [], ◌∷◌, drop, refl, sym, ap, ◌∙◌, arith}
 use Rattle.std.specs.{List.{starts_with}, Str.{chars, IsUtf8}}
 use Rattle.std.proofs.lemmas.{Bool.{eqb-true}, Grind.{common_steps}}
@@ -29,7 +29,7 @@ module _ (edition : Edition) (text : List ℕ) (is : IsUtf8 text) where
   unfolding first_token
   token-dash s e = grind (arith, common_steps, chooses-dash, older)
 
-  -- dashes in bytes and in characters
+  -- Comparing three dashes in bytes gives the same result as in characters.
   dashes : (n : ℕ) → starts_with (λ x y. x == y) (drop (bytes_of n (chars text)) text) (fence 3) ≡
       begins (fence 3) (drop n (chars text))
   unfolding past

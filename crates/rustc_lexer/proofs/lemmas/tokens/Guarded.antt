@@ -1,4 +1,4 @@
--- Guarded strings: what is taken of a text.
+-- Guarded strings: the part of a text that is read.
 use Rattle.std.proofs.Common.{◌≡◌, ℕ, suc, ◌+◌, ◌-◌, Bool, true, false, if◌then◌else◌, List, [], ◌∷◌, length, drop, sym}
 use Rattle.std.proofs.Common.{ap, ◌∙◌, arith, subst, Option, Some, None}
 use Rattle.std.specs.Str.{chars, IsUtf8, IsCharBoundary}
@@ -10,7 +10,7 @@ use Rattle.rustc_lexer.specs.laws.Past.{past-past, past-drop, chars-past, IsUtf8
 use Rattle.rustc_lexer.proofs.lemmas.tokens.{ByteSearch.{begins-byte}, Raw.{hash_cut}}
 use Rattle.rustc_lexer.specs.laws.{Scan.{scanned-after}, State.{state}}
 
--- what follows the n hashes at the front
+-- The text after the n hashes at the front.
 module _ (rest front : List ℕ) (n : ℕ) (is : IsUtf8 rest) (count : n ≡ hash_run (chars rest))
     (cut : front ≡ drop n rest) where
   front_is : front ≡ past n rest
@@ -51,7 +51,7 @@ module _ (rest front : List ℕ) (n : ℕ) (is : IsUtf8 rest) (count : n ≡ has
         string_past n (chars rest)
     string_here e = grind (arith, common_steps, whole_is, taken_is, quote_next)
 
--- a cursor with bytes pending before what is left, where n hashes are next
+-- A cursor with pending bytes, if the remaining text starts with n hashes.
 module _ (pending : ℕ) (left : List ℕ) (mode : Mode) (s : State) (rest : List ℕ) (view : state pending left mode ≡ s)
     (offset : rest ≡ s.rest) (n : ℕ) (count : n ≡ hash_run (chars rest)) where
   here : rest ≡ left

@@ -1,4 +1,4 @@
--- A hash, by the byte after it.
+-- A hash, decided by the byte after it.
 use Rattle.std.proofs.Common.{◌≡◌, ◌≢◌, ℕ, ◌<◌, ◌≤◌, Bool, drop, refl, subst, true, false, true≢false, List, [], ◌∷◌}
 use Rattle.std.proofs.Common.{◌++◌, length, sym, ap, ◌∙◌, arith}
 use Rattle.std.specs.Str.{encode_utf8_all, IsCharBoundary, IsUtf8}
@@ -20,11 +20,11 @@ opens_guarded-small c e = grind (arith, common_steps, or_cases, eqb-true)
 pub hash-small : (c : ℕ) → is_hash c ≡ true → c < 128
 hash-small c e = grind (arith, common_steps, eqb-true)
 
--- a hash alone chooses the family
+-- The hash is the only character of its family.
 hash-code : (c : ℕ) → family_of c ≡ Hash → c ≡ 35
 hash-code c e = grind arith
 
--- a text that begins with no hash, by its first byte
+-- The first byte decides that a text does not start with a hash.
 pub no_hash : (text : List ℕ) (b : ℕ) (rest : List ℕ) → IsUtf8 text → text ≡ b ∷ rest → family_of b ≢ Hash
     → BeginsWithNoHash text
 no_hash text b rest is e other first cs read family =
@@ -43,7 +43,7 @@ no_hash-wide text b rest is e wide = no_hash text b rest is e (λ family. let co
 pub no_hash-empty : (text : List ℕ) → length text ≡ 0 → BeginsWithNoHash text
 no_hash-empty text w1 = grind (arith, common_steps, first, chars-nil)
 
--- a text that begins with a hash
+-- A hash before a quote or a hash is the prefix of a guarded string.
 pub prefix_first : (text : List ℕ) (b : ℕ) (rest : List ℕ) → IsUtf8 text → text ≡ b ∷ rest → b < 128
     → Hash ≡ family_of b → next_is opens_guarded rest ≡ true
     → IsFirstToken text record { kind = GuardedStrPrefix; len = 2 }
@@ -69,7 +69,7 @@ pound_first text b rest is e small family none = first text b rest Pound 0 is e 
     decided inner = by_family Hash b rest _ family
         (grind (arith, common_steps, next_byte opens_guarded opens_guarded-small rest inner, past-zero rest inner))
 
--- the same in each edition
+-- A hash before any other character is a token of one byte, in each edition.
 pub hash_alone : (guards : Bool) (text : List ℕ) (b : ℕ) (rest : List ℕ) → IsUtf8 text → text ≡ b ∷ rest → b < 128
     → Hash ≡ family_of b → next_is opens_guarded rest ≡ false → IsFirstBy guards text record { kind = Pound; len = 1 }
 hash_alone guards text b rest is e small family none =

@@ -1,4 +1,4 @@
--- The two runs of an identifier: what it may go on with, and past an emoji all else.
+-- The two runs of an identifier: the characters that can continue it, and then all characters of a word after an emoji.
 use Rattle.std.proofs.Common.{◌≡◌, ℕ, ◌+◌, ◌==◌, ◌&&◌, not, Bool, true, false, if◌then◌else◌, List, [], ◌∷◌, length}
 use Rattle.std.proofs.Common.{take, drop, refl, sym, ap, ◌∙◌, arith, zero-add, codes, ltb, lt-ltb}
 use Rattle.std.specs.{List.{list_all}, Str.{chars, encode_utf8_all, IsUtf8}}
@@ -24,7 +24,7 @@ pub word_all : (cs : List ℕ) → list_all is_id_continue (take (run_len is_wor
 word_all [] = refl
 word_all (c ∷ cs) = grind (arith, common_steps, word_all cs)
 
--- the run of a word goes on past what an identifier goes on with exactly where an emoji stands there
+-- The run of a word is longer than the run of an identifier exactly if the word contains an emoji.
 pub word_more : (cs : List ℕ) → ltb 0 (run_len is_word_continue (drop (len cs) cs)) ≡ has_emoji cs
 word_more [] = refl
 word_more (c ∷ cs) = grind (arith, common_steps, lt-ltb, word_more cs)
@@ -46,7 +46,7 @@ module _ (tail rest : List ℕ) (is : IsUtf8 tail) (e : rest ≡ past (len (char
       scanned ident_or_unknown_prefix tail
   ident_or_unknown_prefix-valid h = grind (arith, common_steps, rest_is, word_none, word_all)
 
--- a hash and what follows it
+-- A hash and the text after it.
 module _ (tail word : List ℕ) (is : IsUtf8 tail) (e : word ≡ past 1 tail)
     (hash : begins (codes "#") (chars tail) ≡ true) where
   hash_ident-is : begins_hash_ident (chars tail) ≡ next_is is_id_start (chars word)
@@ -67,7 +67,7 @@ module _ (tail word : List ℕ) (is : IsUtf8 tail) (e : word ≡ past 1 tail)
 
 -- ---- a text of one run
 
--- nothing is left past the run exactly where all characters are in the class
+-- No text is left after the run exactly if all characters are in the class.
 pub all_run : (p : ℕ → Bool) (s : List ℕ) → (length (encode_utf8_all (drop (run_len p s) s)) == 0) ≡ list_all p s
 all_run p [] = refl
 all_run p (c ∷ s) = by_either (p c)

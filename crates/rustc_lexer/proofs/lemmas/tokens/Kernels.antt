@@ -1,4 +1,4 @@
--- A run of bytes that pass q, seen a vector at a time through the mask of those that fail it.
+-- A run of bytes that pass q, read one vector at a time, with a mask of the bytes that fail.
 use Rattle.std.proofs.Common.{◌≡◌, ℕ, zero, suc, ◌+◌, ◌<◌, ◌≤◌, Bool, true, false, List, map, length, length-drop, drop}
 use Rattle.std.proofs.Common.{get_or, refl, sym, ap, ◌∙◌, arith}
 use Rattle.std.proofs.lemmas.List.{take_rest, Sums.{prefix_len-le-length, prefix_len-drop_yes, prefix_len-drop_no}}
@@ -12,7 +12,7 @@ use lib.Count.{count_trailing_zeros}
 pub run_bound : (q : ℕ → Bool) (d : List ℕ) (i : ℕ) → i ≤ length d → i + prefix_len q (drop i d) ≤ length d
 run_bound q d i h = omega (arith, prefix_len-le-length q (drop i d), length-drop i d)
 
--- bytes that pass are of the run
+-- Bytes that pass belong to the run.
 through : (q : ℕ → Bool) (d : List ℕ) (i n : ℕ) → i + n ≤ length d → ((k : ℕ) → k < n → q (get_or d (i + k) 0) ≡ true)
     → prefix_len q (drop i d) ≡ n + prefix_len q (drop (i + n) d)
 through q d i zero room all = let e : i ≡ i + 0 = omega arith in omega (arith, ap (λ k. prefix_len q (drop k d)) e)

@@ -1,4 +1,4 @@
--- What the grammar says of the text of a token by its kind, and of the suffix of a literal.
+-- The text of a token matches its kind, and so does the suffix of a literal.
 use Rattle.std.proofs.Common.{◌≡◌, ◌↔◌, ◌≤◌, Bool, true, false, true≢false, List, ℕ, [], ◌∷◌, ◌++◌, codes, drop, take}
 use Rattle.std.proofs.Common.{length, refl, sym, ap, ap₂, arith, ◌∙◌, chars, Ok, Option, Result, Some, None, IsSome}
 use Rattle.std.proofs.lemmas.{List.{append-nil}, Str.{chars-append, chars-encodes, encode_ascii, encodes-append}}
@@ -21,7 +21,7 @@ use Rattle.rustc_lexer.specs.{laws.TheAnswers.{the_raw}, model.Lexeme.{first_tok
 
 -- ---- literals
 
--- a number is not faulty, and its kind says nothing of its text
+-- Holds if a literal of this kind is well-formed, and its kind makes no claim about its text.
 abbrev IsQuietLiteral : LiteralKind → Type 0
 IsQuietLiteral kind = (is_faulty kind ≡ false) × ((n : ℕ) (text : Utf8) → HasText (Literal kind n) text)
 
@@ -29,12 +29,12 @@ number-quiet : {next w : Chars} {kind : LiteralKind} → HasNumberForm next kind
 number-quiet is =
     number-kind IsQuietLiteral (λ base empty. (refl, λ n text. tt)) (λ base empty. (refl, λ n text. tt)) is
 
--- a literal that may have a suffix is not faulty
+-- A literal that can have a suffix is well-formed.
 suffixed : {next w : Chars} {kind : LiteralKind} {may : Bool} → IsLiteralBefore next kind may w → may ≡ true
     → is_faulty kind ≡ false
 suffixed w0 w1 = grind (arith, common_steps, number-quiet)
 
--- a raw string that is not refused is what the check of raw strings accepts
+-- The check of raw strings accepts exactly the well-formed raw strings.
 accepted : {rest cs w : Chars} {o : Option ℕ} {p : ℕ} {r : Result Unit RawStrError} → IsRaw rest o w
     → IsRawAnswer p cs r → r ≡ Ok tt → cs ≡ w ++ rest → IsSome o
 accepted w0 w1 w2 w3 = grind (arith, common_steps, raw-read)
@@ -55,14 +55,15 @@ checked {rest = rest} {o = o} is end p text e =
       accepts,
     )
 
--- the text of a literal is as its kind says
+-- The text of a literal matches its kind.
 literal-text : {next w : Chars} {kind : LiteralKind} {may : Bool} → IsLiteralBefore next kind may w → (rest : Chars)
     → (may ≡ false → rest ≡ []) → (n : ℕ) (text : Utf8) → chars text ≡ w ++ rest → HasText (Literal kind n) text
 literal-text w0 rest w2 n text w5 = grind (arith, common_steps, checked, number-quiet)
 
 -- ---- one token
 
--- what the grammar says of a literal whose suffix begins at this offset
+-- Holds if the literal meets the claims of the grammar about its suffix, which starts at this offset, and about its
+-- text.
 record SaysOfLiteral (kind : LiteralKind) (suffix_start : ℕ) (w : Chars) : Type 0 where
   within : suffix_start ≤ bytes w
   ends : is_faulty kind ≡ true → suffix_start ≡ bytes w
@@ -110,7 +111,7 @@ says-in w0 = grind (arith, common_steps, says)
 suffix : (kind : TokenKind) (w : Chars) → Says kind w → HasSuffix record { kind = kind; len = bytes w }
 suffix kind w w2 = grind (arith, common_steps)
 
--- the suffix of the first token of any text
+-- The suffix of the first token of any text starts within the token.
 pub first_token-suffix : (text : List ℕ) → HasSuffixWithin (first_token text)
 unfolding first_token
 first_token-suffix text = (suffix _ _ (says (lexeme-sound (chars text)))).0
@@ -139,7 +140,7 @@ has_text (Literal kind suffix_start) w text said e f = said.text text f
 has_text Eof w text said e f = ap length (e ∙ ap encode_utf8_all said)
 has_text kind w text said e f = tt
 
--- the text of the token is as its kind says, and so is its suffix
+-- Holds if the text of the token matches its kind, and so does its suffix.
 pub record IsSaid (whole : List ℕ) (token : Token) : Type 0 where
   pub text : HasText token.kind (take token.len whole)
   pub suffix : HasSuffix token

@@ -1,4 +1,4 @@
--- What the kind of each token of a text says of its own text.
+-- The text of each token of a text matches its kind.
 use Rattle.std.proofs.lemmas.Grind.{common_steps}
 use Rattle.std.proofs.Common.{◌≡◌, ℕ, ◌<◌, List, length, refl, arith, subst, All, length-take}
 use Rattle.std.specs.Str.{chars}
@@ -13,7 +13,7 @@ token_at-said mode text is some =
     first-said (subst (AreTokens mode (chars text)) (tokens-cons mode text is some) (tokens-are text mode is)) text is
     refl
 
--- no token of a text is the end
+-- No token of a text is the end of the text.
 pub token_at-not_end : (mode : Mode) (text : List ℕ) → IsText text → 0 < length text → (token_at mode text).kind ≡ Eof
     → ⊥
 token_at-not_end mode text is some e =

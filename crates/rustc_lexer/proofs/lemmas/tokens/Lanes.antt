@@ -1,4 +1,4 @@
--- A mask that is computed lane by lane is held to a test at each of the 256 bytes.
+-- A mask that is computed lane by lane equals a test, if both agree for each of the 256 bytes.
 use Rattle.std.proofs.Common.{◌≡◌, ℕ, leb, cond, ◌%◌, ◌^◌, ◌<◌, ◌≤◌, Bool, true, List, [], ◌∷◌, map, length, refl, ap}
 use Rattle.std.proofs.Common.{ap₂, ◌∙◌, arith, w8, Fits}
 use Rattle.std.proofs.lemmas.{Bool.{agree_below, agree_below_at}, Simd.{mask_l-mod}, List.{length-map}}
@@ -9,7 +9,7 @@ each_byte : (f : ℕ → ℕ) (p : ℕ → Bool) → ((x : ℕ) → x < 256 → 
 each_byte f p same [] fits = refl
 each_byte f p same (x ∷ xs) fits = ap₂ (λ a b. a ∷ b) (same x fits.0.fits) (each_byte f p same xs fits.1)
 
--- the mask of lanes that were computed by f is that of the test, where these agree at each byte
+-- The mask of the lanes that f computed is the mask of the test, if both agree for each byte.
 pub masked_at : (f : ℕ → ℕ) (p : ℕ → Bool) (v z : List ℕ) → length v ≤ 64 → Each1 (Fits w8) v → z ≡ map f v
     → ((x : ℕ) → x < 256 → top 7 (f x) ≡ p x)
     → mask_l (map (top 7) z) % 2 ^ 64 ≡ mask_l (map p v)
@@ -22,6 +22,6 @@ pub masked : (f : ℕ → ℕ) (p : ℕ → Bool) (v z : List ℕ) → length v 
 masked f p v z short fits e all =
     masked_at f p v z short fits e (λ x l. agree_below_at (λ y. top 7 (f y)) p 256 x all l)
 
--- `simd_ge` of a vector with a splat: the splat stands first
+-- Returns one lane of `simd_ge` of a splat and a vector.
 abbrev pub least : ℕ → ℕ → ℕ
 least a b = cond (leb a b) 255 0

@@ -1,4 +1,4 @@
--- The token of a text whose first character is known.
+-- The token of a text with a known first character.
 use Rattle.std.proofs.lemmas.Grind.{common_steps}
 use Rattle.std.proofs.Common.{◌≡◌, ℕ, ◌+◌, ◌-◌, ◌≤◌, [], ◌∷◌, List, length, sym, ap, ◌∙◌, arith, subst}
 use Rattle.std.specs.Str.{chars, IsUtf8, IsCharBoundary}
@@ -8,7 +8,7 @@ use Rattle.rustc_lexer.specs.{model.{Quick.{IsFirstToken}, Scan.{bytes_of, past,
 use Rattle.rustc_lexer.specs.laws.Past.{past-past, past-drop, IsUtf8-past, length-past}
 use Rattle.rustc_lexer.proofs.lemmas.tokens.Kinds.{first_token-suffix}
 
--- the token, once what follows the first character is known
+-- The token, from the result of reading the text after the first character.
 module _ (text tail rest : List ℕ) (c : ℕ) (kind : TokenKind) (is : IsUtf8 text) (cs : chars text ≡ c ∷ chars tail)
     (e : tail ≡ past 1 text) (f : (kind, rest) ≡ scanned (past_first c) tail) where
   abbrev taken : ℕ

@@ -14,7 +14,7 @@ use Rattle.rustc_lexer.specs.laws.Past.{past-zero, past-past, chars-past, length
 use Rattle.rustc_lexer.proofs.lemmas.tokens.Identifiers.{has_emoji, word_runs, word_all, word_more}
 use Rattle.rustc_lexer.specs.laws.Scan.{scanned-and_then, scanned-no, scanned-yes}
 
--- past the first character of a text
+-- The text after its first character.
 module _ (text tail : List ℕ) (c : ℕ) (is : IsUtf8 text) (reads : chars text ≡ c ∷ chars tail)
     (cut : tail ≡ past 1 text) where
   pub first-length : len_utf8 c + length tail ≡ length text
@@ -29,7 +29,7 @@ module _ (text tail : List ℕ) (c : ℕ) (is : IsUtf8 text) (reads : chars text
       → r ≡ scanned lifetime_or_char text
   pick-name r t e = grind (arith, common_steps, past-past)
 
--- a text is shorter past some characters of it exactly where there are some
+-- A text is longer than the text after n of its characters exactly if n is not 0.
 pub shorter-by : (n : ℕ) (text rest : List ℕ) → IsUtf8 text → n ≤ length (chars text) → rest ≡ past n text
     → ltb (length rest) (length text) ≡ ltb 0 n
 shorter-by zero text rest is le cut =
@@ -40,12 +40,12 @@ shorter-by (suc n) text rest is le cut =
     (omega (arith, ap length cut, length-past (suc n) text is, length-le-encodes (take (suc n) (chars text))))
     ∙ sym (lt-ltb 0 (suc n) (omega arith))
 
--- what follows a name
+-- A name without a quote after it ends at its last character.
 past-unquoted_name : (c : ℕ) (name end : List ℕ) → IsUtf8 end → begins (codes "'") (chars end) ≡ false
     → ((unquoted_name c name (chars end)).0, end) ≡ scanned (past_name c name) end
 past-unquoted_name c name end is t = grind (arith, common_steps, past-zero, scanned-no)
 
--- the run of a name was read in two parts
+-- The run of a name, read in two parts.
 module _ (c : ℕ) (rest part end : List ℕ) (is : IsUtf8 rest)
     (first : part ≡ past (run_len is_id_continue (chars rest)) rest)
     (second : end ≡ past (run_len is_word_continue (chars part)) part) where
@@ -104,7 +104,7 @@ module _ (c : ℕ) (rest part end : List ℕ) (is : IsUtf8 rest)
         plain_lifetime-is,
       )
 
--- by its bytes, a character that a quote closes right away
+-- A character is read if the bytes in front are one character and a quote.
 pub at_char : (text : List ℕ) (r : TokenKind × List ℕ) → is_character_at (chars text) ≡ true
     → r ≡ scanned (literal char_body) text → r ≡ scanned lifetime_or_char text
 at_char text r t e = grind (arith, common_steps)

@@ -11,31 +11,31 @@ use Rattle.rustc_lexer.specs.laws.LanguageRuns.{digit-small as ascii_digit-small
 use Rattle.rustc_lexer.specs.laws.Past.{IsUtf8-past, chars-past, past-past, past-zero}
 use Rattle.rustc_lexer.specs.laws.Scan.{scanned-and_then, scanned-read_as}
 
--- digits and underscores are in ASCII
+-- Digits and underscores are ASCII.
 pub digit-small : (b : ℕ) → or_underscore is_ascii_digit b ≡ true → b < 128
 digit-small b e = grind (arith, common_steps, eqb-true)
 
 pub hexdigit-small : (b : ℕ) → or_underscore is_ascii_hexdigit b ≡ true → b < 128
 hexdigit-small b e = grind (arith, common_steps, eqb-true)
 
--- whether the next character is in a class that U+0000 is not in, which the code sees at the end
+-- The code reads U+0000 at the end of a text; for a class without U+0000 it gets the same result.
 pub next_is-first : (p : ℕ → Bool) (s : List ℕ) → p 0 ≡ false → next_is p s ≡ p (get_or s 0 0)
 next_is-first p s w2 = grind (arith, common_steps)
 
--- U+0000, which the code sees at the end, goes with a fraction
+-- U+0000, which the code reads at the end, does not prevent a fraction.
 pub is_no_fraction-zero : is_no_fraction 0 ≡ false
 is_no_fraction-zero = is_xid_start-ascii 0 (omega arith)
 
--- a digit in front, by its byte
+-- The first byte decides whether the first character is a digit.
 pub digit_first : (text : List ℕ) → IsUtf8 text → is_ascii_digit (get_or (chars text) 0 0) ≡ next_is is_ascii_digit text
 digit_first text is = sym (next_is-first is_ascii_digit (chars text) refl)
     ∙ next_byte is_ascii_digit ascii_digit-small text is
 
--- a dot begins no exponent
+-- No exponent starts with a dot.
 pub dot_only : (s : List ℕ) → begins (46 ∷ []) s ≡ true → next_is is_exponent_letter s ≡ false
 dot_only s e = grind (arith, common_steps, eqb-true)
 
--- a run of digits and underscores is the underscores at its front, and what follows them
+-- A run of digits and underscores is its leading underscores and the run after them.
 module _ (is_digit : ℕ → Bool) (none : is_digit 95 ≡ false) where
   run_len-past : (s : List ℕ) → run_len (or_underscore is_digit) s ≡ run_len is_underscore s + run_len
       (or_underscore is_digit) (drop (run_len is_underscore s) s)

@@ -1,4 +1,4 @@
--- A pattern, of which four bytes are looked for at 16 offsets at a time.
+-- A search for a pattern, which compares four of its bytes at 16 offsets at a time.
 use Rattle.std.proofs.Common.{◌≡◌, ℕ, zero, suc, ◌+◌, ◌-◌, ◌<◌, ◌≤◌, ◌^◌, ◌==◌, ◌&&◌, Bool, true, false, true≢false}
 use Rattle.std.proofs.Common.{List, [], ◌∷◌, map, length, drop, drop-drop, length-drop, get_or, refl, sym, ap, ap₂, ◌∙◌}
 use Rattle.std.proofs.Common.{subst, arith, bit_and, inl, inr}
@@ -11,7 +11,7 @@ use Rattle.rustc_lexer.specs.model.{Ends.{bit}, Frontmatter.{first}, Least.{more
 use Rattle.rustc_lexer.specs.laws.{Least.{more-zero, offset-on, one_more-more}}
 use Rattle.rustc_lexer.proofs.lemmas.tokens.Bits.{bit-and, bit-zero, lowest_in, lowest_is}
 
--- a mask of the first 16 bytes
+-- A mask of the first 16 bytes has 16 bits.
 pub few : (p : ℕ → Bool) (bytes : List ℕ) (mask : ℕ) → 16 ≤ length bytes → mask ≡ mask_l (map p (chunk 0 16 bytes))
     → mask < 2 ^ 16
 few p bytes mask inside e =
@@ -20,11 +20,11 @@ few p bytes mask inside e =
     subst (λ n. mask < 2 ^ n) long
     (subst (λ m. m < 2 ^ length (map p (chunk 0 16 bytes))) (sym e) (mask_l-lt (map p (chunk 0 16 bytes))))
 
--- the pattern begins nowhere below `n`
+-- Holds if the pattern has no match before offset `n`.
 abbrev pub AreApart : List ℕ → List ℕ → ℕ → Type 0
 AreApart pattern bytes n = (k : ℕ) → k < n → begins pattern (drop k bytes) ≡ false
 
--- the loop has `left` still to look at
+-- Holds at the start of each iteration: `left` is the part that has not been searched, and there is no match before it.
 pub record IsLooking (pattern bytes left : List ℕ) : Type 0 where
   pub inside : length left ≤ length bytes
   pub left_is : left ≡ drop (length bytes - length left) bytes
@@ -44,7 +44,7 @@ unfolding bit
 near x some small =
     lowest_in x 16 some (omega (arith, small)) (λ k far. ap (λ n. n == 1) (bit_at_above x 16 k small far))
 
--- a byte of what begins with the pattern
+-- Each byte of a match equals the byte of the pattern.
 begins-at : (pattern s : List ℕ) (i : ℕ) → begins pattern s ≡ true → i < length pattern
     → is_byte (get_or pattern i 0) (get_or s i 0) ≡ true
 begins-at [] s i e l = absurd (omega (arith, l))
@@ -52,13 +52,13 @@ begins-at (c ∷ cs) [] i e l = absurd (true≢false (sym e))
 begins-at (c ∷ cs) (d ∷ s) zero e l = (and_parts (d == c) (begins cs s) e).0
 begins-at (c ∷ cs) (d ∷ s) (suc i) e l = begins-at cs s i (and_parts (d == c) (begins cs s) e).1 (omega arith)
 
--- whether four bytes of a pattern are in their places from an offset on
+-- Whether four bytes of the pattern match at an offset.
 abbrev pub four_at : ℕ → ℕ → ℕ → ℕ → ℕ → List ℕ → ℕ → Bool
 four_at first second third last span bytes k =
     ((is_byte first (get_or bytes k 0) && is_byte last (get_or bytes (span + k) 0)) && is_byte second
     (get_or bytes (1 + k) 0)) && is_byte third (get_or bytes (2 + k) 0)
 
--- where the pattern begins, they are
+-- If the pattern matches at an offset, so do the four bytes.
 pub candidate : (first second third last span c : ℕ) (more left : List ℕ) → first ≡ c → second ≡ get_or more 0 0
     → third ≡ get_or more 1 0 → last ≡ get_or more (length more - 1) 0 → span ≡ length more
     → 2 ≤ length more → (found : ℕ) → ((k : ℕ) → k < 16 → bit found k ≡ four_at first second third last span left k)
@@ -77,7 +77,7 @@ candidate first second third last span c more left e1 e2 e3 e4 e5 some found are
     let four = place (suc (length more - 1)) (span + k) last (omega (arith, some)) (omega (arith, e5, some)) e4 in
     are k l ∙ rw (one, four, two, three) refl
 
--- a look at 16 offsets
+-- The comparison at 16 offsets.
 module _ (first second third last span : ℕ) (bytes : List ℕ) (firsts : ℕ) (firsts_are : (k : ℕ) → k < 16
     → bit firsts k ≡ is_byte first (get_or bytes k 0)) where
   seen : (n : ℕ) (s : List ℕ) (k : ℕ) → s ≡ drop n bytes → get_or s k 0 ≡ get_or bytes (n + k) 0
@@ -114,7 +114,7 @@ module _ (first second third last span : ℕ) (bytes : List ℕ) (firsts : ℕ) 
         ∙ ap₂ (λ a b. a && b) (both_are k l) (seconds_are k l ∙ ap (is_byte second) (seen 1 right k right_is)))
         (thirds_are k l ∙ ap (is_byte third) (seen 2 next k next_is))
 
--- the loop goes on, or ends
+-- The loop continues, or ends.
 module _ (pattern bytes left : List ℕ) (at : IsLooking pattern bytes left) (found : ℕ)
     (stands : (k : ℕ) → k < 16 → begins pattern (drop k left) ≡ true → bit found k ≡ true) where
   abbrev here : ℕ
@@ -150,7 +150,7 @@ module _ (pattern bytes left : List ℕ) (at : IsLooking pattern bytes left) (fo
       let less = near found some small in
       up_to _ (omega arith) low.least
 
--- no byte that is passed over begins the pattern
+-- The bytes that were skipped contain no start of a match.
 pub apart_first : (pattern s : List ℕ) (n : ℕ) → n ≤ length s → AreApart pattern s n
     → first pattern s ≡ more n (first pattern (drop n s))
 apart_first pattern s zero le apart = more-zero (first pattern s)

@@ -1,15 +1,15 @@
--- Lexing from the left: the tokens so far are the first ones of the text.
+-- Lexing from left to right: the tokens so far are the first tokens of the text.
 use Rattle.std.proofs.Common.{◌≡◌, ℕ, zero, suc, ◌+◌, ◌<◌, ◌≤◌, List, [], ◌∷◌, ◌++◌, length, take, drop, refl, sym, ap}
 use Rattle.std.proofs.Common.{◌∙◌, arith, length-drop, length-append, IsUtf8, IsCharBoundary, take_all}
 use Rattle.std.proofs.lemmas.{List.{drop_all}, Str.{IsCharBoundary-from_drop}, Grind.{common_steps}}
 use Rattle.rustc_lexer.specs.{Token, Classes.{IsText}, Locality.{Grammar, IsGrammar}, Tokens.{bound, tokens_by}}
 use Rattle.rustc_lexer.specs.laws.Cuts.{IsCutAt, at_bound, tokens-cons, tokens-nil}
 
--- a grammar that stays gives the same tokens
+-- A stepper with the same grammar gives the same tokens.
 pub same_first : {a b : Grammar} → a ≡ b → a.first ≡ b.first
 same_first same = ap (λ (g : Grammar). g.first) same
 
--- the list's item number n, where x comes after the first n
+-- Holds if x is item n of the list.
 pub record IsNext (ts : List Token) (n : ℕ) (x : Token) : Type 0 where
   pub number : n < length ts
   pub more : take (suc n) ts ≡ take n ts ++ x ∷ []
@@ -21,7 +21,7 @@ next-from_drop [] (suc n) x rest e = absurd (let no : 0 ≡ suc (length rest) = 
 next-from_drop (t ∷ ts) zero x rest e = rw e record { number = omega arith; more = refl; end = omega arith }
 next-from_drop (t ∷ ts) (suc n) x rest e = grind (arith, common_steps, next-from_drop ts n x rest e)
 
--- the items are the first tokens of the text, and end at `offset`
+-- Holds if the items are the first tokens of the text, and end at `offset`.
 pub record IsLexedTo (first : List ℕ → Token) (text : List ℕ) (items : List Token) (offset : ℕ) : Type 0 where
   pub number : length items ≤ length (tokens_by first text)
   pub items_are : items ≡ take (length items) (tokens_by first text)
@@ -62,7 +62,7 @@ pub none_more : (all : List Token) (count : ℕ) → drop count all ≡ [] → l
 none_more all count none = let n = length-drop count all in let m = ap (λ (ts : List Token). length ts) none in
     omega arith
 
--- past the end of the text no token is left
+-- After the end of the text there are no tokens.
 pub none_past : {first : List ℕ → Token} (law : IsGrammar first) (text : List ℕ) (n : ℕ) → IsText text
     → length text ≤ bound (tokens_by first text) n
     → length (tokens_by first text) ≤ n
@@ -74,7 +74,7 @@ pub lexed_whole : {first : List ℕ → Token} (law : IsGrammar first) (text : L
 lexed_whole {first} law text items offset is at all = at.items_are ∙ take_all (length items) (tokens_by first text)
     (none_past law text (length items) is (omega (arith, at.offset_is)))
 
--- what a step on the rest of a text gives, by the grammar that the stepper had at first
+-- A step returns the token at the front of the rest, if the grammar is still the first one.
 pub stepped : {first now : List ℕ → Token} (text : List ℕ) (offset : ℕ) {left : List ℕ} {token : Token}
     → token ≡ now left → now ≡ first → left ≡ drop offset text → token ≡ first (drop offset text)
 stepped {first} {now} text offset {left} {token} e f h = e ∙ (ap (λ (g : List ℕ → Token). g left) f ∙ ap first h)

@@ -1,4 +1,4 @@
--- Tokens that are decided by their bytes.
+-- Tokens that can be decided by their bytes.
 use Rattle.std.proofs.Common.{◌≡◌, ℕ, ◌+◌, ◌-◌, ◌<◌, ◌≤◌, ◌==◌, not, Bool, true, false, if◌then◌else◌, List, ◌∷◌}
 use Rattle.std.proofs.Common.{length, drop, codes, refl, sym, ap, ◌∙◌, arith, subst, length-drop}
 use Rattle.std.specs.{List.{prefix_len}, Str.{chars, IsUtf8}}
@@ -26,9 +26,9 @@ emoji-ascii : (b : ℕ) → b < 128 → is_emoji b ≡ false
 unfolding is_emoji
 emoji-ascii b l = rw (lt-leb 128 b l) refl
 
--- ---- a word is an identifier where nothing follows it that ends a prefix
+-- ---- a word is an identifier if the character after it does not end a prefix
 
--- what ends a prefix, one by one
+-- Holds if the character ends no prefix: it is neither a hash nor a quote.
 record NoPrefixEnd (c : ℕ) : Type 0 where
   hash : (c == 35) ≡ false
   double : (c == 34) ≡ false
@@ -40,7 +40,7 @@ no_prefix_end c e = grind (arith, common_steps, or_parts)
 no_raw : (s : List ℕ) → next_is ends_prefix s ≡ false → next_is opens_raw s ≡ false
 no_raw s w1 = grind (arith, common_steps, no_prefix_end)
 
--- nothing goes on with what follows the letter
+-- Holds if the text after a letter does not turn the letter into the prefix of a raw identifier or a literal.
 record IsPlain (s : List ℕ) : Type 0 where
   no_ident : begins_hash_ident s ≡ false
   no_char : begins (codes "'") s ≡ false
@@ -64,7 +64,7 @@ turned-emoji w0 is e = grind (arith, common_steps, chars-nil, or_parts, ltb-true
 
 -- ---- the tokens
 
--- a token that begins with a byte of ASCII and takes n more bytes
+-- A token that starts with an ASCII byte and has n more bytes.
 module _ (b : ℕ) (rest : List ℕ) (kind : TokenKind) (n : ℕ) (is : IsUtf8 (b ∷ rest)) (small : b < 128)
     (inside : n ≤ length rest) (g : (kind, drop n rest) ≡ scanned (past_first b) rest) where
   taken : IsFirstToken (b ∷ rest) record { kind = kind; len = 1 + n }
@@ -74,7 +74,7 @@ module _ (b : ℕ) (rest : List ℕ) (kind : TokenKind) (n : ℕ) (is : IsUtf8 (
       subst (λ k. IsFirstToken text record { kind = kind; len = k }) len
       (made text rest (drop n rest) b kind is (chars-ascii b rest is small) (past-ascii b rest is small) g)
 
--- the same of a text
+-- The same holds for a text that starts with this byte.
 pub first : (text : List ℕ) (b : ℕ) (rest : List ℕ) (kind : TokenKind) (n : ℕ) → IsUtf8 text → text ≡ b ∷ rest → b < 128
     → n ≤ length rest → (IsUtf8 rest → (kind, drop n rest) ≡ scanned (past_first b) rest)
     → IsFirstToken text record { kind = kind; len = 1 + n }
@@ -83,7 +83,7 @@ first text b rest kind n is e small inside g =
     subst (λ xs. IsFirstToken xs record { kind = kind; len = 1 + n }) (sym e)
     (taken b rest kind n whole small inside (g (IsUtf8-ascii b rest whole small)))
 
--- a word and what no word goes on with
+-- A word whose next byte does not change it is an identifier.
 pub word_first : (text : List ℕ) (b : ℕ) (rest : List ℕ) (end : ℕ) → IsUtf8 text → text ≡ b ∷ rest → b < 128
     → Word ≡ family_of b → end ≡ prefix_len is_continue_byte rest → not (next_is turns_word (drop end rest)) ≡ true
     → IsFirstToken text record { kind = Ident; len = 1 + end }
@@ -127,7 +127,7 @@ symbol_first text b rest kind is e small family same = first text b rest kind 0 
     decided inner = by_family Symbol b rest _ family
         (ap (λ (k : TokenKind). (k, rest)) same ∙ sym (scanned-gives (symbol_kind b) rest inner))
 
--- no edition has another token in place of a symbol
+-- Every edition has the same symbols.
 symbol-kept : (b : ℕ) → is_newer (symbol_kind b) ≡ false
 symbol-kept b = not-true _ (by_symbol (λ (kind : TokenKind). not (is_newer kind)) symbols b refl refl)
 
@@ -137,7 +137,7 @@ pub symbol_by : (guards : Bool) (text : List ℕ) (b : ℕ) (rest : List ℕ) (k
 symbol_by guards text b rest kind is e small family same =
     first_by guards text _ (symbol_first text b rest kind is e small family same) (ap is_newer same ∙ symbol-kept b)
 
--- an identifier, by the byte after it
+-- The byte after an identifier decides that it is an identifier.
 pub ident_or_unknown_prefix_ends : (tail rest bytes : List ℕ) → IsUtf8 tail → IsUtf8 rest
     → rest ≡ past (run_len is_id_continue (chars tail)) tail → bytes ≡ rest → not (next_is turns_word bytes) ≡ true
     → (Ident, rest) ≡ scanned ident_or_unknown_prefix tail

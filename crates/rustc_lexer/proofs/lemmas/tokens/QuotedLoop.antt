@@ -1,4 +1,4 @@
--- The loops over a quoted text.
+-- The loops over quoted text.
 use Rattle.std.proofs.Common.{◌≡◌, ◌≢◌, ℕ, suc, ◌+◌, not, Bool, true, false, List, [], ◌∷◌, length, drop, refl, sym, ap}
 use Rattle.std.proofs.Common.{◌∙◌, arith, ◌<◌, Option, MatchOption, Bor}
 use Rattle.std.specs.Str.{chars, IsUtf8}
@@ -8,18 +8,18 @@ use Rattle.rustc_lexer.specs.model.{Scan.{begins, past, run_len, scanned}, Quote
 use Rattle.rustc_lexer.specs.laws.Scan.{run_len-stop}
 use Rattle.rustc_lexer.specs.laws.Past.{past-zero, past-past, past-two, chars-past, IsUtf8-past, past_le}
 
--- what follows the run of a class begins with no character of it
+-- The character after the run of a class is not in the class.
 pub run_fails : (p : ℕ → Bool) (text left s : List ℕ) (c : ℕ) → IsUtf8 text → left ≡ past (run_len p (chars text)) text
     → chars left ≡ c ∷ s → p c ≡ false
 run_fails p text left s c is e reads =
     run_len-stop p (chars text) c s (sym (ap chars e ∙ chars-past (run_len p (chars text)) text is) ∙ reads)
 
--- one character more
+-- Skipping n + 1 characters is skipping one and then n.
 pub past-suc : (n : ℕ) (text : List ℕ) → IsUtf8 text → past (suc n) text ≡ past n (past 1 text)
 past-suc n text is = let one : suc n ≡ 1 + n = omega arith in
     ap (λ (k : ℕ). past k text) one ∙ sym (past-past n 1 text is)
 
--- up to the first quote or backslash
+-- Whether a character is neither a quote nor a backslash.
 abbrev plain : ℕ → Bool
 plain c = not (is_byte2 34 92 c)
 
@@ -37,7 +37,7 @@ module _ (text stop : List ℕ) (is : IsUtf8 text) (cut : stop ≡ past (run_len
   pub at_backslash : (c : ℕ) (s : List ℕ) → chars stop ≡ c ∷ s → (c ≡ 34 → ⊥) → c ≡ 92
   at_backslash c s reads other = grind (arith, common_steps, run_fails, or_cases, not-false, eqb-true)
 
--- one character and a quote
+-- One character and a quote.
 module _ (text tail : List ℕ) (c : ℕ) (is : IsUtf8 text) (reads : chars text ≡ c ∷ chars tail)
     (cut : tail ≡ past 1 text) where
   lone-is : (b : Bool) → c ≢ 92 → begins (39 ∷ []) (chars tail) ≡ b → is_lone (chars text) ≡ b

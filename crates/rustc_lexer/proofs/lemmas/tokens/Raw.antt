@@ -16,11 +16,11 @@ use Rattle.rustc_lexer.specs.laws.Scan.{bytes-run, length-run}
 use Rattle.rustc_lexer.specs.laws.Past.{past-zero, past-past, past-drop, chars-past, IsUtf8-past, length-past}
 use Rattle.rustc_lexer.specs.laws.Fences.{skip_run}
 
--- past k characters, a quote, and h characters
+-- The offsets of k characters, a quote, and h characters add up.
 more-quote : (k h : ℕ) (o : Option ℕ) → more k (one_more (more h o)) ≡ more (suc k + h) o
 more-quote k h o = grind (arith, common_steps)
 
--- the characters of a class without quotes are passed over
+-- Characters of a class without quotes can be skipped.
 module _ (p : ℕ → Bool) (none : (c : ℕ) → p c ≡ true → is_quote c ≡ false) where
   skip-offset : (test : List ℕ → Bool) → ((c : ℕ) (s : List ℕ) → is_quote c ≡ false → test (c ∷ s) ≡ false)
       → (s : List ℕ) → least_offset test s ≡ more (run_len p s) (least_offset test (drop (run_len p s) s))
@@ -33,14 +33,14 @@ module _ (p : ℕ → Bool) (none : (c : ℕ) → p c ≡ true → is_quote c �
 hash-no_quote : (c : ℕ) → is_hash c ≡ true → is_quote c ≡ false
 hash-no_quote c e = rw (eqb-true c 35 e) refl
 
--- a quote in front, and what follows it
+-- A text that starts with a quote is the quote and the text after it.
 pub quote_front : (s left : List ℕ) → begins (34 ∷ []) s ≡ true → left ≡ drop 1 s → s ≡ 34 ∷ left
 quote_front s left w2 w3 = grind (arith, common_steps, eqb-true, and_parts)
 
 no_quote-nil : (s : List ℕ) → begins (34 ∷ []) s ≡ false → next_is is_no_quote s ≡ false → s ≡ []
 no_quote-nil s w1 w2 = grind (arith, common_steps)
 
--- what follows the first quote, once what follows the characters before it is known
+-- The text after the first quote follows the characters before it and the quote.
 pub past_quote-is : {B : Type 0} (now : B → List ℕ) (rest mid : List ℕ) (o : Option B) → IsUtf8 rest
     → mid ≡ past (run_len is_no_quote (chars rest)) rest → length mid ≤ length rest
     → MatchOption o (begins (34 ∷ []) (chars mid) ≡ false) (λ tail. (begins (34 ∷ []) (chars mid) ≡ true)
@@ -65,9 +65,9 @@ past_quote-is now rest mid (Some tail) is e le h =
       omega arith,
     )
 
--- past a run without quotes, a quote, and its hashes
+-- After a run without quotes, a quote, and its hashes.
 module _ (v w : List ℕ) (at_quote : drop (run_len is_no_quote v) v ≡ 34 ∷ w) where
-  -- a test that fails at each other character
+  -- A test that fails at each character except a quote.
   module _ (test : List ℕ → Bool) (fails : (c : ℕ) (s : List ℕ) → is_quote c ≡ false → test (c ∷ s) ≡ false) where
     to-quote : least_offset test v ≡ more (run_len is_no_quote v) (least_offset test (34 ∷ w))
     to-quote = skip-offset is_no_quote (λ c. not-true (is_quote c)) test fails v
@@ -98,7 +98,8 @@ closes-fails n c s e = ap (λ b. b && nat_le n (hash_run s)) e
 counts-fails : (m c : ℕ) (s : List ℕ) → 0 < m → is_quote c ≡ false → (quote_hashes (c ∷ s) == m) ≡ false
 counts-fails m c s some e = ap (λ (b : Bool). (if b then hash_run s else 0) == m) e ∙ ne_eqb 0 m (λ f. omega arith)
 
--- `found` hashes at most stand after a quote of what was passed, and `end` is where the first such quote ends
+-- Holds at the start of each iteration: `found` is the maximum number of hashes after a quote that was read, and `end`
+-- is the end of the first quote with `found` hashes.
 pub record Searching (n before : ℕ) (text left : List ℕ) (found : ℕ) (end : Option ℕ) : Type 0 where
   pub taken : ℕ
   pub inside : length left ≤ length text
@@ -115,7 +116,7 @@ pub hash_len : (text rest : List ℕ) → IsUtf8 text → rest ≡ past (hash_ru
     → length text - length rest ≡ hash_run (chars text)
 hash_len = length-run is_hash (λ c e. let f = eqb-true c 35 e in omega arith)
 
--- some of the hashes at the front, which are one byte each
+-- The first n hashes have one byte each.
 module _ (rest : List ℕ) (is : IsUtf8 rest) (n : ℕ) (few : n ≤ hash_run (chars rest)) where
   hash_bytes_are : bytes_of n (chars rest) ≡ n
   hash_bytes_are = bytes-run is_hash (λ c e. let f = eqb-true c 35 e in omega arith) n (chars rest) few
@@ -127,7 +128,7 @@ module _ (rest : List ℕ) (is : IsUtf8 rest) (n : ℕ) (few : n ≤ hash_run (c
   hash_boundary = IsCharBoundary-from_drop rest n (let l = length-past n rest is in let b = hash_bytes_are in
       omega arith) (subst IsUtf8 (sym hash_cut) (IsUtf8-past n rest is))
 
--- one turn of the loop: `tail` follows the next quote, and `next` its hashes
+-- One iteration of the loop: `tail` is the text after the next quote, and `next` the text after its hashes.
 module _ (n before : ℕ) (text left tail next : List ℕ) (found : ℕ) (end : Option ℕ) (is : IsUtf8 text)
     (at : Searching n before text left found end)
     (quote : drop (run_len is_no_quote (chars left)) (chars left) ≡ 34 ∷ chars tail)
@@ -172,7 +173,7 @@ module _ (n before : ℕ) (text left tail next : List ℕ) (found : ℕ) (end : 
       (most-past (chars left) (chars tail) quote ∙ ap (λ s. max (hash_run (chars tail)) (most_hashes s))
       (sym next_reads))
 
-  -- the quote has too few hashes to close
+  -- The quote has too few hashes to close the string.
   module _ (few : length tail - length next < n) (shorter : length next ≤ length text) where
     on : (to : ℕ) (o : Option ℕ) → found ≤ to → hash_run (chars tail) ≤ to → max found (hash_run (chars tail)) ≡ to
         → o ≡ quote_end before (chars text) (quote_if to (chars text)) → Searching n before text next to o
@@ -208,7 +209,7 @@ module _ (n before : ℕ) (text left tail next : List ℕ) (found : ℕ) (end : 
         subst (λ (m : ℕ). Searching n before text next m (Some (before + (length text - length tail)))) (sym count)
         (on h (Some (before + (length text - length tail))) (omega arith) (omega arith) (omega arith) ends)
 
-  -- the quote closes
+  -- The quote closes the string.
   module _ (enough : n ≤ length tail - length next) where
     enough_hashes : n ≤ hash_run (chars tail)
     enough_hashes = let is_count = count in omega arith
@@ -238,7 +239,7 @@ past-all : (text : List ℕ) → past (length (chars text)) text ≡ []
 unfolding past
 past-all text = ap encode_utf8_all (drop-length (chars text))
 
--- no quote is left
+-- If no quote is left, the string is unterminated.
 pub never_closed : (n before : ℕ) (text left : List ℕ) (found : ℕ) (end : Option ℕ)
     → Searching n before text left found end → drop (run_len is_no_quote (chars left)) (chars left) ≡ []
     → (Err (NoTerminator n found end), []) ≡ scanned (raw_text n before) text

@@ -1,4 +1,4 @@
--- What a raw string is read as, from what its parts are.
+-- The result of reading a raw string, from the results for its parts.
 use Rattle.std.proofs.Common.{◌≡◌, ℕ, suc, ◌+◌, ◌-◌, ◌≤◌, ◌==◌, ◌↔◌, IsTrue, slice_index, true, List, [], ◌∷◌, length}
 use Rattle.std.proofs.Common.{take, drop, sym, ap, ◌∙◌, arith, length-take, length-drop, Result}
 use Rattle.std.specs.Str.{chars, encode_utf8_all, IsUtf8}
@@ -10,7 +10,7 @@ use Rattle.rustc_lexer.specs.laws.Past.{past-zero, past-past, chars-past, IsUtf8
 use Rattle.rustc_lexer.proofs.lemmas.tokens.Raw.{hash_len, quote_front}
 use Rattle.rustc_lexer.specs.laws.Scan.{scanned-after}
 
--- `from` follows the first hashes, and `body` the quote after them
+-- `from` is the text after the first hashes, and `body` the text after the quote.
 module _ (prefix : ℕ) (text from body : List ℕ) (is : IsUtf8 text) (from_is : from ≡ past (hash_run (chars text)) text)
     (opens : begins (34 ∷ []) (chars from) ≡ true) (body_is : body ≡ past 1 from) where
   opening : scanned (raw_read prefix) text ≡
@@ -33,7 +33,7 @@ module _ (prefix : ℕ) (text from body : List ℕ) (is : IsUtf8 text) (from_is 
       ∙ (ap (λ (k : ℕ). scanned (raw_text k (prefix + k + 1)) body) count
       ∙ (ap (λ (k : ℕ). scanned (raw_text (hash_run (chars text)) k) body) before ∙ sym opening))
 
--- the check
+-- The check of a raw string.
 module _ (text rest : List ℕ) (p : ℕ) (is : IsUtf8 text) (rest_is : rest ≡ past p text) where
   pub prefix_fits : StartsRaw text p → p + length rest ≤ length text
   prefix_fits starts =
@@ -47,11 +47,11 @@ module _ (text rest : List ℕ) (p : ℕ) (is : IsUtf8 text) (rest_is : rest ≡
         length-drop,
       )
 
-  -- the test of the letter
+  -- The test for the letter r decides whether the text starts with a prefix of p + 1 characters.
   pub starts_is : (q : ℕ) → q ≡ suc p → IsTrue (slice_index (chars rest) 0 == 114) ↔ StartsRaw text q
   starts_is q same = grind (arith, common_steps, chars-past)
 
--- past more characters than a text has, and past none
+-- A text without characters is also the text after its first n characters.
 pub past-nil : (n : ℕ) (text : List ℕ) → IsUtf8 text → chars text ≡ [] → past n text ≡ text
 unfolding past
 past-nil n text is none = ap (λ cs. encode_utf8_all (drop n cs)) none

@@ -1,4 +1,4 @@
--- The ends of runs, what is known past them, and the tokens that are classified by them.
+-- The ends of runs in a block, which of them are known, and the tokens that they determine.
 use Rattle.std.proofs.Common.{◌≡◌, ℕ, zero, suc, ◌+◌, ◌-◌, ◌/◌, nat_lt, ◌^◌, bit_and, ◌<◌, ◌≤◌, Bool, true, false}
 use Rattle.std.proofs.Common.{true≢false, not, ◌&&◌, ◌||◌, List, ◌∷◌, length, drop, get_or, refl, sym, ap, ap₂, subst}
 use Rattle.std.proofs.Common.{◌∙◌, arith, length-drop, inl, inr, Option, Some, None, is_some}
@@ -25,7 +25,8 @@ use Rattle.rustc_lexer.proofs.lemmas.tokens.Quick.{word_first, space_first, symb
 pub no_ends : (text : List ℕ) → IsEnds text 0
 no_ends text j set = absurd (true≢false (sym set ∙ bit-zero j))
 
--- the ends of runs of the first n bytes, by the bits of those that stop a word, and of those that stop white space
+-- The ends of runs among the first n bytes; `a` marks the bytes outside words, and `b` the bytes that are not
+-- whitespace.
 module _ (text : List ℕ) (n a b edges : ℕ) (few : n ≤ 64) (inside : n ≤ length text) (small : a < 2 ^ 64)
     (small_too : b < 2 ^ 64)
     (of_words : (k : ℕ) → k < n → bit a k ≡ not (is_continue_byte (get_or text k 0))) (of_spaces : (k : ℕ) → k < n
@@ -53,21 +54,21 @@ module _ (text : List ℕ) (n a b edges : ℕ) (few : n ≤ 64) (inside : n ≤ 
             ∙ (rw (lt-ltb k n (omega arith)) (and-true (bit edges k)) ∙ is_at k (omega arith)),
       )
 
--- ---- what is known past an end
+-- ---- the known ends after an offset
 
 pub past_end : (text : List ℕ) (m from low less : ℕ) → AreEndsPast text from m → IsLowest m low
     → ((k : ℕ) → k ≤ low → bit less k ≡ false) → ((k : ℕ) → low < k → bit less k ≡ bit m k) → AreEndsPast text low less
 past_end text m from low less are lowest gone others j set = grind (arith, common_steps, cases_lt)
 
--- ---- where a run ends
+-- ---- the end of a run
 
--- the first n bytes behind b go on with b, and the byte past them does not
+-- Holds if the first n bytes after b continue the run of b, and the next byte does not.
 record RunsTo (b : ℕ) (rest : List ℕ) (n : ℕ) : Type 0 where
   room : n < length rest
   on : (k : ℕ) → k < n → goes_on (get_or (b ∷ rest) k 0) (get_or rest k 0) ≡ true
   end : goes_on (get_or (b ∷ rest) n 0) (get_or rest n 0) ≡ false
 
--- the lowest end past an offset, by the ends from a block before it on
+-- The lowest end after an offset, from the known ends of a block that starts at or before it.
 module _ (text : List ℕ) (at block ends low n : ℕ) (behind : block ≤ at)
     (known : AreEndsPast (drop block text) (at - block) ends)
     (lowest : IsLowest ends low) (e : at + suc n ≡ block + low) where
@@ -94,7 +95,7 @@ module _ (text : List ℕ) (at block ends low n : ℕ) (behind : block ≤ at)
         ∙ (ap (bit ends) (let f : suc (at - block + n) ≡ low = omega arith in f) ∙ lowest.set));
   }
 
--- a run of a class that a byte of it goes on with, and no other byte does
+-- A run is the run of a class, if the bytes that continue it are exactly the bytes of the class.
 module _ (p : ℕ → Bool) (goes : (a b : ℕ) → p a ≡ true → goes_on a b ≡ p b) (b : ℕ) (rest : List ℕ) (n : ℕ)
     (run : RunsTo b rest n) (first : p b ≡ true) where
   in_run : (k : ℕ) → k ≤ n → p (get_or (b ∷ rest) k 0) ≡ true
@@ -118,7 +119,7 @@ first_of_two w0 w1 w2 w3 w4 w5 = grind (arith, common_steps)
 second_of_two : (c s d t : Bool) → (c && s) ≡ false → s ≡ true → ((c && d) || (s && t)) ≡ t
 second_of_two w0 w1 w2 w3 w4 w5 = grind (arith, common_steps)
 
--- ---- what the first byte tells
+-- ---- the first byte decides the run
 
 pub classified_table : (b : ℕ) (none : Option TokenKind) → b < 256 → get_or CLASSIFIED.now b none ≡ classified b
 unfolding is_emoji unicode_ident
@@ -131,7 +132,7 @@ symbol_classified b none small family = classified_table b none (omega arith) �
 holds : (a b : Bool) → (not a || b) ≡ true → a ≡ true → b ≡ true
 holds a b e f = let g = ap (λ t. not t || b) f in sym g ∙ e
 
--- the runs that a character of a family is in
+-- Whether the byte is in the class of runs that a byte of this family starts.
 abbrev in_run_of : Family → ℕ → Bool
 in_run_of Word b = is_continue_byte b
 in_run_of Space b = is_space_byte b
@@ -151,7 +152,7 @@ classified_small b some = elim (cases_lt b 128) [
       absurd (true≢false (sym some ∙ none))
 ]
 
--- ---- a token by its run and the byte past that
+-- ---- a token, from its run and the byte after it
 
 module _ (text : List ℕ) (is : IsUtf8 text) (b : ℕ) (rest : List ℕ) (e : text ≡ b ∷ rest) (n : ℕ)
     (run : RunsTo b rest n) (small : b < 128) where
@@ -197,7 +198,7 @@ module _ (text : List ℕ) (is : IsUtf8 text) (b : ℕ) (rest : List ℕ) (e : t
       → IsFirstToken text record { kind = kind; len = 1 + n }
   as_classified kind some stays = by_family kind stays (family_of b) refl (sym some ∙ rw (lt-ltb b 128 small) refl)
 
--- ---- a byte that tells a token turns none before it
+-- ---- a byte that determines a token does not change the token before it
 
 turns_none : (b : ℕ) → b < 128 → (not (is_some (classified b)) || not (turns_word b)) ≡ true
 unfolding is_emoji unicode_ident
@@ -210,9 +211,9 @@ classified_stays kind next some = let small = classified_small next some in reco
   space = λ _. agree_below_at (λ x. is_space_lead x) (λ _. false) 128 next refl small;
 }
 
--- ---- each edition has what is classified
+-- ---- the tokens are the same in every edition
 
--- whether a kind is classified of which a test holds
+-- Whether there is a kind, and it passes the test.
 abbrev said : (TokenKind → Bool) → Option TokenKind → Bool
 said test None = false
 said test (Some kind) = test kind
@@ -231,7 +232,7 @@ classified_same b kind some edition cs len =
 
 -- ---- the next token
 
--- the first byte that is left and the lowest end past it tell a token of the kind
+-- Holds if the first remaining byte and the lowest end after it determine a token of this kind.
 pub record TellsNext (text : List ℕ) (at block ends low : ℕ) (kind : TokenKind) : Type 0 where
   pub utf8 : IsUtf8 text
   pub bound : IsCharBoundary text at
@@ -262,7 +263,7 @@ module _ (text : List ℕ) (at block ends low : ℕ) (kind : TokenKind) (next : 
       (runs_to text at block ends low n next.behind next.known next.lowest e)
       (classified_small _ (ap is_some next.tells)) kind next.tells (subst (StaysWithin kind) byte next.stays))
 
-  -- no edition has another token there
+  -- The token is the same in every edition.
   pub classified_first : (edition : Edition) → record { kind = kind; len = block + low - at } ≡
       first_token_in edition (drop at text)
   classified_first edition = grind (arith, common_steps, classified_same, classified_token)

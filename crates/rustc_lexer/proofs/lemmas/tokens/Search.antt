@@ -1,4 +1,4 @@
--- A byte and what follows it, looked for at the places of that byte.
+-- A search for a pattern that first searches for one byte of it.
 use Rattle.std.proofs.lemmas.Grind.{common_steps}
 use Rattle.std.proofs.Common.{◌≡◌, ℕ, zero, suc, ◌+◌, ◌-◌, ◌<◌, ◌≤◌, ◌==◌, Bool, true, false, List, [], ◌∷◌, ◌++◌}
 use Rattle.std.proofs.Common.{length, drop, get_or, refl, sym, ap, ◌∙◌, arith, Option, Some, None, length-drop}
@@ -26,7 +26,7 @@ starts-begins tail pattern answer is = by_either (begins pattern tail)
 more-one : (k : ℕ) (o : Option ℕ) → more k (one_more o) ≡ more (k + 1) o
 more-one k o = grind (arith, common_steps)
 
--- the pattern stands nowhere below `from`
+-- Holds if the pattern has no match before `from`.
 pub record IsPast (pattern rest : List ℕ) (from : ℕ) : Type 0 where
   pub inside : from ≤ length rest
   pub left : first pattern rest ≡ more from (first pattern (drop from rest))
@@ -35,7 +35,7 @@ pub at_start : (pattern rest : List ℕ) → IsPast pattern rest 0
 at_start pattern rest = record { inside = omega arith; left = more-zero (first pattern rest) }
 
 module _ (d : ℕ) (ds : List ℕ) where
-  -- no other byte begins it
+  -- No match starts with another byte.
   over : (s : List ℕ) (k : ℕ) → k ≤ length s → ((j : ℕ) → j < k → (get_or s j 0 == d) ≡ true → ⊥)
       → first (d ∷ ds) s ≡ more k (first (d ∷ ds) (drop k s))
   over s zero le none = more-zero (first (d ∷ ds) s)
@@ -46,7 +46,7 @@ module _ (d : ℕ) (ds : List ℕ) where
       ∙ (ap one_more (over s k (omega arith) (λ j l. none (suc j) (omega arith)))
       ∙ one_more-more k (first (d ∷ ds) (drop k s))))
 
-  -- past what is skipped, the first place of the byte
+  -- The first occurrence of the byte after the part that is skipped.
   module _ (rest cut : List ℕ) (start : ℕ)
       (skipped : first (d ∷ ds) rest ≡ more start (first (d ∷ ds) (drop start rest))) (e : cut ≡ drop start rest) where
     pub start_none : IsFirstByte (is_byte d) cut None → first (d ∷ ds) rest ≡ None
@@ -78,7 +78,7 @@ module _ (d : ℕ) (ds : List ℕ) where
     pub past_end : first (d ∷ ds) cut ≡ None → None ≡ first (d ∷ ds) rest
     past_end none = sym (cut_left ∙ ap (more from) none)
 
-    -- that byte stands `step` bytes on, and then `tail`
+    -- The byte is `step` bytes further on, and `tail` is the text after it.
     module _ (step : ℕ) (here : (step < length cut) × (get_or cut step 0 ≡ d)
         × (first (d ∷ ds) cut ≡ more step (first (d ∷ ds) (drop step cut)))) (tail : List ℕ)
         (behind : tail ≡ drop (from + step + 1) rest) where

@@ -33,7 +33,7 @@ module _ (s tail : List ℕ) (n : ℕ) (two : n ≡ 2) (front : s ≡ 35 ∷ 33 
   line_here len e f = ap (λ (k : ℕ). Some (2 + k)) f
       ∙ sym (past_front ∙ ap (λ (b : Bool). let r : Option ℕ = if b then None else Some (2 + line_len tail) in r) e)
 
--- the first line of a text
+-- The characters before the first newline are a line.
 inline : (text : List ℕ) (k : ℕ) → ((i : ℕ) → i < k → get_or text i 0 ≢ 10) → AreAll is_inline (take k text)
 inline text zero none = refl
 inline [] (suc k) none = refl
@@ -44,11 +44,11 @@ module _ (text : List ℕ) where
   line_is : (k : ℕ) → k ≤ length text → IsLineBefore (drop k text) (take k text) → k ≡ line_len text
   line_is k le is = sym (ap line_len (sym (take-append-drop k text)) ∙ (line-read is ∙ length-take-le k text le))
 
-  -- no newline
+  -- A text without a newline is one line.
   pub no_newline : ((i : ℕ) → i < length text → get_or text i 0 ≢ 10) → length text ≡ line_len text
   no_newline none = line_is (length text) (omega arith) (to_end (inline text (length text) none) (drop-length text))
 
-  -- the first newline stands at k
+  -- The first newline is at offset k.
   module _ (k : ℕ) (inside : k < length text) (newline : get_or text k 0 ≡ 10)
       (first : (i : ℕ) → i < k → get_or text i 0 ≢ 10) where
     there : drop k text ≡ 10 ∷ drop (suc k) text
@@ -71,7 +71,7 @@ module _ (text : List ℕ) where
         ) in
         grind (arith, common_steps, get_or-take k text (k - 1) 0 (omega arith), get_or-append_seam u 13 [] 0, free)))
 
--- a document can be cut after its byte order mark
+-- The end of the byte order mark of a document is a char boundary.
 pub mark_boundary : (text : List ℕ) → IsUtf8 text → IsCharBoundary text (byte_order_mark_len text)
 mark_boundary text utf8 = by_chars (chars text) refl
   where

@@ -1,4 +1,4 @@
--- A character that a quote closes right behind one character of ASCII, or behind a backslash and one.
+-- A short character literal: an ASCII character, or a backslash and an ASCII character, and directly after it a quote.
 use Rattle.std.proofs.Common.{◌≡◌, ℕ, ◌+◌, ◌-◌, ◌≤◌, ◌<◌, ◌==◌, Bool, true, false, List, [], ◌∷◌, length, drop, codes}
 use Rattle.std.proofs.Common.{refl, sym, ap, ◌∙◌, arith, subst, slice_index}
 use Rattle.std.specs.{Int.{from_bool}, Str.{chars, encode_utf8_all, IsUtf8, IsCharBoundary}}
@@ -15,7 +15,7 @@ backslash-no_name : is_name_start 92 ≡ false
 unfolding is_emoji
 backslash-no_name = grind (arith, common_steps, is_xid_start-ascii, lt-leb)
 
--- what is left past the quote
+-- Holds if the text, after its opening quote, is a short character literal, and `left` is the text after it.
 pub record ShortChar (text left : List ℕ) : Type 0 where
   pub utf8 : IsUtf8 left
   pub character : is_character_at (chars text) ≡ true
@@ -25,7 +25,7 @@ closed : (text left cs : List ℕ) (n : ℕ) → chars text ≡ cs → left ≡ 
     → (true, left) ≡ scanned single_quoted_string text
 closed text left cs n w4 w5 w6 = grind (arith, common_steps)
 
--- one character and a quote
+-- One character and a quote are a short character literal.
 lone : (b : ℕ) (left : List ℕ) → IsUtf8 (b ∷ 39 ∷ left) → b < 128 → (b == 92) ≡ false → ShortChar (b ∷ 39 ∷ left) left
 lone b left is small other =
     let inner : IsUtf8 (39 ∷ left) = IsUtf8-ascii b (39 ∷ left) is small in
@@ -40,7 +40,7 @@ lone b left is small other =
           (past-ascii 39 left inner (omega arith))) (rw other refl);
     }
 
--- a backslash, one character and a quote
+-- A backslash, one character and a quote are a short character literal.
 escaped : (e : ℕ) (left : List ℕ) → IsUtf8 (92 ∷ e ∷ 39 ∷ left) → e < 128 → ShortChar (92 ∷ e ∷ 39 ∷ left) left
 unfolding past
 escaped e left is small =

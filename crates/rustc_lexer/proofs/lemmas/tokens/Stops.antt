@@ -1,4 +1,4 @@
--- Which of the first bytes are outside a class, looked for some lanes at a time.
+-- A search for bytes outside a class among the first bytes, which reads several lanes at a time.
 use Rattle.std.proofs.lemmas.Grind.{common_steps}
 use Rattle.std.proofs.Common.{◌≡◌, ℕ, ◌+◌, ◌-◌, ◌*◌, ◌%◌, ◌^◌, ◌<◌, ◌≤◌, Bool, true, List, length, map, get_or, ◌∙◌}
 use Rattle.std.proofs.Common.{arith, bit_or}
@@ -11,10 +11,10 @@ module _ (p : ℕ → Bool) (bytes : List ℕ) where
   abbrev stops_at : ℕ → Bool
   stops_at k = outside p (get_or bytes k 0)
 
-  -- a look at w bytes from `at` on
+  -- Reading w bytes from `at` on.
   module _ (at w mask : ℕ) (inside : at + w ≤ length bytes)
       (e : mask ≡ mask_l (map (outside p) (chunk at w bytes))) where
-    -- among 64 bits at their places
+    -- Returns the mask, shifted to its position among 64 bits.
     abbrev shown : ℕ
     shown = mask * 2 ^ at % 2 ^ 64
 
@@ -33,7 +33,8 @@ module _ (p : ℕ → Bool) (bytes : List ℕ) where
       mask_past (outside p) bytes at w mask inside e,
     )
 
-  -- after looks at the bytes before `at`, and at those from `last` on
+  -- Holds after reading the bytes before `at` and the bytes from `last` on: `stops` has a bit for each of them that is
+  -- outside the class, and only for bytes outside the class.
   pub record Looked (len at last stops : ℕ) : Type 0 where
     pub sound_so_far : (k : ℕ) → k < len → bit stops k ≡ true → stops_at k ≡ true
     pub front : (k : ℕ) → k < len → k < at → stops_at k ≡ true → bit stops k ≡ true

@@ -1,4 +1,4 @@
--- Taking the tokens of a whole text, one by one.
+-- Reading the tokens of a whole text, one at a time.
 use Rattle.std.proofs.Common.{◌≡◌, ℕ, ◌+◌, ◌<◌, ◌≤◌, subst, List, [], length, length-drop, drop, drop-drop, arith, refl}
 use Rattle.std.proofs.Common.{sym, ap, ◌∙◌, Some, IsCharBoundary}
 use Rattle.std.specs.{Prelude.{⊤}, Iterator.{at_most, MakesProgress}}
@@ -16,7 +16,7 @@ use Rattle.rustc_lexer.specs.Classes.{IsText}
 pub restarts : (edition : Edition) (text : List ℕ) → IsText text → RestartsAtBounds edition text
 restarts edition text is k few = sym (at_bound (edition_grammar edition) k text is).rest
 
--- what taking a token does to the tokens that are left
+-- Reading a token removes it from the remaining tokens.
 pub takes_first : (s t : State) (token : Token) → s.pending ≡ 0 → IsText s.rest → 0 < length s.rest
     → token ≡ token_at s.mode s.rest
     → t ≡ past_token s.rest s.mode token → TakesToken s token t
@@ -36,7 +36,7 @@ takes_first s t token none is some e f =
       IsCharBoundary-from_take,
     )
 
--- the same of what is left of a text from an offset on
+-- The same for the rest of a text from an offset on.
 module _ (mode : Mode) (text : List ℕ) (at : ℕ) (s : State) (view : state 0 (drop at text) mode ≡ s) where
   pub none_left : length text ≤ at → tokens_left s ≡ []
   none_left all = subst (λ (x : State). tokens_left x ≡ []) view
@@ -53,7 +53,7 @@ module _ (mode : Mode) (text : List ℕ) (at : ℕ) (s : State) (view : state 0 
       record { utf8 = IsUtf8-drop text at is.utf8 bound; fits = omega (arith, length-drop at text, is.fits) }
       (omega (arith, length-drop at text)) e (past_token-is (drop at text) (drop past text) mode next token cut m))
 
--- a token of a part, which leaves how the iterator reads as it is
+-- Reading a token of a fragment does not change the mode of the iterator.
 pub takes_part : (allowed : FrontmatterAllowed) (edition : Edition) (text : List ℕ) (at : ℕ) (s : State) → allowed ≡ No
     → state 0 (drop at text) (mode_in allowed edition) ≡ s → (past : ℕ) (token : Token) → IsText text
     → IsCharBoundary text at → at < length text
@@ -65,7 +65,7 @@ takes_part allowed edition text at s never view past token is bound some e o =
     (e ∙ sym (ap (λ (m : Mode). token_at m (drop at text)) part_of)) o
     (subst (λ (m : Mode). m ≡ mode_after m token.kind) (sym part_of) refl)
 
--- an iterator that took a token is nearer its end
+-- An iterator that read a token is closer to its end.
 pub goes : (s t : State) (token : Token) → TakesToken s token t
     → MakesProgress (λ (x : State). ⊤) (λ s. at_most (length s.rest)) s (Some token) t
 goes s t token takes = grind (arith, common_steps, length-drop)

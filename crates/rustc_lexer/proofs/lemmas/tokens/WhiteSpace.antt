@@ -1,4 +1,4 @@
--- White space outside ASCII, by the first byte of it.
+-- Whitespace outside ASCII, decided by its first byte.
 use Rattle.std.proofs.Common.{◌≡◌, ℕ, ◌||◌, Bool, true, false, true≢false, List, [], ◌∷◌, drop, get_or, refl, sym, ap}
 use Rattle.std.proofs.Common.{◌∙◌, arith}
 use Rattle.std.specs.{Char.{encode_utf8}, List.{prefix_len}, Str.{chars, encode_utf8_all, IsUtf8}}
@@ -16,7 +16,7 @@ unfolding encode_utf8
 lead_of c e = among (λ d. leads (get_or (encode_utf8 d) 0 0))
     (0x9 ∷ 0xA ∷ 0xB ∷ 0xC ∷ 0xD ∷ 0x20 ∷ 0x85 ∷ 0x200E ∷ 0x200F ∷ 0x2028 ∷ 0x2029 ∷ []) refl c e
 
--- white space ends where the next byte begins none
+-- Whitespace ends before a byte that starts none.
 pub space_stops_here : (text bytes : List ℕ) (end : ℕ) → IsUtf8 text → bytes ≡ text
     → end ≡ prefix_len is_space_byte bytes → (left : List ℕ) → left ≡ drop end text → next_is is_space_lead left ≡ false
     → left ≡ past (run_len is_whitespace (chars text)) text

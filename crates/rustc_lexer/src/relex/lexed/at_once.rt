@@ -1,10 +1,11 @@
-//! Several edits of a kept text at once, all in offsets of the present text.
-ghost use Rattle.std.specs.Prelude.{◌≡◌, ◌+◌, ◌++◌, ◌^◌, ◌-◌, ◌<◌, ◌≤◌, [], IfErr, IfOk, Ok, OnOk, drop, length, min, reverse};
+//! Several edits of a lexed text at once. All their offsets refer to the current text.
+ghost use Rattle.std.specs.Prelude.{◌≡◌, ◌+◌, ◌++◌, ◌^◌, ◌-◌, ◌<◌, ◌≤◌, [], IfErr, IfOk, Ok, OnOk, drop, length, min};
+ghost use Rattle.std.specs.Prelude.{reverse};
 ghost use Rattle.std.specs.Str.{IsUtf8};
 ghost use Rattle.std.specs.String.{string_bytes};
 ghost use Rattle.rustc_lexer.specs.declared.relex.edit_list.EditStop.{EditStop};
-ghost use Rattle.rustc_lexer.specs.Edits.{AreAtOnce, AreInOrder, IsStopAtOnce, all_stay, apply_list, start_of_first, stop_of_last};
-ghost use Rattle.rustc_lexer.specs.Edits.{with_all};
+ghost use Rattle.rustc_lexer.specs.Edits.{AreAtOnce, AreInOrder, IsStopAtOnce, all_stay, apply_list, start_of_first};
+ghost use Rattle.rustc_lexer.specs.Edits.{stop_of_last, with_all};
 ghost use Rattle.rustc_lexer.specs.Classes.{Fits};
 ghost use Rattle.rustc_lexer.specs.model.Document.{edit_change};
 ghost use Rattle.rustc_lexer.specs.LexedText.{HasStepCount, IsEdited, layout_in};
@@ -19,12 +20,19 @@ use crate::relex::relexing::{Change, Relexed};
 use std::alloc::{AllocError, Global};
 
 impl<S: Stepper, E: Extent> Lexed<S, E> {
-    /// Makes the edits at once. All have offsets of the present text, are in order, and do not overlap, but may touch.
+    /// Applies several edits at once. All offsets refer to the current text. The edits must be in order and must not
+    /// overlap, but they may touch.
     ///
-    /// The text is then what they make one by one, from the last to the first. It is one [edit](Lexed::edit), from
-    /// where the first begins to where the last ends, and returns its counts. An empty list keeps all at the front.
-    /// `Err` names the first that is out of bounds, cuts a character or begins before the one in front of it ends; or
-    /// the last, if the text would be too long or memory is refused. Text and tokens then stay.
+    /// They are applied as one [edit](Lexed::edit), from the start of the first to the end of the last, and its counts
+    /// are returned. The new text is the one that they produce one by one, from the last to the first. An empty list
+    /// keeps all tokens at the front.
+    ///
+    /// # Errors
+    ///
+    /// Returns `Range` with the index of the first edit that is out of bounds, is not on character boundaries, or
+    /// starts before the previous edit ends. Returns `TooLong` with the index of the last edit if the new text would be
+    /// longer than `u32::MAX` bytes, and `Memory` with that index if an allocation fails. Text and tokens are then
+    /// unchanged.
     pub fn edit_batch(&mut self, edits: &[Edit<'_>]) -> Result<Relexed, EditStop>
         ensures accepted { OnOk result (AreAtOnce self.old.text edits.now) }
         ensures none { edits.now ≡ []
@@ -67,7 +75,7 @@ impl<S: Stepper, E: Extent> Lexed<S, E> {
     }
 }
 
-/// Returns the offsets of the one edit that they are, or why they are none.
+/// Returns the one edit that the list amounts to, or why the list is rejected.
 fn change_of(text: &str, edits: &[Edit<'_>]) -> Result<Change, EditStop>
     requires some { edits.now ≡ [] → ⊥ }
     requires fits { Fits text.now }
@@ -98,7 +106,7 @@ fn change_of(text: &str, edits: &[Edit<'_>]) -> Result<Change, EditStop>
     Ok(change)
 }
 
-/// Returns the length with that many more bytes, and those of a text, or the greatest number.
+/// Returns the sum of `len`, `more` and the length of the text. It saturates at the maximum of `usize`.
 fn saturating_len(len: usize, more: usize, text: &str) -> usize
     ensures sum { result ≡ min (2 ^ 64 - 1) (len + more + length text.now) }
     ensures utf8 { IsUtf8 text.now }
@@ -106,7 +114,7 @@ fn saturating_len(len: usize, more: usize, text: &str) -> usize
     len.saturating_add(more).saturating_add(text.len())
 }
 
-/// Returns the text that they make.
+/// Returns the text after the edits, which amount to `edit`.
 fn edited_text(
     alloc: Global,
     text: &str,

@@ -1,4 +1,4 @@
-//! The head of a document that is kept with its tokens.
+//! The head of a lexed document.
 ghost use Rattle.std.specs.Prelude.{◌≡◌, ◌≤◌, drop, length};
 ghost use Rattle.rustc_lexer.specs.Document as spec;
 ghost use Rattle.rustc_lexer.specs.Tokens.{tokens_by};
@@ -17,8 +17,8 @@ impl<S: Stepper> Lexed<S, Document> {
         self.kept.head.tokens_start
     }
 
-    /// Returns where the body begins, in bytes, and how many tokens come before it: those up to and
-    /// including the frontmatter, or none if there is no frontmatter.
+    /// Returns the start of the body: its offset in bytes, and the number of tokens before it. These are the tokens up
+    /// to and including the frontmatter, or none if there is no frontmatter.
     pub fn body_start(&self) -> TokenStart
         ensures number { result.index ≡ length (spec.head_tokens self.now.text) }
         ensures offset { result.offset ≡ spec.body_start self.now.text }

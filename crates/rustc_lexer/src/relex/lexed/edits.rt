@@ -1,7 +1,7 @@
-//! Several edits of a kept text, one after another.
+//! Several edits of a lexed text, one after another.
 ghost use Rattle.std.specs.Prelude.{◌≡◌, ◌+◌, ◌-◌, ◌^◌, ◌<◌, ◌≤◌, IfErr, IfOk, OnOk, length, min, take};
 ghost use Rattle.rustc_lexer.specs.Edits.{stop_at};
-ghost use Rattle.rustc_lexer.specs.LexedText.{HaveStepCounts, AreKeptThrough, AreMade, layout_in, reason};
+ghost use Rattle.rustc_lexer.specs.LexedText.{HaveStepCounts, AreKeptThrough, AreApplied, layout_in, reason};
 ghost use Rattle.rustc_lexer.specs.Partition.{tokens_in};
 ghost use Rattle.rustc_lexer.specs.model.EditList.{AreKeptTo};
 
@@ -12,7 +12,8 @@ use crate::relex::edit_list::{EditSequenceError, EditStop};
 use crate::relex::lexed::Lexed;
 use crate::relex::relexing::Relexed;
 
-/// How many edits of a list were made, and how many tokens each of them kept at least.
+/// How many edits of a list were applied, and the minimum numbers of tokens that they kept at the front and at the
+/// back.
 #[derive(Clone, Copy)]
 struct Made {
     count: usize,
@@ -21,7 +22,7 @@ struct Made {
 }
 
 impl Made {
-    /// Returns the same with one more edit, which has these counts.
+    /// Adds an edit with these counts.
     fn more(self, counts: Relexed) -> Made
         requires { self.count < 2 ^ 63 }
         ensures count { result.count ≡ self.count + 1 }
@@ -35,7 +36,7 @@ impl Made {
         }
     }
 
-    /// Returns the counts of these edits. There were `old_len` tokens, and now there are `len`.
+    /// Returns the counts of the whole list. There were `old_len` tokens before it, and there are `len` after it.
     fn counts(self, old_len: usize, len: usize) -> Relexed
         requires old { self.front ≤ old_len }
         requires new { self.front ≤ len }
@@ -53,10 +54,14 @@ impl Made {
 }
 
 impl<S: Stepper, E: Extent> Lexed<S, E> {
-    /// Makes the edits in order, each on the text that the edits before it leave, up to the first one that is refused.
-    /// `Err` says which one that is and why. The edits before it stay made.
+    /// Applies the edits in order, each to the text that the edits before it leave, and stops at the first edit that
+    /// fails.
+    ///
+    /// # Errors
+    ///
+    /// Returns which edit failed first, and why. The edits before it have been applied.
     pub fn edit_all(&mut self, edits: &[Edit<'_>]) -> Result<(), EditStop>
-        ensures made { AreMade (layout_in E.whole (S.grammar self.old.stepper).first) self.old edits.now
+        ensures made { AreApplied (layout_in E.whole (S.grammar self.old.stepper).first) self.old edits.now
             result self.new }
         ensures grammar { S.grammar self.new.stepper ≡ S.grammar self.old.stepper }
         ensures count { HaveStepCounts (layout_in E.whole (S.grammar self.old.stepper).first) self.old.text
@@ -68,11 +73,14 @@ impl<S: Stepper, E: Extent> Lexed<S, E> {
         }
     }
 
-    /// Makes the edits as [`edit_all`](Lexed::edit_all) does. Returns how many tokens all of them kept at the front
-    /// and at the back, and how many are now between these. An empty list keeps all at the front. `Err` also says
-    /// what the edits before the refused one kept.
+    /// Applies the edits like [`edit_all`](Lexed::edit_all). Returns how many tokens all of them kept at the front and
+    /// at the back, and how many tokens are now in between. An empty list keeps all tokens at the front.
+    ///
+    /// # Errors
+    ///
+    /// Returns which edit failed first, why, and which tokens the edits before it kept. Those edits have been applied.
     pub fn edit_sequence(&mut self, edits: &[Edit<'_>]) -> Result<Relexed, EditSequenceError>
-        ensures made { AreMade (layout_in E.whole (S.grammar self.old.stepper).first) self.old edits.now
+        ensures made { AreApplied (layout_in E.whole (S.grammar self.old.stepper).first) self.old edits.now
             (reason result) self.new }
         ensures grammar { S.grammar self.new.stepper ≡ S.grammar self.old.stepper }
         ensures count { HaveStepCounts (layout_in E.whole (S.grammar self.old.stepper).first) self.old.text
@@ -97,7 +105,7 @@ impl<S: Stepper, E: Extent> Lexed<S, E> {
         }
     }
 
-    /// Makes the edits, and counts those that it made.
+    /// Applies the edits, and counts them in `made`.
     fn make(&mut self, edits: &[Edit<'_>], made: &mut Made) -> Result<(), EditStop>
         requires none { made.old ≡ (record {
           count = 0;
@@ -106,7 +114,7 @@ impl<S: Stepper, E: Extent> Lexed<S, E> {
         }) }
         requires from_scratch { self.old.tokens
             ≡ tokens_in (layout_in E.whole (S.grammar self.old.stepper).first self.old.text) }
-        ensures made { AreMade (layout_in E.whole (S.grammar self.old.stepper).first) self.old edits.now
+        ensures made { AreApplied (layout_in E.whole (S.grammar self.old.stepper).first) self.old edits.now
             result self.new }
         ensures grammar { S.grammar self.new.stepper ≡ S.grammar self.old.stepper }
         ensures count { HaveStepCounts (layout_in E.whole (S.grammar self.old.stepper).first) self.old.text

@@ -1,4 +1,4 @@
-//! A kept text in an edition.
+//! Texts that are lexed in an edition.
 ghost use Rattle.std.specs.Prelude.{◌≡◌, ◌+◌, IfOk, OnErr, OnOk, length};
 ghost use Rattle.rustc_lexer.specs.Answers.{first_in, grammar_of};
 ghost use Rattle.rustc_lexer.specs.Classes.{Fits};
@@ -12,8 +12,11 @@ use crate::relex::lexed::Lexed;
 use std::alloc::{AllocError, Global};
 
 impl<E: Extent> Lexed<Steps, E> {
-    /// Copies the text and lexes it in the newest edition. The text may have at most `u32::MAX` bytes. `Err` means
-    /// that an allocation failed.
+    /// Copies the text and lexes it in the newest edition. The text may have at most `u32::MAX` bytes.
+    ///
+    /// # Errors
+    ///
+    /// Returns an error if an allocation fails.
     pub fn new(alloc: Global, text: &str) -> Result<Lexed<Steps, E>, AllocError>
         requires fits { Fits text.now }
         ensures text { IfOk result (λ l. l.text ≡ text.now) }
@@ -29,8 +32,11 @@ impl<E: Extent> Lexed<Steps, E> {
         Lexed::new_in(alloc, text, Edition::NEWEST)
     }
 
-    /// Copies the text and lexes it in the edition. The text may have at most `u32::MAX` bytes. `Err` means that
-    /// an allocation failed.
+    /// Copies the text and lexes it in the given edition. The text may have at most `u32::MAX` bytes.
+    ///
+    /// # Errors
+    ///
+    /// Returns an error if an allocation fails.
     pub fn new_in(
         alloc: Global,
         text: &str,
@@ -50,7 +56,7 @@ impl<E: Extent> Lexed<Steps, E> {
         Lexed::with(alloc, text, Steps::new_in(edition))
     }
 
-    /// Returns the edition of the tokens. Edits keep it.
+    /// Returns the edition in which the text is lexed. Edits do not change it.
     pub fn edition(&self) -> Edition
         ensures grammar { ⟦<Steps as Stepper>⟧.grammar self.now.stepper ≡ grammar_of result }
         ensures from_scratch { self.now.tokens ≡ edition_tokens_in E.whole result self.now.text }
@@ -58,8 +64,11 @@ impl<E: Extent> Lexed<Steps, E> {
         self.kept.stepper.edition()
     }
 
-    /// Lexes the text again, in another edition. The head stays, as it is the same in all editions. `Err` means that an
-    /// allocation failed, and then nothing has changed.
+    /// Lexes the text again in another edition. The head is kept, since it is the same in all editions.
+    ///
+    /// # Errors
+    ///
+    /// Returns an error if an allocation fails. Text and tokens are then unchanged.
     pub fn set_edition(&mut self, edition: Edition) -> Result<(), AllocError>
         ensures text { self.new.text ≡ self.old.text }
         ensures from_scratch { OnOk result

@@ -1,5 +1,6 @@
-//! From an offset to a token of a kept text, and the pieces of the text.
-ghost use Rattle.std.specs.Prelude.{[], ◌∷◌, ◌≡◌, ◌+◌, ◌-◌, ◌^◌, ◌<◌, ◌≤◌, ◌↔◌, IfSome, IsNone, IsSome, ℕ, drop, length, take};
+//! Finds tokens of a lexed text by offset or index, and returns pieces.
+ghost use Rattle.std.specs.Prelude.{[], ◌∷◌, ◌≡◌, ◌+◌, ◌-◌, ◌^◌, ◌<◌, ◌≤◌, ◌↔◌, IfSome, IsNone, IsSome, ℕ, drop};
+ghost use Rattle.std.specs.Prelude.{length, take};
 ghost use Rattle.rustc_lexer.specs.LexedText.{pieces_from, placed, start_in};
 ghost use Rattle.rustc_lexer.specs.Offsets.{AreTouched, ContainsByte};
 ghost use Rattle.rustc_lexer.specs.Tokens.{bound};
@@ -14,8 +15,8 @@ use crate::token::Token;
 use std::iter::Iterator;
 
 impl<S: Stepper, E: Extent> Lexed<S, E> {
-    /// Returns an iterator over the pieces of the text, one for each token, in order. A shebang line is not a
-    /// piece: the first piece begins where it ends.
+    /// Returns an iterator over the pieces of the text, one for each token, in order. The first piece starts after a
+    /// byte order mark and a shebang line, which are not pieces.
     pub fn pieces(&self) -> Pieces<'_>
         ensures pieces { result
             ≡ pieces_from self.now.text (start_in E.whole self.now.text) self.now.tokens }
@@ -32,13 +33,13 @@ impl<S: Stepper, E: Extent> Lexed<S, E> {
         }
     }
 
-    /// Returns an iterator over the pieces of the tokens from number `from` up to number `to`, like those that an
-    /// edit lexed. It reads few of the tokens before them.
+    /// Returns an iterator over the pieces of the tokens `from..to`, for example the tokens that an edit lexed. It
+    /// reads few of the tokens before them.
     ///
     /// ```ignore
-    /// // An editor paints what an edit changed.
-    /// let counts = held.edit(start, stop, insert)?;
-    /// for piece in held.pieces_by_index(counts.kept_front, counts.kept_front + counts.lexed) {
+    /// // An editor paints the tokens that an edit changed.
+    /// let counts = lexed.edit(start, stop, insert)?;
+    /// for piece in lexed.pieces_by_index(counts.kept_front, counts.kept_front + counts.lexed) {
     ///     paint(piece.start, piece.token.kind, piece.text);
     /// }
     /// ```
@@ -70,8 +71,8 @@ impl<S: Stepper, E: Extent> Lexed<S, E> {
         }
     }
 
-    /// Returns an iterator over the pieces of the tokens that contain a byte of the range from `start` up to `stop`,
-    /// like those of the lines in view. The range may end anywhere, also past the text. An empty range has no piece.
+    /// Returns an iterator over the pieces of the tokens that contain a byte of `start..stop`, for example of the
+    /// visible lines. The range may end anywhere, even after the end of the text. An empty range contains no pieces.
     pub fn pieces_in_bytes(&self, start: usize, stop: usize) -> Pieces<'_>
         ensures { (from to : ℕ)
             × AreTouched (start_in E.whole self.now.text) self.now.tokens start stop from to
@@ -83,9 +84,8 @@ impl<S: Stepper, E: Extent> Lexed<S, E> {
         self.pieces_by_index(from, to)
     }
 
-    /// Returns the last boundary known without a search that has at most `number` tokens before
-    /// it: `known`, a remembered one, or the end of the head. Its offset is in bytes from the
-    /// start of the text.
+    /// Returns the last boundary known without a search that has at most `number` tokens before it: `known`, or a
+    /// remembered one. Its offset is in bytes from the start of the text.
     fn bound_before(&self, number: usize, known: TokenStart) -> TokenStart
         requires inside { number ≤ length self.now.tokens }
         requires before { known.index ≤ number }
@@ -108,8 +108,8 @@ impl<S: Stepper, E: Extent> Lexed<S, E> {
         }
     }
 
-    /// Returns the offset of token boundary `number`, in bytes from the start of the text. The
-    /// boundary `known` is not behind it.
+    /// Returns the offset of token boundary `number`, in bytes from the start of the text. `known` is a boundary with
+    /// at most `number` tokens before it.
     fn offset_of(&self, number: usize, known: TokenStart) -> u32
         requires inside { number ≤ length self.now.tokens }
         requires before { known.index ≤ number }
@@ -123,7 +123,7 @@ impl<S: Stepper, E: Extent> Lexed<S, E> {
     }
 
     /// Returns a boundary near the offset that is known without a search: the nearest remembered one, or the first one
-    /// for an offset in the head.
+    /// if the offset is in the head.
     fn bound_near(&self, offset: usize) -> TokenStart
         ensures { IsBoundFrom (start_in E.whole self.now.text) self.now.tokens result }
     {
@@ -140,8 +140,8 @@ impl<S: Stepper, E: Extent> Lexed<S, E> {
         }
     }
 
-    /// Returns the token that contains the byte at `offset`: its index, and where it begins. `None` in a shebang line,
-    /// and at and past the end of the text. It reads few of the tokens.
+    /// Returns the token that contains the byte at `offset`: its index and its start. Returns `None` in a byte order
+    /// mark and a shebang line, which are not tokens, and at and after the end of the text. It reads few of the tokens.
     pub fn token_start_at(&self, offset: usize) -> Option<TokenStart>
         ensures token { IfSome result
             (ContainsByte (start_in E.whole self.now.text) self.now.tokens offset) }
@@ -152,8 +152,8 @@ impl<S: Stepper, E: Extent> Lexed<S, E> {
         token_around(self.kept.tokens.as_slice(), near, offset)
     }
 
-    /// Returns the piece that contains the byte at `offset`. `None` in a shebang line, and at and past the end of the
-    /// text. It reads few of the tokens.
+    /// Returns the piece that contains the byte at `offset`. Returns `None` in a byte order mark and a shebang line,
+    /// and at and after the end of the text. It reads few of the tokens.
     pub fn piece_at(&self, offset: usize) -> Option<Piece<'_>>
         ensures piece { IfSome result (λ piece. (at : TokenStart)
             × ContainsByte (start_in E.whole self.now.text) self.now.tokens offset at
@@ -194,7 +194,7 @@ impl<S: Stepper, E: Extent> Lexed<S, E> {
         }
     }
 
-    /// Returns how many tokens begin before the offset.
+    /// Returns how many tokens start before the offset.
     fn begun_before(&self, offset: usize) -> usize
         ensures inside { result ≤ length self.now.tokens }
         ensures begun { (k : ℕ) → k < result
@@ -211,7 +211,8 @@ impl<S: Stepper, E: Extent> Lexed<S, E> {
         }
     }
 
-    /// Returns the numbers of the tokens that contain a byte of the range: the first one, and the one past the last.
+    /// Returns the range of the tokens that contain a byte of `start..stop`: the index of the first one, and the index
+    /// after the last one.
     fn numbers_in(&self, start: usize, stop: usize) -> (usize, usize)
         ensures { AreTouched (start_in E.whole self.now.text) self.now.tokens start stop result.0
             result.1 }
@@ -223,7 +224,7 @@ impl<S: Stepper, E: Extent> Lexed<S, E> {
     }
 }
 
-/// Returns where the last of the tokens ends. The first one begins at `start`.
+/// Returns the end of the last token. The first one starts at `start`.
 fn end_from(start: u32, tokens: &[Token]) -> u32
     requires { start + bound tokens.now (length tokens.now) < 2 ^ 32 }
     ensures { result ≡ start + bound tokens.now (length tokens.now) }

@@ -1,4 +1,4 @@
-//! Another text for a kept one, by one edit of what differs.
+//! Replaces a lexed text by one edit of the part that differs.
 ghost use Rattle.std.specs.Prelude.{◌≡◌, List, Ok, OnOk, ℕ, length};
 ghost use Rattle.rustc_lexer.specs.Classes.{Fits};
 ghost use Rattle.rustc_lexer.specs.Edits.{IsNarrowest, all_stay};
@@ -12,11 +12,14 @@ use crate::relex::relexing::Relexed;
 use std::alloc::AllocError;
 
 impl<S: Stepper, E: Extent> Lexed<S, E> {
-    /// Makes the text another one, by one [edit](Lexed::edit) of what differs: between the longest front that both
-    /// texts have, and the longest back that they have behind that. It may have at most `u32::MAX` bytes.
+    /// Replaces the text, and re-lexes only the part that differs. The new text may have at most `u32::MAX` bytes.
     ///
-    /// Returns the counts of that edit. If the text is the same already, all tokens are kept in front. `Err` means
-    /// that an allocation failed, and then text and tokens are as before.
+    /// The common prefix of both texts is stripped, then their common suffix, and the rest is applied as one
+    /// [edit](Lexed::edit), whose counts are returned. If the texts are equal, all tokens are kept at the front.
+    ///
+    /// # Errors
+    ///
+    /// Returns an error if an allocation fails. Text and tokens are then unchanged.
     pub fn set_text(&mut self, text: &str) -> Result<Relexed, AllocError>
         requires fits { Fits text.now }
         ensures text { OnOk result (self.new.text ≡ text.now) }

@@ -1,4 +1,4 @@
-//! A kept text that grows at its end, like a stream.
+//! The final tokens of a text that grows at its end, such as a stream.
 ghost use Rattle.rustc_lexer.specs.Locality.{IsSettled, StaysUpTo};
 ghost use Rattle.rustc_lexer.specs.Tokens.{tokens_by};
 
@@ -8,10 +8,9 @@ use crate::relex::front::{TokenStart, kept_front};
 use crate::relex::lexed::Lexed;
 
 impl<S: Stepper> Lexed<S, Fragment> {
-    /// Returns where the last token that at least two characters follow ends, in bytes, or 0 if there is no such token.
+    /// Returns the byte offset up to which tokens are final, whatever is appended to the text, or 0 if none are.
     ///
-    /// Whatever is appended to the text, its tokens up to this place stay as they are. It lexes nothing, and reads only
-    /// the last tokens.
+    /// A token is final once at least two characters follow it. This call lexes nothing and reads only the last tokens.
     pub fn settled(&self) -> usize
         ensures settled { IsSettled self.now.text self.now.tokens result }
         ensures stays { StaysUpTo result self.now.text (tokens_by (S.grammar self.now.stepper).first) }

@@ -9,14 +9,14 @@ use crate::generated::scan::{self, strip};
 use crate::generated::token::GuardedStr;
 
 impl<'a> Cursor<'a> {
-    /// Takes a guarded string and returns it: hashes, a string, at most as many hashes again, and a suffix. Its
-    /// length counts the bytes that were pending. After the call no bytes are pending. A string that no quote
-    /// closes takes the rest of the text.
+    /// Consumes and returns a guarded string: hashes, a string, at most as many hashes again, and a suffix. Its length
+    /// includes the pending bytes, and afterwards no bytes are pending. An unterminated string extends to the end of
+    /// the text.
     ///
-    /// Returns `None` if no quote follows the hashes. The hashes are taken all the same and are pending: they are
-    /// part of the next token.
+    /// If no quote follows the hashes, consumes only the hashes and returns `None`. They are then pending, and so part
+    /// of the next token.
     ///
-    /// Rust Reference, [Reserved guards](https://doc.rust-lang.org/reference/tokens.html#reserved-guards).
+    /// Rust Reference: [reserved guards](https://doc.rust-lang.org/reference/tokens.html#reserved-guards).
     #[inline]
     pub fn guarded_double_quoted_string(&mut self) -> Option<GuardedStr> {
         let rest = self.as_str();
@@ -37,14 +37,14 @@ impl<'a> Cursor<'a> {
     }
 }
 
-/// Returns how many hashes the text begins with.
+/// Returns the number of leading hashes.
 #[inline]
 fn count_hashes(rest: &str) -> usize {
     rest.len() - scan::eat_hashes(rest).len()
 }
 
-/// Reads the string that follows the hashes. Returns whether a quote closes it, and the length in bytes of the
-/// hashes and the string; or `None` if no string follows the hashes.
+/// Lexes a guarded string that starts with `n_hashes` hashes. Returns whether it is terminated, and its length in
+/// bytes, or `None` if no string follows the hashes.
 #[inline]
 fn string_past(rest: &str, n_hashes: usize) -> Option<(bool, usize)> {
     let body = strip(&rest[n_hashes..], b'"')?;
@@ -52,8 +52,8 @@ fn string_past(rest: &str, n_hashes: usize) -> Option<(bool, usize)> {
     Some((end.terminated, rest.len() - end.rest.len()))
 }
 
-/// Returns whether a quote closes the string, and the text after its hashes and its suffix. `body` is the text after
-/// the opening quote.
+/// Returns whether the string is terminated, and the text after its closing hashes and its suffix. `body` is the text
+/// after the opening quote.
 fn guarded_body(body: &str, n_hashes: usize) -> BodyEnd<'_> {
     let end = double_quoted_string(body);
     if end.terminated {
@@ -66,7 +66,7 @@ fn guarded_body(body: &str, n_hashes: usize) -> BodyEnd<'_> {
     }
 }
 
-/// Returns the text after the hashes at its front, of which it skips `most` at most.
+/// Skips at most `most` leading hashes, and returns the text after them.
 fn eat_hashes_up_to(rest: &str, most: usize) -> &str {
     &rest[count_hashes(rest).min(most)..]
 }

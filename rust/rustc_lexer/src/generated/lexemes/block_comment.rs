@@ -33,8 +33,8 @@ fn block_doc_style(body: &str) -> Option<DocStyle> {
     }
 }
 
-/// Returns where the comment is closed. `body` is the text after its `/*`. If nothing closes the comment, it takes
-/// the whole body.
+/// Returns the end of the comment. `body` is the text after its `/*`. An unterminated comment extends to the end of the
+/// text.
 fn past_comment(body: &str) -> BodyEnd<'_> {
     let mut depth = 1usize;
     let mut rest = body;

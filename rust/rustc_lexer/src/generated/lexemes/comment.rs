@@ -5,8 +5,7 @@ use crate::generated::lexemes::block_comment::block_comment;
 use crate::generated::scan::{begins_with, eat_until, strip};
 use crate::generated::token::{DocStyle, TokenKind};
 
-/// Lexes a token that begins with a slash. Returns its kind, and the text after it. `rest` is the text after the
-/// slash.
+/// Lexes a token that starts with a slash. Returns its kind, and the text after it. `rest` is the text after the slash.
 #[inline(always)]
 pub(crate) fn slash(rest: &str) -> (TokenKind, &str) {
     if let Some(body) = strip(rest, b'/') {

@@ -6,13 +6,13 @@ use crate::generated::lexemes::literal::{eat_literal_suffix, literal};
 use crate::generated::scan::{eat_decimal, eat_hexadecimal, eat_while, first, strip, strip_either};
 use crate::generated::token::{Base, LiteralKind, TokenKind};
 
-/// Lexes a number with its suffix. Returns its kind, and the text after it. `first_digit` is its first character,
-/// and `tail` is the text after that.
+/// Lexes a number with its suffix. Returns its kind, and the text after it. `first_digit` is its first character, and
+/// `tail` is the text after that.
 ///
-/// Up to the suffix, it is the longest number at the front that the grammar of numbers has. In that grammar a dot
-/// without a digit after it is part of a number only if neither a dot nor a name is next.
+/// Without the suffix, it is the longest number at the start of the text that the grammar of numbers allows. There, a
+/// dot without a digit after it is part of a number only if neither a dot nor a name follows.
 ///
-/// Rust Reference, [Number literals](https://doc.rust-lang.org/reference/tokens.html#number-literals).
+/// Rust Reference: [number literals](https://doc.rust-lang.org/reference/tokens.html#number-literals).
 #[inline(always)]
 pub(crate) fn number(first_digit: char, tail: &str) -> (TokenKind, &str) {
     let (kind, rest) = number_kind(first_digit, tail);
@@ -34,7 +34,7 @@ fn number_kind(first_digit: char, tail: &str) -> (LiteralKind, &str) {
 #[derive(Clone, Copy)]
 pub(crate) struct IntegerPart {
     base: Base,
-    /// Whether there is a prefix without a digit after it.
+    /// Whether no digit follows the prefix.
     empty_int: bool,
 }
 
@@ -65,7 +65,7 @@ fn part_past_zero(tail: &str) -> (IntegerPart, &str) {
     }
 }
 
-/// Returns the integer part with a prefix of this base, by whether a digit follows the prefix.
+/// Returns the integer part of a number with the prefix of this base.
 #[inline(always)]
 fn prefixed(base: Base, has_digit: bool) -> IntegerPart {
     IntegerPart {
@@ -84,8 +84,8 @@ fn decimal(tail: &str) -> (IntegerPart, &str) {
     (part, eat_decimal(tail))
 }
 
-/// Returns the kind of a number of this base, and the text after it. The text after its integer part makes it a number
-/// with a fraction, with an exponent or with neither.
+/// Returns the kind of a number of this base, and the text after it. `rest` is the text after its integer part, which
+/// starts with a fraction, with an exponent or with neither.
 #[inline(always)]
 fn past_digits(base: Base, rest: &str) -> (LiteralKind, &str) {
     let int = LiteralKind::Int {
@@ -105,7 +105,7 @@ fn past_digits(base: Base, rest: &str) -> (LiteralKind, &str) {
     }
 }
 
-/// Returns whether a dot before this character is not part of a number, like in `1..2` and `1.max(2)`.
+/// Returns whether a dot before this character is not part of a number, as in `1..2` and `1.max(2)`.
 fn is_no_fraction(c: char) -> bool {
     c == '.' || is_id_start(c)
 }
@@ -130,7 +130,7 @@ fn optional_exponent(base: Base, rest: &str) -> (LiteralKind, &str) {
     }
 }
 
-/// Returns the kind of a float whose exponent has digits, or that has no exponent.
+/// Returns the kind of a float that has no exponent, or whose exponent has digits.
 #[inline(always)]
 fn full_float(base: Base) -> LiteralKind {
     LiteralKind::Float {
@@ -161,16 +161,16 @@ fn past_sign(base: Base, rest: &str) -> (LiteralKind, &str) {
     (float, rest)
 }
 
-/// The run of digits and underscores at the front of a text.
+/// The leading digits and underscores of a text.
 #[derive(Clone, Copy)]
 struct DigitRun<'a> {
-    /// Whether it has a digit.
+    /// Whether the run contains a digit.
     has_digit: bool,
-    /// The text after it.
+    /// The text after the run.
     rest: &'a str,
 }
 
-/// Returns the run of decimal digits and underscores at the front.
+/// Returns the leading decimal digits and underscores of a text.
 fn eat_decimal_digits(rest: &str) -> DigitRun<'_> {
     let digits = eat_while(rest, is_underscore);
     let has_digit = begins_digit(digits);
@@ -180,7 +180,7 @@ fn eat_decimal_digits(rest: &str) -> DigitRun<'_> {
     }
 }
 
-/// Returns the run of hexadecimal digits and underscores at the front.
+/// Returns the leading hexadecimal digits and underscores of a text.
 fn eat_hexadecimal_digits(rest: &str) -> DigitRun<'_> {
     let digits = eat_while(rest, is_underscore);
     let has_digit = first(digits).is_ascii_hexdigit();
@@ -190,7 +190,7 @@ fn eat_hexadecimal_digits(rest: &str) -> DigitRun<'_> {
     }
 }
 
-/// Returns whether a digit is next.
+/// Returns whether the next character is a digit.
 #[inline(always)]
 fn begins_digit(rest: &str) -> bool {
     match rest.as_bytes().first() {

@@ -6,8 +6,8 @@ use crate::generated::lexemes::literal::{eat_literal_suffix, literal};
 use crate::generated::scan::{eat_until_either, split_first, strip};
 use crate::generated::token::{LiteralKind, TokenKind};
 
-/// Returns where a double quote closes the text. `body` is the text after the opening quote. If no quote closes it,
-/// it takes the whole body.
+/// Returns the end of a string in double quotes. `body` is the text after the opening quote. An unterminated string
+/// extends to the end of the text.
 pub(crate) fn double_quoted_string(body: &str) -> BodyEnd<'_> {
     let mut rest = body;
     loop {
@@ -34,8 +34,8 @@ pub(crate) fn double_quoted_string(body: &str) -> BodyEnd<'_> {
     }
 }
 
-/// Returns where a single quote closes the text. `body` is the text after the opening quote. If no quote closes it,
-/// it stops before a slash, and before a newline that no quote follows.
+/// Returns the end of a text in single quotes. `body` is the text after the opening quote. If it is unterminated, it
+/// ends before a slash, before a newline that no quote follows, or at the end of the text.
 pub(crate) fn single_quoted_string(body: &str) -> BodyEnd<'_> {
     if let Some(rest) = strip_lone(body) {
         return BodyEnd {
@@ -69,7 +69,8 @@ pub(crate) fn single_quoted_string(body: &str) -> BodyEnd<'_> {
     }
 }
 
-/// Returns the text after one character and a quote, if these are at the front. The character is not a backslash.
+/// Returns the text after one character and a quote, or `None` if it does not start with these. The character is not a
+/// backslash.
 fn strip_lone(body: &str) -> Option<&str> {
     let (first, tail) = split_first(body)?;
     if first == '\\' {
@@ -78,12 +79,12 @@ fn strip_lone(body: &str) -> Option<&str> {
     strip(tail, b'\'')
 }
 
-/// Returns whether `c`, which is not a quote, stops a single-quoted text before `tail`.
+/// Returns whether `c`, which is not a quote, ends an unterminated text in single quotes. `tail` is the text after `c`.
 fn stops_open(c: char, tail: &str) -> bool {
     c == '/' || (c == '\n' && strip(tail, b'\'').is_none())
 }
 
-/// The characters with which a literal in quotes begins.
+/// The prefix of a literal in quotes, up to and including the opening quote.
 #[derive(Clone, Copy)]
 pub(crate) enum QuotedPrefix {
     /// `'`
@@ -112,7 +113,7 @@ pub(crate) fn quoted_literal(prefix: QuotedPrefix, tail: &str) -> (TokenKind, &s
     }
 }
 
-/// Returns where a quote closes the literal. `tail` is the text after the first character of its prefix.
+/// Returns the end of the quoted text. `tail` is the text after the first character of its prefix.
 #[inline(always)]
 fn quoted_string(prefix: QuotedPrefix, tail: &str) -> BodyEnd<'_> {
     match prefix {

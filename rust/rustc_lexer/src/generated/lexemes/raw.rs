@@ -5,7 +5,7 @@ use crate::generated::lexemes::literal::eat_literal_suffix;
 use crate::generated::scan::{eat_hashes, eat_until, split_first, strip};
 use crate::generated::token::{LiteralKind, RawStrError, TokenKind};
 
-/// The prefix of a raw string that is a token.
+/// The prefix of a raw string.
 #[derive(Clone, Copy)]
 pub(crate) enum RawPrefix {
     /// `r`
@@ -55,8 +55,8 @@ fn raw_kind(prefix: RawPrefix, n_hashes: Option<u8>) -> LiteralKind {
     }
 }
 
-/// Returns the number of hashes on each side of a raw string, or why it is refused; and the text after it. `rest`
-/// is the text after its prefix. An offset is in bytes, and counts `prefix_len` for the prefix.
+/// Returns the number of hashes on each side of a raw string, or why it is malformed, and the text after it. `rest` is
+/// the text after its prefix. Offsets are in bytes from the end of the prefix, plus `prefix_len`.
 #[inline(always)]
 pub(crate) fn raw_double_quoted_string(
     rest: &str,
@@ -76,9 +76,9 @@ pub(crate) fn raw_double_quoted_string(
     }
 }
 
-/// Reads a raw string from its opening quote on, before which there are `n_hashes` hashes. Returns the number of
-/// hashes, or why the string is refused; and the text after it. An offset counts `before` bytes for all that comes
-/// before `text`.
+/// Lexes a raw string from its opening quote on, which `n_hashes` hashes precede. Returns the number of hashes, or why
+/// the string is malformed, and the text after it. `text` is the text after the opening quote, and its offset is
+/// `before`.
 #[inline(always)]
 fn raw_text(text: &str, n_hashes: u32, before: u32) -> (Result<u8, RawStrError>, &str) {
     let mut found = 0;
@@ -104,13 +104,13 @@ fn raw_text(text: &str, n_hashes: u32, before: u32) -> (Result<u8, RawStrError>,
     (Err(error), "")
 }
 
-/// Returns the text after its first quote.
+/// Returns the text after its first double quote, or `None` if there is none.
 #[inline(always)]
 fn past_quote(rest: &str) -> Option<&str> {
     strip(eat_until(rest, b'"'), b'"')
 }
 
-/// Returns the number of hashes, or the error that there are too many.
+/// Returns the number of hashes, or an error if there are more than 255.
 fn hash_count(n_hashes: u32) -> Result<u8, RawStrError> {
     if n_hashes <= 255 {
         Ok(n_hashes as u8)

@@ -18,8 +18,9 @@ impl Head {
     /// Returns the change of the body by an edit of the document. `self` is the head of the text before the edit, and
     /// `now` is the head of the current text.
     ///
-    /// If the head stays, the change is the edit itself. Otherwise it extends from the start of the body to the first
-    /// position after the edit at which both bodies have started, so no token of the body is kept before it.
+    /// If the edit starts after the head and the head stays the same, the change is the edit itself, in bytes from the
+    /// start of the body. Otherwise it extends from the start of the body to the first offset after the edit at which
+    /// both bodies have started, so no token of the body is kept before it.
     #[must_use]
     pub fn change_to(self, now: Head, edit: Change) -> BodyChange {
         let head = HeadEdit::between(self, now, edit.start);

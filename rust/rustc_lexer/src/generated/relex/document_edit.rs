@@ -25,8 +25,9 @@ impl HeadEdit {
         }
     }
 
-    /// Returns the change of the body. If the head stays, this is the edit itself. Otherwise the change extends from
-    /// the start of the body to the first position after the edit at which both bodies have started.
+    /// Returns the change of the body. If `keeps` is true, this is the edit itself, in bytes from the start of the
+    /// body. Otherwise the change extends from the start of the body to the first offset after the edit at which both
+    /// bodies have started.
     pub(crate) fn body_change(self, edit: Change) -> Change {
         let (from, to) = (self.before.body, self.after.body);
         if self.keeps {
@@ -46,7 +47,7 @@ impl HeadEdit {
         }
     }
 
-    /// Returns the counts of the document from those of its body.
+    /// Converts the counts of the body to the counts of the document.
     pub(crate) fn document_counts(self, body: Relexed) -> Relexed {
         if self.keeps {
             Relexed {

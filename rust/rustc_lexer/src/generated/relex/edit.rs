@@ -12,12 +12,12 @@ use crate::generated::relex::replace::replace;
 use crate::generated::token::{Token, TokenKind};
 use crate::support::{AllocError, Global};
 
-/// One edit, which borrows its insertion.
+/// An edit of a text, which borrows the text that it inserts.
 #[derive(Clone, Copy, Debug, PartialEq, Eq, Hash)]
 pub struct Edit<'a> {
-    /// Where the replaced bytes start, in bytes from the start of the text.
+    /// The start of the replaced bytes, as an offset in bytes.
     pub start: usize,
-    /// Where they end, in bytes from the start of the text.
+    /// The end of the replaced bytes, as an offset in bytes.
     pub stop: usize,
     /// The text that replaces them.
     pub insert: &'a str,
@@ -50,7 +50,7 @@ pub(crate) struct Replacement {
     pub tokens: Vec<Token>,
     /// The old tokens from `at.front` up to `at.back` are replaced.
     pub at: Relexing,
-    /// Boundaries of the new tokens, up to which lexing went.
+    /// Boundaries of the tokens of the new text, at the ends of the blocks that were lexed.
     pub bounds: Checkpoints,
 }
 
@@ -90,8 +90,8 @@ fn end_of(at: Relexing) -> TokenStart {
 }
 
 impl Replacement {
-    /// Returns the checkpoints of the new text, which has `len` bytes. `old` has those of the text before the edit.
-    /// The end of the kept front becomes one, and so do the boundaries in a long run of lexed tokens.
+    /// Returns the checkpoints of the new text, which has `len` bytes. `old` has the checkpoints of the text before the
+    /// edit. The end of the kept front becomes a checkpoint, and so do the boundaries in a long run of lexed tokens.
     pub(crate) fn checkpoints(&self, old: &Checkpoints, len: usize) -> Checkpoints {
         let at = self.at;
         let mut moved = old.after(at.front, at.back, end_of(at));
@@ -107,8 +107,8 @@ impl Replacement {
         all
     }
 
-    /// Replaces the old tokens with the new ones, and the tokens of the head unless it stays. If an allocation fails,
-    /// nothing changes.
+    /// Replaces the old tokens with the new ones, and the tokens of the head unless `head.keeps` is true. If an
+    /// allocation fails, nothing changes.
     pub(crate) fn put_into(
         self,
         alloc: Global,

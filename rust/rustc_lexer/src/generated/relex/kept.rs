@@ -27,8 +27,8 @@ pub(crate) struct Kept<S: Stepper, E: Extent> {
     pub checkpoints: Checkpoints,
 }
 
-/// Relexes the part of the text that an edit changed, and updates tokens, head and checkpoints, which are still those
-/// of the text before the edit. If an allocation fails, they stay unchanged.
+/// Re-lexes the part of the text that an edit changed, and updates tokens, head and checkpoints. Before the call, these
+/// belong to the text before the edit. If an allocation fails, they are unchanged.
 pub(crate) fn renew<S: Stepper, E: Extent>(
     kept: &mut Kept<S, E>,
     edit: Change,
@@ -51,8 +51,7 @@ pub(crate) fn renew<S: Stepper, E: Extent>(
     Ok(head.document_counts(counts))
 }
 
-/// Returns the tokens of a text: the tokens of its head, which is known, and those of its body, lexed with the
-/// stepper.
+/// Returns the tokens of a text, and checkpoints in its body. The head is known, and the stepper lexes the body.
 pub(crate) fn lex_body<S: Stepper>(
     alloc: Global,
     head: Head,

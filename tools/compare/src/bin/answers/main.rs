@@ -4,7 +4,7 @@
 //!     answers [--texts N] [--seed N] [--every N] PATH..
 //!
 //! It compares each character, each file of a PATH (in a folder, the files with the extension `.rs`, at any depth), and
-//! N random texts (200,000 by default), of which half are fragments of the files with insertions. Then it compares each
+//! N random texts (200,000 by default), half of them fragments of the files with insertions. Then it compares each
 //! character and N random texts as the contents of a literal, and N random edits of documents. With `--every N`, only
 //! one of N characters is lexed in texts, and the classes of all characters are compared.
 

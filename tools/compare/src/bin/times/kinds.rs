@@ -37,7 +37,7 @@ pub const KINDS: [Kind; 26] = [
     ("unknown prefixes", &["%w\"%w\" ", "%w'%w "]),
 ];
 
-/// The start of a text, and a repeated piece: shapes for which a lexer can be slow.
+/// The start of a text, and a repeated piece: shapes that can make a lexer slow.
 #[rustfmt::skip]
 pub const SHAPES: [(&str, &str); 14] = [
     ("", "/*"), ("", "/ * "), ("", "\""), ("\"", "\\\\"), ("\"", "\\\""), ("", "r#~"), ("", "#\"a\""), ("", "1e+"),

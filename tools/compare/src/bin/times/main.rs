@@ -50,8 +50,8 @@ fn counted(what: Use, text: &str) -> Sum {
     black_box(what(black_box(text)))
 }
 
-/// Prints a row: the use, its input, and the minimum time of the original and of our crate in nanoseconds per item.
-/// With more than one round, it takes at least as many milliseconds.
+/// Prints a row: the use, its input, and the minimum time of the original and of our crate in nanoseconds per item. The
+/// measurement runs for at least `rounds` - 1 milliseconds.
 fn row(name: &str, with: &str, uses: [Use; 2], text: &str, rounds: usize) {
     let mut least = [Duration::MAX; 2];
     let mut sums = [Sum::default(); 2];

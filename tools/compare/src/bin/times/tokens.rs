@@ -23,7 +23,8 @@ macro_rules! way {
     };
 }
 
-/// A `match` with an arm for each kind: kinds with fields have given numbers, and the others are numbered here.
+/// A `match` with an arm for each kind: kinds with fields have given numbers, and kinds without fields are numbered
+/// here.
 macro_rules! numbers {
     ($kind:ident; $($fields:pat => $number:expr),*; $($plain:ident)*) => {{
         enum Number { $($plain),* }

@@ -4,7 +4,7 @@ use Rattle.rustc_lexer.specs.model.Scan.{after, begins, gives}
 use Rattle.rustc_lexer.specs.laws.Scan.{scanned-after, scanned-gives, scanned-yes, scanned-no}
 use Rattle.rustc_lexer.proofs.lexemes.comment.slash.Goals as goal
 
--- what is left to choose where no line comment stands
+-- Returns the token that starts with a slash, if it does not start a line comment.
 abbrev other : List ℕ → TokenKind × ℕ
 other s = if begins (codes "*") s then after 1 block_comment s else gives Slash s
 

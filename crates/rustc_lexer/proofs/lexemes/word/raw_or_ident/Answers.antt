@@ -6,7 +6,7 @@ use Rattle.rustc_lexer.specs.{model.Scan.{after, begins, next_is, past}, laws.Pa
 use Rattle.rustc_lexer.specs.laws.Scan.{scanned-after, scanned-yes, scanned-no}
 use Rattle.rustc_lexer.proofs.lexemes.word.raw_or_ident.Goals as goal
 
--- past the `r`, a hash or a quote makes a raw string
+-- An `r` before a hash or a quote starts a raw string.
 raw-is : (tail rest : List ℕ) (b : Bool) → IsUtf8 tail → begins (codes "r") (chars tail) ≡ true → rest ≡ past 1 tail
     → b ≡ next_is opens_raw (chars rest) → begins_raw (chars tail) ≡ b
 raw-is tail rest b is r e f = ap (λ (x : Bool). x && next_is opens_raw (drop 1 (chars tail))) r

@@ -137,7 +137,8 @@ returns-in_err-lexed-clause-renewed g c before insert p =
     (c.in_err-lexed.ensures.few _ _ made (near_behind law p c.nearest-near.ensures)) in
     let few = few_by law p.edit_of p.kept.2 (rw text at c.find_head-now.ensures.head) c.between-head.ensures.keeps _ _
     relexed in
-    let back = left_back c.from_residual.result (string_bytes c.args.kept.now.text) before c.from_residual.ensures.0 in (
+    let back = left_back c.from_residual.result (string_bytes c.args.kept.now.text) before
+    c.from_residual.ensures.0 in (
       rw (back, c.relex.ensures.grammar) p.kept,
       refused c.from_residual.result c.from_residual.ensures.0 p.kept.1 back
           refl,

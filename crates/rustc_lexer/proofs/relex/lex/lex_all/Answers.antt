@@ -6,7 +6,7 @@ use Rattle.rustc_lexer.proofs.lemmas.edits.ManyTokens.{block_more}
 use Rattle.rustc_lexer.proofs.lemmas.tokens.Progress.{IsLexedTo, lexed_offset, lexed_whole, same_first}
 use Rattle.rustc_lexer.proofs.relex.lex.lex_all.Goals as goal
 
--- a list that grew behind its old items is not shorter than these
+-- Appending to a list does not make it shorter.
 grown : (old now : List Token) → now ≡ old ++ drop (length old) now → length old ≤ length now
 grown old now e = omega (arith, ap (λ (ts : List Token). length ts) e, length-append old (drop (length old) now))
 

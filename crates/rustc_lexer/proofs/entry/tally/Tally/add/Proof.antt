@@ -1,4 +1,4 @@
--- `add` runs nothing: the borrow is opened, and closed at the later count.
+-- `add` executes nothing: the borrow is opened, and closed at the new count.
 use Rattle.rustc_lexer.proofs.lemmas.tokens.TallyWalk.{[], ◌∷◌, ◌+◌, refl, proved, ftrue, flft, fsep, named, vunit, w64}
 use Rattle.rustc_lexer.proofs.lemmas.tokens.TallyWalk.{‵, ◌⊛◌, ◌$◌, ◌∵◌, !, qed, done, move, keep, split, join, feq_i}
 use Rattle.rustc_lexer.proofs.lemmas.tokens.TallyWalk.{fsplit3, suffices, frame, group, enter, of_opd, unit_lit}

@@ -1,4 +1,4 @@
--- `new` makes a value of no bytes, whose count is 0.
+-- `new` creates a value of zero bytes, whose count is 0.
 use Rattle.rustc_lexer.proofs.lemmas.tokens.TallyWalk.{[], ◌∷◌, refl, proved, Fml, ftrue, Val, vstruct, vcons, vnil, ‵}
 use Rattle.rustc_lexer.proofs.lemmas.tokens.TallyWalk.{◌⊛◌, ◌$◌, ◌∵◌, !, qed, done, keep, use0, suffices, enter}
 use Rattle.rustc_lexer.proofs.lemmas.tokens.TallyWalk.{no_more, and_then, returns, alloc_all, pass_all, free_all}

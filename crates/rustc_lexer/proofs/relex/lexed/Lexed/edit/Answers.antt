@@ -7,7 +7,7 @@ use Rattle.rustc_lexer.proofs.lemmas.edits.DocumentEdits.{counted_refused, few_n
 use Rattle.rustc_lexer.proofs.lemmas.edits.ByLengths.{made_change}
 use Rattle.rustc_lexer.proofs.relex.lexed.Lexed.edit.Goals as goal
 
--- what was taken out is put back
+-- Replacing the inserted text with the removed text restores the old text.
 put_back_from : {text insert read removed put now : List ℕ} {edit : Change} → IsEditOf text edit insert put
     → removed ≡ slice_range read edit.start edit.old_end → read ≡ text
     → now ≡ apply put edit.start edit.new_end removed → now ≡ text

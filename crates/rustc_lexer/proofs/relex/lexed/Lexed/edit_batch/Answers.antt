@@ -1,7 +1,8 @@
 use Rattle.std.proofs.Common.{◌≡◌, ◌-◌, [], Ok, Err, length, rules, string_bytes, arith, refl, sym, ap, ◌∙◌, subst}
 use Rattle.std.proofs.lemmas.Grind.{common_steps}
 use Rattle.rustc_lexer.specs.declared.relex.edit_list.EditStop.{EditStop, TheVariants.{Memory}}
-use Rattle.rustc_lexer.specs.{Edits.{start_of_first, stop_of_last, with_all}, LexedText.{HasStepCount, IsEdited, layout_in}}
+use Rattle.rustc_lexer.specs.Edits.{start_of_first, stop_of_last, with_all}
+use Rattle.rustc_lexer.specs.LexedText.{HasStepCount, IsEdited, layout_in}
 use Rattle.rustc_lexer.proofs.lemmas.edits.AtOnce.{at_once_none, none_by_one, one_by_one, put_at_once}
 use Rattle.rustc_lexer.proofs.lemmas.edits.DocumentEdits.{counted_as, counted_refused, few_none, made_as, refused}
 use Rattle.rustc_lexer.proofs.relex.lexed.Lexed.edit_batch.Goals as goal

@@ -1,5 +1,5 @@
 use Rattle.std.proofs.{Common.{◌≡◌, List, ℕ, subst, true}, lemmas.List.{length-map}}
-use Rattle.rustc_lexer.specs.{Token, Locality.{IsGrammar}, Edits.{IsRelexed, part_by}, Tokens.{tokens_by}}
+use Rattle.rustc_lexer.specs.{Token, Locality.{IsGrammar}, Edits.{IsRelexed, fragment_by}, Tokens.{tokens_by}}
 use Rattle.rustc_lexer.specs.Relexing.{IsMadeOf, IsUnderWay, IsWhole, RelexModel}
 use Rattle.rustc_lexer.proofs.relex.relexing.Relex.counts.Goals as goal
 
@@ -8,7 +8,7 @@ returns-clause-exact g c =
     subst (λ (r : RelexModel). (first : List ℕ → Token) (before insert : List ℕ) → IsGrammar first
     → IsMadeOf first before r.lengths r.change insert r.text
     → IsUnderWay first before r.change r.text r.at → r.at.met ≡ true
-    → IsRelexed (part_by first) before r.change.start r.change.old_end insert c.counts.result
+    → IsRelexed (fragment_by first) before r.change.start r.change.old_end insert c.counts.result
     × IsWhole (tokens_by first before) (tokens_by first r.text) r.at) c.self.view_is
     (λ first before insert law is under_way met.
     c.counts.ensures.exact first before _ insert _ _ law is

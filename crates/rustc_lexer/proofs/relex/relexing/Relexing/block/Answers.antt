@@ -11,8 +11,8 @@ range_from-requires g c = λ some. c.requires.can_continue.boundary
 
 pub least_meeting-end-requires-clause-inside : goal.least_meeting-end-requires-clause-inside
 least_meeting-end-requires-clause-inside g c =
-    (not_over c.args.self.now.met c.args.self.now.at (length c.args.edited.now.text.now) c.requires.can_continue.boundary.0
-    c.requires.going).1
+    (not_over c.args.self.now.met c.args.self.now.at (length c.args.edited.now.text.now)
+    c.requires.can_continue.boundary.0 c.requires.going).1
 
 pub overflow_add-at : goal.overflow_add-at
 overflow_add-at g c =

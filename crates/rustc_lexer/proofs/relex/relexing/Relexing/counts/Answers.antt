@@ -1,5 +1,5 @@
 use Rattle.std.proofs.{Common.{ap, subst, sym, ◌-◌, ◌∙◌, List, ℕ, length}, lemmas.List.{length-map}}
-use Rattle.rustc_lexer.specs.{declared.relex.relexing.Relexed.{Relexed}, Edits.{IsRelexed, part_by}, Tokens.{tokens_by}}
+use Rattle.rustc_lexer.specs.{declared.relex.relexing.Relexed.{Relexed}, Edits.{IsRelexed, fragment_by}, Tokens.{tokens_by}}
 use Rattle.rustc_lexer.proofs.lemmas.edits.UnderWay.{counts_met}
 use Rattle.rustc_lexer.proofs.relex.relexing.Relexing.counts.Goals as goal
 
@@ -11,6 +11,6 @@ returns-clause-exact c = λ first before lengths insert text change law is many 
     ∙ (ap (λ (ns : List ℕ). length ns) (sym is.lengths_are) ∙ many) in (
       subst (λ (n : ℕ). let r : Relexed = record
           { kept_front = at.front.index; lexed = at.lexed; kept_back = n - at.back.index } in
-          IsRelexed (part_by first) before change.start change.old_end insert r) same met.0,
+          IsRelexed (fragment_by first) before change.start change.old_end insert r) same met.0,
       met.1,
     )

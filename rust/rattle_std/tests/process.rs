@@ -1,4 +1,4 @@
-//! The standard streams, the arguments and the environment of this process, which runs itself again with others.
+//! The standard streams, the arguments and the environment of this process, which also runs itself with different ones.
 
 #[cfg(unix)]
 use rattle_std::io::{ErrorKind, IsTerminal, Read, Write};
@@ -52,7 +52,7 @@ fn a_variable_with_a_space() {
     assert_eq!(rattle_std::env::var(&rt, NAME).ok().as_deref(), Some(" "));
 }
 
-/// One stream is a terminal, the others are not. The test runs itself as a process with such streams.
+/// Only one stream is a terminal. The test runs itself as a process with such streams.
 #[cfg(target_os = "linux")]
 #[test]
 fn terminals() {
@@ -75,9 +75,9 @@ fn terminals() {
     assert_eq!(terminals, [true, false, false]);
 }
 
-/// Arguments, variables and streams of this process, next to those of `std`.
+/// Compares the arguments and variables of this process with `std`.
 #[test]
-fn the_process() {
+fn streams_and_arguments_of_the_process() {
     let rt = rt::start();
     let words = rattle_std::env::args(&rt).unwrap();
     assert!(words.map(String::from).eq(std::env::args()));

@@ -1,16 +1,16 @@
-//! Whether two pieces of a text can touch without changing their tokens.
+//! Tests whether two parts of a text can touch without changing their tokens.
 ghost use Rattle.std.specs.Prelude.{◌≡◌, ◌≢◌, Some};
 ghost use Rattle.rustc_lexer.specs.declared.edition.Edition.{Edition};
 ghost use Rattle.rustc_lexer.specs.LanguageCalls.{edition_of_year};
-ghost use Rattle.rustc_lexer_c.specs.Seam.{TellsSeam};
+ghost use Rattle.rustc_lexer_c.specs.Boundary.{IsBoundaryAt};
 ghost use Rattle.rustc_lexer_c.specs.Status.{IsPlaceStatus, OK};
 
 use crate::relex::edition_of;
 use crate::status::{Refusal, done, refuse, text_of};
 use rustc_lexer::is_token_boundary;
 
-/// Writes whether the tokens of a text in an edition are those of the text before `at`, followed by those of the text
-/// after `at`.
+/// Writes 1 if a text has the tokens of its part before `at`, followed by the tokens of its part after `at`, otherwise
+/// 0. The edition is a year.
 #[unsafe(no_mangle)]
 pub extern "C" fn rustc_lexer_is_token_boundary(
     text: &[u8],
@@ -19,8 +19,8 @@ pub extern "C" fn rustc_lexer_is_token_boundary(
     is: &mut u32,
 ) -> u32
     ensures status { IsPlaceStatus text.now at edition result }
-    ensures seam { result ≡ OK → (year : Edition) → edition_of_year edition ≡ Some year
-        → TellsSeam text.now at year is.new }
+    ensures boundary { result ≡ OK → (year : Edition) → edition_of_year edition ≡ Some year
+        → IsBoundaryAt text.now at year is.new }
     ensures refused { result ≢ OK → is.new ≡ 0 }
 {
     let text = match text_of(text) {

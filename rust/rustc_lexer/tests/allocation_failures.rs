@@ -60,8 +60,8 @@ impl Stepper for Counting {
     }
 }
 
-/// Applies an edit while each of its allocations fails in turn: nothing changes, no step is taken that the edit does
-/// not take, and then the edit succeeds. Returns its counts, its steps, and the number of its allocations.
+/// Applies an edit while each of its allocations fails in turn: nothing changes, no step is made that the edit does not
+/// make, and then the edit succeeds. Returns its counts, its steps, and the number of its allocations.
 macro_rules! edits {
     ($edit:ident, $Kept:ident, $tokenize:ident $(, $tokens_start:ident)?) => {
         fn $edit(text: &str, range: Range<usize>, insert: &str) -> (Relexed, usize, usize) {
@@ -121,7 +121,7 @@ fn edits_of_texts() {
     }
 }
 
-/// `set_text` allocates what its edit does.
+/// `set_text` allocates as much as its edit.
 #[test]
 fn set_text() {
     let (old, new) = ("a b c d", "a b + d");
@@ -218,9 +218,9 @@ fn a_long_list_of_edits() {
     assert!(stops.iter().copied().eq(0..70), "{stops:?}");
 }
 
-/// Edits at once are all applied or none, and the error names the last one.
+/// A batch is applied completely or not at all, and the error has the index of the last edit.
 #[test]
-fn edits_at_once() {
+fn batches_of_edits() {
     let (texts, edits) = (["ab cd", "xab + d"], [edit(0, 0, "x"), edit(2, 4, " + ")]);
     in_turn(
         || LexedText::new(texts[0]),
@@ -234,9 +234,9 @@ fn edits_at_once() {
     );
 }
 
-/// Edits at once that would make the text too long, by their insertions or with the rest of the text, allocate nothing.
+/// A batch that would make the text too long, by its insertions or with the rest of the text, allocates nothing.
 #[test]
-fn edits_at_once_that_are_too_long() {
+fn batches_that_are_too_long() {
     let insert = "a".repeat(1 << 20);
     let mut edits = vec![edit(0, 0, &insert); 4096];
     for last in [&insert[..], &insert[1..]] {
@@ -304,7 +304,7 @@ fn set_edition_copies_no_text() {
 
 /// A growing list of tokens gets room for the tokens that the rest of the text can have; for an edit, an eighth more.
 #[test]
-fn tokens_get_little_spare_room() {
+fn spare_capacity_of_tokens() {
     let (text, mut made) = ("x = [12, y];\n".repeat(5_600), None);
     let greatest = greatest_request(|| made = Some(LexedText::new(&text)));
     let mut lexed = made.unwrap();

@@ -1,9 +1,0 @@
--- What C gets about a seam of a text.
-use Rattle.std.specs.Prelude.{ℕ, ◌≡◌, ◌↔◌, ◌≤◌, List, drop, take}
-use Rattle.rustc_lexer.specs.declared.edition.Edition.{Edition}
-use Rattle.rustc_lexer.specs.Joined.{MayTouch}
-
--- the number is 1 exactly if the texts before and after the offset may touch, otherwise 0
-pub record TellsSeam (bytes : List ℕ) (at : ℕ) (edition : Edition) (number : ℕ) : Type 0 where
-  pub seam : number ≡ 1 ↔ MayTouch edition (take at bytes) (drop at bytes)
-  pub bit : number ≤ 1
