@@ -475,6 +475,54 @@ static void check_marks(void) {
     }
 }
 
+/* Checks the message of the first token's error with buffers of all lengths up to that of the message. */
+static void check_message(const char *text, const char *wanted) {
+    struct rustc_lexer_token token = rustc_lexer_first_token_unchecked((const uint8_t *)text, strlen(text), 1);
+    size_t len = strlen(wanted);
+    CHECK(len <= 256);
+    for (size_t buffer_len = 0; buffer_len <= len; buffer_len++) {
+        uint32_t status = buffer_len == len ? RUSTC_LEXER_OK : RUSTC_LEXER_SMALL_BUFFER;
+        size_t written = 99;
+        uint8_t bytes[258];
+        memset(bytes, 0xAA, sizeof bytes);
+        CHECK(rustc_lexer_token_error_message((const uint8_t *)text, token.len, &token, bytes, buffer_len, &written) ==
+              status);
+        CHECK(written == (status == RUSTC_LEXER_OK ? len : 0) && bytes[buffer_len] == 0xAA);
+        CHECK(status != RUSTC_LEXER_OK || memcmp(bytes, wanted, len) == 0);
+    }
+}
+
+static void check_messages(void) {
+    const uint8_t *text = (const uint8_t *)"0x";
+    struct rustc_lexer_token number = {.kind = RUSTC_LEXER_LITERAL, .literal_kind = RUSTC_LEXER_INT, .empty_int = 1};
+    struct rustc_lexer_token unknown = {.kind = 255, .literal_kind = 255, .terminated = 255, .n_hashes = 255};
+    uint8_t bytes[300];
+    size_t written = 99;
+    check_message("a", "");
+    check_message("\"\\q\"", "");
+    check_message("0x", "this number has no digits");
+    check_message("k#a", "no literal has this prefix");
+    check_message("\xc2\xac", "no token begins with this character");
+    check_message("r\"a", "nothing closes this raw string: a quote would");
+    check_message("br#\"a", "nothing closes this raw string: a quote and 1 # would");
+    check_message("r##\"abc\"#", "a quote and 2 # would close this raw string; at byte 8 it has 1");
+    check_message("---\n----", "this frontmatter opens with 3 dashes and closes with 4");
+
+    /* a buffer with spare room, an empty text and null */
+    memset(bytes, 0xAA, sizeof bytes);
+    CHECK(rustc_lexer_token_error_message(text, 2, &number, bytes, sizeof bytes, &written) == RUSTC_LEXER_OK);
+    CHECK(written == 25 && memcmp(bytes, "this number has no digits\xaa", 26) == 0);
+    CHECK(rustc_lexer_token_error_message(NULL, 0, &number, NULL, 0, &written) == RUSTC_LEXER_SMALL_BUFFER && written == 0);
+    CHECK(rustc_lexer_token_error_message(NULL, 0, &unknown, NULL, 0, &written) == RUSTC_LEXER_OK && written == 0);
+
+    /* if the text is invalid, the buffer is unchanged */
+    memset(bytes, 0xAA, sizeof bytes);
+    written = 99;
+    CHECK(rustc_lexer_token_error_message((const uint8_t *)"\xff", 1, &number, bytes, sizeof bytes, &written) ==
+          RUSTC_LEXER_NOT_UTF8);
+    CHECK(written == 0 && bytes[0] == 0xAA);
+}
+
 /* The header guarantees that, if several statuses apply, the first of these is returned. */
 static const uint32_t order[] = {
     RUSTC_LEXER_TOO_LONG,     RUSTC_LEXER_NOT_UTF8,    RUSTC_LEXER_BAD_PLACE,
@@ -497,6 +545,7 @@ static void check_order(void) {
     struct rustc_lexer_edit edit = {5, 4, 3}, made;
     struct rustc_lexer_relexing begin = {0};
     struct rustc_lexer_head head = {0};
+    struct rustc_lexer_token unknown = {.kind = RUSTC_LEXER_UNKNOWN, .len = 1};
     uint8_t bytes[8];
     size_t count;
     uint32_t is;
@@ -518,6 +567,8 @@ static void check_order(void) {
         {rustc_lexer_relex(good, 1, NULL, 0, &edit, 0, &begin, buffer, 1, &count), RUSTC_LEXER_BAD_EDITION,
          RUSTC_LEXER_BAD_EDIT},
         {rustc_lexer_body_edit(bad, 1, &edit, &head, &made, &is), RUSTC_LEXER_NOT_UTF8, RUSTC_LEXER_BAD_EDIT},
+        {rustc_lexer_token_error_message(bad, 1, &unknown, NULL, 0, &count), RUSTC_LEXER_NOT_UTF8,
+         RUSTC_LEXER_SMALL_BUFFER},
         {rustc_lexer_write_highlighted(bad, 1, 1, 0, 1, NULL, 0, &count), RUSTC_LEXER_NOT_UTF8,
          RUSTC_LEXER_BAD_EDITION},
         {rustc_lexer_write_highlighted(bad, 1, 0, 2024, 1, NULL, 0, &count), RUSTC_LEXER_NOT_UTF8,
@@ -592,7 +643,7 @@ static void check_classes(void) {
     } rows[] = {
         {" ", 1, RUSTC_LEXER_CLASS_PLAIN, 0},
         {"r#fn", 4, RUSTC_LEXER_CLASS_PLAIN, 0},
-        {"k#fn", 4, RUSTC_LEXER_CLASS_PLAIN, 0},
+        {"k#fn", 4, RUSTC_LEXER_CLASS_PLAIN, RUSTC_LEXER_TOKEN_ERROR_UNKNOWN_PREFIX},
         {"%", 1, RUSTC_LEXER_CLASS_PLAIN, 0},
         {"a", 1, RUSTC_LEXER_CLASS_PLAIN, 0},
         {"// a", 4, RUSTC_LEXER_CLASS_COMMENT, 0},
@@ -706,5 +757,6 @@ int main(void) {
     check_others();
     check_marks();
     check_classes();
+    check_messages();
     return 0;
 }

@@ -252,20 +252,27 @@ static void check_parts(void) {
     }
 }
 
-/* Checks the class and the error of the first token of a text, and of a token with random fields. */
+/* Checks the class, the error and the message of the first token of a text, and of a token with random fields. */
 static void check_classes(const uint8_t *text, size_t len, enum placement placement) {
     struct block token = block_of(sizeof(struct rustc_lexer_token), placement);
     struct block number = block_of(sizeof(uint32_t), placement);
     struct rustc_lexer_token first = rustc_lexer_first_token_unchecked(text, len, 0);
     uint8_t *numbers = token.bytes;
+    struct block message = block_of(256, placement);
     for (int i = 0; i < 2; i++) {
+        uint32_t error;
+        size_t written;
         memcpy(token.bytes, &first, sizeof first);
         CHECK(rustc_lexer_class(text, first.len, token.bytes, 2024, number.bytes) == RUSTC_LEXER_OK);
         CHECK(rustc_lexer_token_error(text, first.len, token.bytes, number.bytes) == RUSTC_LEXER_OK);
+        memcpy(&error, number.bytes, sizeof error);
+        CHECK(rustc_lexer_token_error_message(text, first.len, token.bytes, message.bytes, 256, &written) == RUSTC_LEXER_OK);
+        CHECK((written > 0) == (error > 0));
         for (size_t j = 0; j < 4; j++)
             numbers[j] = (uint8_t)below(j == 0 ? 45 : 12);
         memcpy(&first, numbers, 4);
     }
+    release(message);
     release(number);
     release(token);
 }

@@ -265,6 +265,37 @@ enum {
     RUSTC_LEXER_MULTIPLE_SKIPPED_LINES_WARNING = 23
 };
 
+/* Returns the message of an error or warning of a literal, or "" for any other number. */
+static inline const char *rustc_lexer_literal_error_message(uint32_t error) {
+    static const char *const messages[] = {
+        "",
+        "nothing is between these quotes: one character goes there",
+        "more than one character is between these quotes",
+        "nothing follows this backslash, which begins an escape",
+        "there is no such escape: a backslash itself is written twice",
+        "a carriage return cannot stand here itself: it is written as \\r",
+        "a raw string cannot hold a carriage return",
+        "this character cannot stand here itself: it is written as an escape",
+        "this escape ends too early: \\x takes two hexadecimal digits",
+        "this is no hexadecimal digit: \\x takes two of them",
+        "this escape is out of range: here \\x goes up to 7f",
+        "no brace follows here: \\u takes its digits in braces",
+        "this is neither a hexadecimal digit nor an underscore nor a closing brace",
+        "no digit is between these braces: \\u takes one to six",
+        "nothing closes this escape: a brace would",
+        "an underscore is the first here: \\u takes a digit first",
+        "too many digits are between these braces: \\u takes six at most",
+        "this is the number of a surrogate, which is no character",
+        "no character has so great a number: the greatest is 10ffff",
+        "no byte is written like this: \\x writes one",
+        "this character is not in ASCII, and so is no byte",
+        "a C string cannot hold a NUL, which ends it",
+        "not all white space after this line end is skipped: spaces, tabs and line ends are",
+        "more than one line end is skipped here"
+    };
+    return error < sizeof messages / sizeof *messages ? messages[error] : "";
+}
+
 /* A unit of a literal's value, or an error or warning, with its range in bytes. */
 struct rustc_lexer_unit {
     size_t start;   /* the offset of the first byte */
@@ -296,7 +327,7 @@ enum {
     RUSTC_LEXER_TOKEN_ERROR_FRONTMATTER_CLOSE_MISMATCH = 6, /* the closing fence has another number of dashes */
     RUSTC_LEXER_TOKEN_ERROR_EXTRA_AFTER_FRONTMATTER_CLOSE = 7, /* other characters after a closing fence */
     RUSTC_LEXER_TOKEN_ERROR_INVALID_NAME = 8, /* a name contains an emoji */
-    RUSTC_LEXER_TOKEN_ERROR_UNKNOWN_PREFIX = 9, /* unknown prefix of a literal */
+    RUSTC_LEXER_TOKEN_ERROR_UNKNOWN_PREFIX = 9, /* unknown prefix of a literal, or k#a */
     RUSTC_LEXER_TOKEN_ERROR_UNKNOWN_LIFETIME_PREFIX = 10, /* unknown prefix of a lifetime */
     RUSTC_LEXER_TOKEN_ERROR_GUARDED_STRING = 11, /* #" or ##, which are reserved */
     RUSTC_LEXER_TOKEN_ERROR_INVALID_LIFETIME = 12, /* a lifetime starts with a digit or contains an emoji */
@@ -534,9 +565,20 @@ uint32_t rustc_lexer_class(const uint8_t *text, size_t len, const struct rustc_l
  * the token. For errors between the quotes of a terminated literal, call rustc_lexer_literal_errors.
  *
  * CR LF is a newline. So is a CR that ends a doc comment or a closing fence at the end of a text, which rustc
- * rejects. For '\ before CR LF, the error is an unterminated character, where rustc reports an unknown escape. */
+ * rejects. For '\ before CR LF, the error is an unterminated character, where rustc reports an unknown escape. Before
+ * 2021, k#a is not an error in rustc. */
 uint32_t rustc_lexer_token_error(const uint8_t *text, size_t len, const struct rustc_lexer_token *token,
                                  uint32_t *number);
+
+/* Writes the message of the error that rustc_lexer_token_error finds into the buffer, such as "this number has no digits",
+ * and the number of bytes into `written`, which is 0 if there is no error. The message is UTF-8 without a terminating
+ * zero; the rest of the buffer is unchanged. 256 bytes are enough for every message. For an error between the quotes of
+ * a literal, call rustc_lexer_literal_error_message.
+ *
+ * If the status is RUSTC_LEXER_SMALL_BUFFER, the contents of the buffer are unspecified: call again with a larger
+ * one. If it is any other status except 0, the buffer is unchanged. In both cases `written` is 0. */
+uint32_t rustc_lexer_token_error_message(const uint8_t *text, size_t len, const struct rustc_lexer_token *token,
+                                   uint8_t *buffer, size_t buffer_len, size_t *written);
 
 /* Writes the first `count` tokens of the text, or all if it has fewer, with highlighting into the buffer, and the
  * number of bytes into `written`. The highlighting shows the class of each token, a message if it is malformed, and

@@ -1,5 +1,9 @@
--- The class and the error of a token as numbers, and the kind of a token whose numbers C passes.
-use Rattle.std.specs.Prelude.{ℕ, Bool, List, not, ◌||◌, nat_eq, if◌then◌else◌, Option, Some, None}
+-- The class and the error of a token as numbers, the message of the error, and the kind of a token
+-- whose numbers C passes.
+use Rattle.std.specs.Prelude.{ℕ, Bool, ◌≡◌, ◌≤◌, ◌<◌, ◌^◌, ◌⊎◌, List, [], length, not, ◌||◌, nat_eq, if◌then◌else◌}
+use Rattle.std.specs.Prelude.{Option, Some, None}
+use Rattle.std.specs.Str.{IsUtf8}
+use Rattle.rustc_lexer.specs.Classes.{IsText}
 use Rattle.rustc_lexer.specs.declared.edition.Edition.{Edition}
 use Rattle.rustc_lexer.specs.declared.token.Base.{Base}
 use Rattle.rustc_lexer.specs.declared.token.Base.TheVariants.{Binary, Octal, Decimal, Hexadecimal}
@@ -10,17 +14,31 @@ use Rattle.rustc_lexer.specs.declared.token.LiteralKind.TheVariants.{RawByteStr,
 use Rattle.rustc_lexer.specs.declared.token.TokenKind.{TokenKind}
 use Rattle.rustc_lexer.specs.declared.token.TokenKind.TheVariants.{LineComment, BlockComment, Whitespace, Frontmatter}
 use Rattle.rustc_lexer.specs.declared.token.TokenKind.TheVariants.{Ident, InvalidIdent, RawIdent, UnknownPrefix}
+use Rattle.rustc_lexer.specs.declared.token.TokenKind.TheVariants.{ForcedKeywordIdent}
 use Rattle.rustc_lexer.specs.declared.token.TokenKind.TheVariants.{UnknownPrefixLifetime, RawLifetime, GuardedStrPrefix}
 use Rattle.rustc_lexer.specs.declared.token.TokenKind.TheVariants.{Literal, Lifetime, Unknown}
 use Rattle.rustc_lexer_highlight.specs.Class.{class_number, class_of}
 use Rattle.rustc_lexer_highlight.specs.declared.errors.TokenError.{TokenError}
-use Rattle.rustc_lexer_highlight.specs.TokenError.{error_number}
+use Rattle.rustc_lexer_highlight.specs.TokenError.{error_number, sentence}
 use Rattle.rustc_lexer_c.specs.declared.token.CToken.{CToken}
+use Rattle.rustc_lexer_c.specs.declared.status.Refusal.TheVariants.{NotUtf8, SmallBuffer, TooLong}
+use Rattle.rustc_lexer_c.specs.Status.{OK, refusal_number}
 
 -- Returns the number of an error, or 0 if there is none.
 abbrev pub number_of : Option TokenError → ℕ
 number_of None = 0
 number_of (Some error) = error_number error
+
+-- the message of an error, or an empty text if there is none
+abbrev pub message_of : Option TokenError → List ℕ
+message_of None = []
+message_of (Some error) = sentence error
+
+-- the status of a call that takes a text and a buffer of any length
+pub record IsMessageStatus (bytes : List ℕ) (status : ℕ) : Type 0 where
+  pub ok : IsText bytes → (status ≡ OK) ⊎ (status ≡ refusal_number SmallBuffer)
+  pub not_utf8 : length bytes < 2 ^ 32 → ¬ (IsUtf8 bytes) → status ≡ refusal_number NotUtf8
+  pub too_long : 2 ^ 32 ≤ length bytes → status ≡ refusal_number TooLong
 
 abbrev pub is_set : ℕ → Bool
 is_set number = not (nat_eq number 0)
@@ -56,6 +74,7 @@ kind_of token =
     else if nat_eq token.kind 5 then Ident
     else if nat_eq token.kind 6 then InvalidIdent
     else if nat_eq token.kind 7 then RawIdent
+    else if nat_eq token.kind 8 then ForcedKeywordIdent
     else if nat_eq token.kind 9 then UnknownPrefix
     else if nat_eq token.kind 10 then UnknownPrefixLifetime
     else if nat_eq token.kind 11 then RawLifetime

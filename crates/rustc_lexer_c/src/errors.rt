@@ -1,20 +1,24 @@
-//! The class and the error of a token.
-ghost use Rattle.std.specs.Prelude.{◌≡◌, ◌≢◌, None};
+//! The class and the error of a token, and the message of the error.
+ghost use Rattle.std.specs.Prelude.{◌≡◌, ◌≢◌, None, OnOk};
+ghost use Rattle.std.specs.Fmt.{WritesInCalls};
 ghost use Rattle.rustc_lexer.specs.declared.edition.Edition.{Edition};
 ghost use Rattle.rustc_lexer.specs.declared.token.Token.{Token};
 ghost use Rattle.rustc_lexer.specs.LanguageCalls.{edition_of_year};
 ghost use Rattle.rustc_lexer_highlight.specs.Class.{class_of};
 ghost use Rattle.rustc_lexer_highlight.specs.TokenError.{token_error};
 ghost use Rattle.rustc_lexer_c.specs.EscapeErrors as spec;
+ghost use Rattle.rustc_lexer_c.specs.Highlighted.{IsFront};
 ghost use Rattle.rustc_lexer_c.specs.Numbers.{token_numbers};
-ghost use Rattle.rustc_lexer_c.specs.declared.status.Refusal.TheVariants.{BadEdition};
-ghost use Rattle.rustc_lexer_c.specs.Status.{Writes, refusal_number};
+ghost use Rattle.rustc_lexer_c.specs.declared.status.Refusal.TheVariants.{BadEdition, SmallBuffer};
+ghost use Rattle.rustc_lexer_c.specs.Status.{OK, Writes, refusal_number};
 
+use crate::buffer::Buffer;
 use crate::relex::edition_of;
-use crate::status::{Refusal, done, refuse, text_of};
+use crate::status::{OK, Refusal, done, refuse, text_of};
 use crate::token::CToken;
 use rustc_lexer::{Base, DocStyle, LiteralKind, TokenKind};
 use rustc_lexer_highlight::{TokenError, class_of, token_error};
+use std::fmt;
 
 /// Writes the number of a token's class in the edition of a year. The token is passed as its numbers and its text.
 #[tactic(auto, using(crate::proofs::ErrorLemmas::same_class))]
@@ -58,6 +62,52 @@ pub extern "C" fn rustc_lexer_token_error(text: &[u8], token: &CToken, number: &
     }
 }
 
+/// Writes the message of a token's error to the start of the buffer, or nothing if the token has no error. Writes the
+/// number of bytes into `written`. The token is passed as its numbers and its text.
+///
+/// If the buffer is too small, `written` is 0, and the contents of the buffer are unspecified.
+#[tactic(auto, using(crate::proofs::ErrorLemmas::same_error, crate::proofs::OutputLemmas::written_front, std::proofs::lemmas::Grind::common_steps))]
+#[unsafe(no_mangle)]
+pub extern "C" fn rustc_lexer_token_error_message(
+    text: &[u8],
+    token: &CToken,
+    buffer: &mut [u8],
+    written: &mut usize,
+) -> u32
+    ensures status { spec.IsMessageStatus text.now result }
+    ensures message { result ≡ OK
+        → IsFront (spec.message_of (token_error (spec.kind_of token.now) text.now))
+        buffer.old buffer.new written.new }
+    ensures refused { result ≢ OK → written.new ≡ 0 }
+    ensures unchanged { result ≢ OK → result ≢ refusal_number SmallBuffer → buffer.new ≡ buffer.old }
+    ensures same { (it : Token) → token_numbers it ≡ token.now
+        → token_error (spec.kind_of token.now) text.now ≡ token_error it.kind text.now }
+{
+    *written = 0;
+    let text = match text_of(text) {
+        Ok(text) => text,
+        Err(refusal) => return refusal.number(),
+    };
+    let error = token_error(kind_of(token), text);
+    let mut output = Buffer::new(buffer);
+    let Ok(()) = write_message(error, &mut output) else {
+        return Refusal::SmallBuffer.number();
+    };
+    *written = output.len;
+    OK
+}
+
+/// Writes the message of an error, or nothing if there is no error.
+fn write_message<W: fmt::Write>(error: Option<TokenError>, output: &mut W) -> fmt::Result
+    ensures { OnOk result (WritesInCalls W.write_str_gives output.old (spec.message_of error)
+        output.new) }
+{
+    match error {
+        Some(error) => write!(output, "{error}"),
+        None => Ok(()),
+    }
+}
+
 /// Returns the number of an error, or 0 if there is none.
 fn number_of(error: Option<TokenError>) -> u32
     ensures { result ≡ spec.number_of error }
@@ -87,6 +137,7 @@ fn kind_of(token: &CToken) -> TokenKind
         5 => TokenKind::Ident,
         6 => TokenKind::InvalidIdent,
         7 => TokenKind::RawIdent,
+        8 => TokenKind::ForcedKeywordIdent,
         9 => TokenKind::UnknownPrefix,
         10 => TokenKind::UnknownPrefixLifetime,
         11 => TokenKind::RawLifetime,

@@ -1,23 +1,24 @@
 -- What a highlighted text says, and the calls that write it.
-use Rattle.std.proofs.Common.{◌≡◌, ℕ, ◌+◌, ◌-◌, ◌==◌, inl, inr, List, [], ◌∷◌, ◌++◌, length, take, drop, refl, sym, ap}
-use Rattle.std.proofs.Common.{subst, ◌∙◌, arith, take-add, take-append-drop, Option, append-nil}
-use Rattle.std.specs.{Fmt.{WritesInCalls}, Prelude.{OnOk, Result}, Char.{encode_utf8, len_utf8}}
-use Rattle.std.specs.Str.{IsCharBoundary, IsUtf8, chars}
-use Rattle.std.proofs.lemmas.{Bool.{cases_Bool, eqb-true}, Str.{IsCharBoundary-past_char, IsCharBoundary-start}}
+use Rattle.std.proofs.Common.{◌≡◌, ℕ, ◌-◌, List, [], ◌∷◌, length, take, drop, refl, sym, ap}
+use Rattle.std.proofs.Common.{subst, ◌∙◌, arith, take-add, Option, append-nil}
+use Rattle.std.specs.{Fmt.{WritesInCalls}, Prelude.{OnOk, Result}}
+use Rattle.std.specs.Str.{IsCharBoundary, IsUtf8}
+use Rattle.std.proofs.lemmas.Str.{IsUtf8-drop}
 use Rattle.std.proofs.lemmas.{List.Concat.{flat_map-append}, Grind.{common_steps}, Result.{on_ok_weaker}}
 use Rattle.rustc_lexer.specs.declared.{edition.Edition.{Edition}, token.Token.{Token}}
-use Rattle.rustc_lexer.specs.{Document.{document_tokens, byte_order_mark_len, tokens_start}, Tokens.{bound, Partitions}}
+use Rattle.rustc_lexer.specs.{Document.{document_tokens, byte_order_mark_len, tokens_start}, State.{State}}
+use Rattle.rustc_lexer.specs.Tokens.{bound, Partitions, TakesToken}
 use Rattle.rustc_literal_escaper.specs.declared.mode.Mode.{Mode}
 use Rattle.rustc_lexer_highlight.specs.declared.{class.{Class.{Class, TheVariants.{Comment, Plain}}}, errors.TokenError.{TokenError}}
 use Rattle.rustc_lexer_highlight.specs.{declared.{format.{Format.{Format, TheVariants.{Html}}}}, Escape.{unescaped, untagged}}
 use Rattle.rustc_lexer_highlight.specs.Highlighted.{document_parts, highlighted, marked_tokens, parts, parts_by, start_parts, token_parts}
 use Rattle.rustc_lexer_highlight.specs.Part.{Own, own, with_marks, without_marks}
 use Rattle.rustc_lexer_highlight.proofs.{EscapeLemmas.{unescaped_escaped}, LiteralLemmas.{without_literal}}
-use Rattle.rustc_lexer_highlight.proofs.PartLemmas.{shows, without_error, writes_parts}
+use Rattle.rustc_lexer_highlight.proofs.PartLemmas.{shows, without_faulty, writes_parts}
 
-without_token : (error : Option TokenError) (mode : Option Mode) (class : Class) (text : List ℕ)
-    → without_marks (parts_by error mode class text) ≡ text
-without_token error mode class text = grind (arith, common_steps, without_error, without_literal, append-nil)
+without_token : (error : Option TokenError) (mode : Option Mode) (class : Class) (text next : List ℕ)
+    → without_marks (parts_by error mode class text next) ≡ text
+without_token error mode class text next = grind (arith, common_steps, without_faulty, without_literal, append-nil)
 
 -- without the marks, the parts are the text as far as the tokens go
 without_marks-parts : (edition : Edition) (text : List ℕ) (tokens : List Token)
@@ -47,6 +48,15 @@ page_is edition text is =
     ap unescaped (shows (document_parts edition text))
     ∙ (unescaped_escaped (without_marks (document_parts edition text)) ∙ is)
 
+-- the text past a token is that of the state past it
+pub past_piece : (s t : State) (token : Token) (rest next : List ℕ) → IsUtf8 rest → rest ≡ s.rest
+    → TakesToken s token t → next ≡ drop token.len rest → IsUtf8 next × (next ≡ t.rest)
+past_piece s t token rest next utf8 place step back = (
+  subst IsUtf8 (sym back) (IsUtf8-drop rest token.len utf8
+      (subst (λ (bs : List ℕ). IsCharBoundary bs token.len) (sym place) step.boundary)),
+  back ∙ (ap (drop token.len) place ∙ sym step.rest),
+)
+
 -- ---- the calls that write the tokens
 
 module _ {W : Type 0} (took : W → List ℕ → W → Type 0) where
@@ -54,7 +64,7 @@ module _ {W : Type 0} (took : W → List ℕ → W → Type 0) where
   pub writes_token : (format : Format) (edition : Edition) (w0 w1 w : W) (text rest own : List ℕ)
       (left others : List Token) (token : Token)
       → left ≡ token ∷ others → rest ≡ drop token.len text → own ≡ take token.len text
-      → WritesInCalls took w0 (with_marks format (token_parts edition token.kind own)) w1
+      → WritesInCalls took w0 (with_marks format (token_parts edition token.kind own rest)) w1
       → WritesInCalls took w1 (marked_tokens format edition rest others) w
       → WritesInCalls took w0 (marked_tokens format edition text left) w
   writes_token format edition w0 w1 w text rest own left others token first past is wrote more =

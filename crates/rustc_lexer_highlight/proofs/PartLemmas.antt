@@ -1,20 +1,38 @@
 -- A part of a text between its marks: what it says, and the calls that write it.
 use Rattle.std.proofs.Common.{◌≡◌, ℕ, zero, suc, ◌%◌, ◌==◌, Bool, true, false, List, [], ◌∷◌, ◌++◌, length, take, drop}
 use Rattle.std.proofs.Common.{refl, sym, ap, subst, ◌∙◌, arith, append_assoc, not, take-append-drop, ◌-◌, append-nil}
-use Rattle.std.proofs.Common.{true≢false}
+use Rattle.std.proofs.Common.{true≢false, ◌<◌, codes, IsCharBoundary}
+use Rattle.std.proofs.Math.Seq.{drop-length, split_at}
 use Rattle.std.specs.{Prelude.{decimal}, Fmt.{digit_glyph, digits, digits_onto, WritesInCalls}}
-use Rattle.std.proofs.lemmas.{Bool.{ne_eqb}, List.Concat.{flat_map-append}, Grind.{common_steps}}
+use Rattle.std.proofs.lemmas.{Bool.{eqb-true, ne_eqb}, List.Concat.{flat_map-append}, Grind.{common_steps}}
 use Rattle.rustc_literal_escaper.specs.declared.error.EscapeError.{EscapeError}
-use Rattle.rustc_lexer_highlight.specs.declared.{class.Class.{Class}, errors.TokenError.{TokenError}, format.{Format.{Format, TheVariants.{Html}}}}
+use Rattle.rustc_lexer_highlight.specs.declared.{class.Class.{Class, TheVariants.{Comment}}, errors.TokenError.{TokenError}, format.{Format.{Format, TheVariants.{Html}}}}
 use Rattle.rustc_lexer_highlight.specs.{Escape.{escaped, escaped_byte, untagged, untagged_from}, TokenError.{sentence}}
 use Rattle.rustc_literal_escaper.specs.Numbers.{error_sentence}
 use Rattle.rustc_lexer_highlight.specs.Mark.{class_open, class_close, error_open, error_close}
-use Rattle.rustc_lexer_highlight.specs.Part.{Part, Own, Close, error_parts, first_line, own, shown, with_marks, without_marks, written}
+use Rattle.rustc_lexer_highlight.specs.Part.{Part, Own, Close, Return, error_parts, faulty_parts, first_line, is_cut_line_end, own, shown}
+use Rattle.rustc_lexer_highlight.specs.Part.{with_marks, without_marks, written}
 use Rattle.rustc_lexer_highlight.proofs.{CallLemmas.{no_calls, one_call, writes_both}, EscapeLemmas.{untagged_escaped}}
 
 pub without_error : (error : TokenError) (class : Class) (text : List ℕ) → without_marks (error_parts error class text) ≡
     text
 without_error error class text = grind (arith, common_steps, append-nil, take-append-drop)
+
+-- a text may be cut before a carriage return at its end
+module _ (text next : List ℕ) (ends : is_cut_line_end text next ≡ true) where
+  pub may_cut_return : (0 < length text) × IsCharBoundary text (length text - 1)
+  may_cut_return = grind (arith, common_steps, eqb-true)
+
+  cut_return : take (length text - 1) text ++ (13 ∷ []) ≡ text
+  cut_return =
+      let last = split_at text (length text - 1) 0 (omega (arith, may_cut_return.0)) in
+      let past : suc (length text - 1) ≡ length text = omega (arith, may_cut_return.0) in
+      grind (arith, common_steps, eqb-true, last, past, drop-length)
+
+pub without_faulty : (error : TokenError) (class : Class) (text next : List ℕ)
+    → without_marks (faulty_parts error class text next) ≡ text
+without_faulty error class text next =
+    grind (arith, common_steps, without_error, flat_map-append, cut_return, append-nil)
 
 -- ---- no mark of a page shows anything
 
@@ -93,6 +111,19 @@ module _ {W : Type 0} (took : W → List ℕ → W → Type 0) where
       writes_both took w0 w3 w3 _ _ (
       writes_both took w0 w1 w3 _ _ (one_call took w0 w1 _ open_call) (
       writes_both took w1 w2 w3 _ _ b (one_call took w2 w3 _ close_call))) (no_calls took w3)
+
+  -- a token with an error, and a carriage return
+  pub writes_return : (format : Format) (error : TokenError) (class : Class) (text next line : List ℕ) (w0 w1 w2 : W)
+      → is_cut_line_end text next ≡ true → line ≡ take (length text - 1 - 0) text
+      → WritesInCalls took w0 (with_marks format (error_parts error class line)) w1
+      → WritesInCalls took w1 (shown format Comment (codes "\r")) w2
+      → WritesInCalls took w0 (with_marks format (faulty_parts error class text next)) w2
+  writes_return format error class text next line w0 w1 w2 ends front a b =
+      let same : length text - 1 - 0 ≡ length text - 1 = omega arith in
+      let is_line : line ≡ take (length text - 1) text = front ∙ ap (λ (k : ℕ). take k text) same in
+      let whole = writes_parts format (error_parts error class line) (Return ∷ []) w0 w1 w2 a
+      (writes_both took w1 w2 w2 _ _ b (no_calls took w2)) in
+      rw (ends, ← is_line) whole
 
   -- a token with an error between its marks
   pub writes_error : (format : Format) (error : TokenError) (class : Class) (text line rest : List ℕ) (n : ℕ)

@@ -1,9 +1,10 @@
 -- A text with its shebang line and its tokens highlighted.
-use Rattle.std.specs.Prelude.{ℕ, ◌==◌, if◌then◌else◌, slice_index, List, [], ◌∷◌, ◌++◌, take, drop, Option, Some, None}
-use Rattle.std.specs.Str.{chars}
+use Rattle.std.specs.Prelude.{ℕ, List, [], ◌∷◌, ◌++◌, take, drop, Option, Some, None}
 use Rattle.rustc_lexer.specs.declared.edition.Edition.{Edition}
+use Rattle.rustc_lexer.specs.declared.edition.Edition.TheVariants.{E2015, E2018}
 use Rattle.rustc_lexer.specs.declared.token.Token.{Token}
 use Rattle.rustc_lexer.specs.declared.token.TokenKind.{TokenKind}
+use Rattle.rustc_lexer.specs.declared.token.TokenKind.TheVariants.{ForcedKeywordIdent}
 use Rattle.rustc_lexer.specs.Document.{document_tokens, byte_order_mark_len, tokens_start}
 use Rattle.rustc_lexer_highlight.specs.declared.class.Class.{Class}
 use Rattle.rustc_lexer_highlight.specs.declared.class.Class.TheVariants.{Comment, Plain}
@@ -14,7 +15,7 @@ use Rattle.rustc_lexer_highlight.specs.Class.{class_of}
 use Rattle.rustc_lexer_highlight.specs.TokenError.{token_error}
 use Rattle.rustc_lexer_highlight.specs.Answers.{stretches_of}
 use Rattle.rustc_lexer_highlight.specs.Literal.{closed_mode, parts_from}
-use Rattle.rustc_lexer_highlight.specs.Part.{Part, Own, error_parts, with_marks}
+use Rattle.rustc_lexer_highlight.specs.Part.{Part, Own, faulty_parts, with_marks}
 
 -- the parts of a literal that is closed
 abbrev pub literal_parts : Mode → List ℕ → List Part
@@ -22,19 +23,27 @@ literal_parts mode text = parts_from 0 text (stretches_of mode text)
 
 -- the parts of a token: of one with an error, of a literal that is closed, or of one that has a
 -- single class
-abbrev pub parts_by : Option TokenError → Option Mode → Class → List ℕ → List Part
-parts_by (Some error) mode class text = error_parts error class text
-parts_by None (Some mode) class text = literal_parts mode text
-parts_by None None class text = Own class text ∷ []
+abbrev pub parts_by : Option TokenError → Option Mode → Class → List ℕ → List ℕ → List Part
+parts_by (Some error) mode class text next = faulty_parts error class text next
+parts_by None (Some mode) class text next = literal_parts mode text
+parts_by None None class text next = Own class text ∷ []
 
-abbrev pub token_parts : Edition → TokenKind → List ℕ → List Part
-token_parts edition kind text =
-    parts_by (token_error kind text) (closed_mode kind) (class_of kind text edition) text
+-- the error of a token in an edition. Before 2021, `k#a` is an identifier, `#` and an identifier,
+-- without an error
+abbrev pub error_in : Edition → TokenKind → List ℕ → Option TokenError
+error_in E2015 ForcedKeywordIdent text = None
+error_in E2018 ForcedKeywordIdent text = None
+error_in edition kind text = token_error kind text
+
+-- the parts of a token before the text `next`
+abbrev pub token_parts : Edition → TokenKind → List ℕ → List ℕ → List Part
+token_parts edition kind text next =
+    parts_by (error_in edition kind text) (closed_mode kind) (class_of kind text edition) text next
 
 abbrev pub parts : Edition → List ℕ → List Token → List Part
 parts edition text [] = []
 parts edition text (token ∷ tokens) =
-    token_parts edition token.kind (take token.len text)
+    token_parts edition token.kind (take token.len text) (drop token.len text)
     ++ parts edition (drop token.len text) tokens
 
 -- the parts of the text before the first token: a byte order mark, and a shebang line as a comment

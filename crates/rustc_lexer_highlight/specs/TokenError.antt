@@ -11,6 +11,7 @@ use Rattle.rustc_lexer.specs.declared.token.RawStrError.TheVariants.{InvalidStar
 use Rattle.rustc_lexer.specs.declared.token.TokenKind.{TokenKind}
 use Rattle.rustc_lexer.specs.declared.token.TokenKind.TheVariants.{BlockComment, Frontmatter, InvalidIdent}
 use Rattle.rustc_lexer.specs.declared.token.TokenKind.TheVariants.{UnknownPrefix as UnknownPrefixToken}
+use Rattle.rustc_lexer.specs.declared.token.TokenKind.TheVariants.{ForcedKeywordIdent}
 use Rattle.rustc_lexer.specs.declared.token.TokenKind.TheVariants.{UnknownPrefixLifetime, GuardedStrPrefix, Literal}
 use Rattle.rustc_lexer.specs.declared.token.TokenKind.TheVariants.{Lifetime, Unknown}
 use Rattle.rustc_lexer.specs.Answers.{raw_check}
@@ -91,6 +92,7 @@ kind_error (Frontmatter false invalid_infostring) text =
     front_error (invalid_infostring && not (has_crlf (chars text))) (end_error text)
 kind_error InvalidIdent text = Some InvalidName
 kind_error UnknownPrefixToken text = Some UnknownPrefix
+kind_error ForcedKeywordIdent text = Some UnknownPrefix
 kind_error UnknownPrefixLifetime text = Some UnknownLifetimePrefix
 kind_error GuardedStrPrefix text = Some GuardedString
 kind_error (Lifetime true) text = Some InvalidLifetime

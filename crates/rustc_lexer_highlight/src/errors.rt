@@ -41,7 +41,7 @@ pub enum TokenError {
     ExtraAfterFrontmatterClose,
     /// An identifier contains an emoji.
     InvalidName,
-    /// An identifier directly before a quote or a hash is not a known prefix.
+    /// An identifier directly before a quote or a hash is not a known prefix. This includes `k` in `k#a`.
     UnknownPrefix,
     /// A lifetime directly before a hash is not a known prefix.
     UnknownLifetimePrefix,
@@ -133,6 +133,9 @@ impl TokenError {
 
 /// Returns the error of a token with this kind and text, or one of its errors if it has two. CR LF counts as a newline,
 /// and so does a carriage return at the end of a doc comment or a frontmatter.
+///
+/// This function does not know the edition. It returns `UnknownPrefix` for `k#a`, which is an identifier, `#` and an
+/// identifier in editions before 2021.
 #[tactic(auto, using(crate::proofs::FrontmatterEndLemmas::tells))]
 pub fn token_error(kind: TokenKind, text: &str) -> Option<TokenError>
     requires fits { Fits text.now }
@@ -160,7 +163,7 @@ pub fn token_error(kind: TokenKind, text: &str) -> Option<TokenError>
             literal_error(kind, suffix_start as usize, text)
         }
         TokenKind::InvalidIdent => Some(TokenError::InvalidName),
-        TokenKind::UnknownPrefix => Some(TokenError::UnknownPrefix),
+        TokenKind::UnknownPrefix | TokenKind::ForcedKeywordIdent => Some(TokenError::UnknownPrefix),
         TokenKind::UnknownPrefixLifetime => Some(TokenError::UnknownLifetimePrefix),
         TokenKind::GuardedStrPrefix => Some(TokenError::GuardedString),
         TokenKind::Lifetime {

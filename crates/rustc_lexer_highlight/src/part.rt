@@ -2,7 +2,7 @@
 ghost use Rattle.std.specs.Prelude.{◌≡◌, ◌∷◌, [], OnOk};
 ghost use Rattle.std.specs.Fmt.{WritesInCalls};
 ghost use Rattle.std.specs.Str.{IsCharBoundary};
-ghost use Rattle.rustc_lexer_highlight.specs.Part.{Own, error_parts, first_line, shown, with_marks};
+ghost use Rattle.rustc_lexer_highlight.specs.Part.{Own, error_parts, faulty_parts, first_line, is_cut_line_end, shown, with_marks};
 
 use crate::class::Class;
 use crate::errors::TokenError;
@@ -11,6 +11,34 @@ use crate::format::{Format, class_close, class_open, close_error, open_error};
 use crate::screen::write_seen;
 use memchr::memchr2;
 use std::fmt;
+
+/// Writes a token with an error. `next` is the text after it. If the token ends between the carriage return and the
+/// newline of a CR LF, the carriage return is written as it is.
+#[tactic(auto, using(crate::proofs::PartLemmas::may_cut_return, crate::proofs::PartLemmas::writes_return, std::proofs::lemmas::Result::on_ok_weaker, std::proofs::lemmas::Grind::common_steps))]
+pub fn write_malformed<W: fmt::Write>(
+    format: Format,
+    error: TokenError,
+    class: Class,
+    text: &str,
+    next: &str,
+    output: &mut W,
+) -> fmt::Result
+    ensures { OnOk result (WritesInCalls W.write_str_gives output.old
+        (with_marks format (faulty_parts error class text.now next.now)) output.new) }
+{
+    if is_cut_line_end(text, next) {
+        write_with_error(format, error, class, &text[..text.len() - 1], output)?;
+        return write_shown(format, Class::Comment, "\r", output);
+    }
+    write_with_error(format, error, class, text, output)
+}
+
+/// Returns whether a token ends between the carriage return and the newline of a CR LF. `next` is the text after it.
+fn is_cut_line_end(text: &str, next: &str) -> bool
+    ensures { result ≡ is_cut_line_end text.now next.now }
+{
+    text.ends_with('\r') && next.starts_with('\n')
+}
 
 /// Writes a part with an error: its first line between the marks of the error, and all of it between those of its
 /// class.

@@ -1,6 +1,6 @@
 //! The errors and warnings of a file.
 
-use rustc_lexer::{Piece, tokenize_document};
+use rustc_lexer::{Piece, TokenKind, tokenize_document};
 use rustc_lexer_highlight::{
     Edition, EscapeErrorsInFile, TokenError, literal_contents, token_error,
 };
@@ -11,13 +11,20 @@ use rustc_lexer_highlight::{
 pub fn errors_of(text: &str, edition: Edition) -> impl Iterator<Item = (usize, TokenError)> {
     tokenize_document(text, edition)
         .pieces()
-        .flat_map(errors_of_piece)
+        .flat_map(move |piece| errors_of_piece(piece, edition))
 }
 
 /// Returns the error of a token, and the errors and warnings in the contents of a literal.
-fn errors_of_piece(piece: Piece<'_>) -> impl Iterator<Item = (usize, TokenError)> {
+fn errors_of_piece(
+    piece: Piece<'_>,
+    edition: Edition,
+) -> impl Iterator<Item = (usize, TokenError)> {
     let (kind, text, start) = (piece.token.kind, piece.text, piece.range().start);
-    let of_token = token_error(kind, text).map(|error| (start, error));
+    // Before 2021, `k#a` is an identifier, `#` and an identifier.
+    let is_valid = kind == TokenKind::ForcedKeywordIdent && edition < Edition::E2021;
+    let of_token = token_error(kind, text)
+        .filter(|_| !is_valid)
+        .map(|error| (start, error));
     let inside = literal_contents(kind, text).map(move |(mode, range)| {
         let start = start + range.start;
         EscapeErrorsInFile::new(&text[range], mode)

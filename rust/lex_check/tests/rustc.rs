@@ -97,8 +97,7 @@ const FILES: [(&str, &[&str], &[&str]); 35] = [
     ("pub const A: &str = \"\\x1\r\n\r\r\n\";\r\n", &["1:22", "2:1"], &["1:25", "2:1"]),
     // rustc reads a guarded string as one token.
     ("pub const A: &str = stringify!(#\"a\");\n", &["1:32", "1:34", "1:35"], &["1:32"]),
-    // Our lexer takes this prefix in every edition.
-    ("pub const A: &str = stringify!(k#a);\n", &[], &["1:32"]),
+    ("pub const A: &str = stringify!(k#a);\n", &["1:32"], &[]),
     // A byte order mark has no column.
     ("\u{feff}pub const A: u8 = b'a';\n", &[], &[]),
     ("\u{feff}pub const A: &str = \"\\u{}\";\n", &["1:22"], &[]),
@@ -219,9 +218,9 @@ fn the_same_editions() {
     if !has_rustc() {
         return;
     }
-    let text = "pub const A: &str = stringify!(z\"a\" 'z#a\n##\n'r#a);\n";
-    let prefixes = ["1:32", "1:37"].map(String::from);
-    let all = ["1:32", "1:37", "2:1"].map(String::from);
+    let text = "pub const A: &str = stringify!(z\"a\" 'z#a k#a\n##\n'r#a);\n";
+    let prefixes = ["1:32", "1:37", "1:42"].map(String::from);
+    let all = ["1:32", "1:37", "1:42", "2:1"].map(String::from);
     for (edition, wanted) in [
         ("2015", &[][..]),
         ("2018", &[]),

@@ -15,6 +15,7 @@ use std::sync::OnceLock;
 use std::{env, mem};
 
 use rustc_lexer::FrontmatterAllowed::{No, Yes};
+use rustc_literal_escaper::EscapeError;
 use tables::row::{Entry, Way};
 
 #[allow(dead_code)]
@@ -241,6 +242,56 @@ fn header_is_c11_and_cpp() {
         );
         printed(&mut Command::new(room("first")));
     }
+}
+
+/// A program that prints the messages of errors in literals.
+const MESSAGES: &str = "\
+#include <stdio.h>
+#include \"rustc_lexer.h\"
+int main(void) {
+    for (uint32_t error = 0; error < 26; error++)
+        puts(rustc_lexer_literal_error_message(error));
+    return 0;
+}
+";
+
+#[test]
+fn header_has_the_messages_of_errors_in_literals() {
+    use EscapeError::*;
+    fs::write(room("messages.c"), MESSAGES).unwrap();
+    let source = room("messages.c");
+    let library = static_library();
+    let program = compiled("messages", &["-I."], &[source.to_str().unwrap()], &library);
+    let errors = [
+        ZeroChars,
+        MoreThanOneChar,
+        LoneSlash,
+        InvalidEscape,
+        BareCarriageReturn,
+        BareCarriageReturnInRawString,
+        EscapeOnlyChar,
+        TooShortHexEscape,
+        InvalidCharInHexEscape,
+        OutOfRangeHexEscape,
+        NoBraceInUnicodeEscape,
+        InvalidCharInUnicodeEscape,
+        EmptyUnicodeEscape,
+        UnclosedUnicodeEscape,
+        LeadingUnderscoreUnicodeEscape,
+        OverlongUnicodeEscape,
+        LoneSurrogateUnicodeEscape,
+        OutOfRangeUnicodeEscape,
+        UnicodeEscapeInByte,
+        NonAsciiCharInByte,
+        NulInCStr,
+        UnskippedWhitespaceWarning,
+        MultipleSkippedLinesWarning,
+    ];
+    let messages: String = errors.iter().map(|error| format!("{error}\n")).collect();
+    assert_eq!(
+        printed(&mut Command::new(program)),
+        format!("\n{messages}\n\n")
+    );
 }
 
 #[test]

@@ -3,12 +3,13 @@
 use rustc_lexer_highlight::{Edition, Format, write_highlighted};
 
 /// The output for texts, each of which is this without its messages.
-const WRITTEN: [&str; 83] = [
+const WRITTEN: [&str; 84] = [
     "a /* b [<- nothing closes this comment]",
     " --- [<- white space comes before this frontmatter, which begins its line]\n---\n",
     "---a b [<- the first line of this frontmatter holds more than a name]\n---\n",
     "a🙂 [<- this name holds an emoji] b",
     "z [<- no literal has this prefix]\"a\"",
+    "k#fn [<- no literal has this prefix]",
     "'z [<- no lifetime has this prefix]#",
     "## [<- these marks are reserved for strings to come]a",
     "'1a [<- this lifetime begins with a digit or holds an emoji]",

@@ -235,5 +235,9 @@ fn errors_with_details() {
         token_error(TokenKind::Unknown, "\u{ac}"),
         Some(TokenError::UnknownCharacter)
     );
+    assert_eq!(
+        token_error(TokenKind::ForcedKeywordIdent, "k#a"),
+        Some(TokenError::UnknownPrefix)
+    );
     assert_eq!(token_error(TokenKind::Ident, "a"), None);
 }

@@ -67,7 +67,7 @@ const LINES: [Row<'_>; 23] = [
 
 /// Control characters, line ends, and byte order marks.
 #[rustfmt::skip]
-const CONTROLS: [Row<'_>; 20] = [
+const CONTROLS: [Row<'_>; 28] = [
     (NoColours, E2024, "// \x1b[2J\x07\0\x1f\x7f\t\u{9b}\u{80}\u{a0}", "// ␛[2J␇␀␟␡\t��\u{a0}"),
     (Colours, E2024, "// \x1b[0m", "\x1b[90m// ␛[0m\x1b[0m"),
     (Raw, E2024, "// \x1b[0m\r \0\u{9b}", "// \x1b[0m\r \0\u{9b}"),
@@ -78,6 +78,15 @@ const CONTROLS: [Row<'_>; 20] = [
     (NoColours, E2024, "// a\rb\r\r\n", "// a␍b␍\r\n"),
     (NoColours, E2024, "a;\rb;\r\r\n", "a;␍b;␍\r\n"),
     (NoColours, E2024, "a;\r", "a;␍"),
+    // A token can end between a carriage return and a newline.
+    (NoColours, E2024, "let c = '\r\n", "let c = ' [<- nothing closes this character]\r\n"),
+    (Colours, E2024, "'\r\n", "\x1b[4;31m\x1b[32m'\x1b[0m\x1b[0;31m [<- nothing closes this character]\x1b[0m\r\n"),
+    (Html, E2024, "'\r\n", "<mark title=\"nothing closes this character\"><span class=\"text\">'</span></mark>&#13;\n"),
+    (Raw, E2024, "'\r\n", "' [<- nothing closes this character]\r\n"),
+    (NoColours, E2024, "b'\\\r\n", "b'\\ [<- nothing closes this byte]\r\n"),
+    (NoColours, E2024, "'(\r\r\n", "'( [<- nothing closes this character]␍\r\n"),
+    (NoColours, E2024, "'\r/", "' [<- nothing closes this character]␍/"),
+    (NoColours, E2024, "'\r", "' [<- nothing closes this character]␍"),
     (NoColours, E2024, "\x0b\x0c\u{85}a", "␋␌�a"),
     (Colours, E2024, "'\x1b'", "\x1b[32m'␛'\x1b[0m"),
     (NoColours, E2024, "\"\x1b\\q\x1b\"", "\"␛\\q [<- there is no such escape: a backslash itself is \
@@ -94,7 +103,7 @@ const CONTROLS: [Row<'_>; 20] = [
 
 /// Tokens that depend on the edition.
 #[rustfmt::skip]
-const EDITIONS: [Row<'_>; 16] = [
+const EDITIONS: [Row<'_>; 20] = [
     (NoColours, E2024, "#\"a\"", "#\" [<- these marks are reserved for strings to come]a [<- no literal has this \
         prefix]\" [<- nothing closes this string]"),
     (NoColours, E2021, "#\"a\"", "#\"a\""),
@@ -104,6 +113,10 @@ const EDITIONS: [Row<'_>; 16] = [
     (NoColours, E2021, "z\"a\"", "z [<- no literal has this prefix]\"a\""),
     (NoColours, E2018, "z\"a\"", "z\"a\""),
     (NoColours, E2015, "z\"a\"", "z\"a\""),
+    (NoColours, E2024, "k#a", "k#a [<- no literal has this prefix]"),
+    (NoColours, E2021, "k#a", "k#a [<- no literal has this prefix]"),
+    (NoColours, E2018, "k#a", "k#a"),
+    (NoColours, E2015, "k#a", "k#a"),
     (NoColours, E2021, "#\"\\q\"", "#\"\\q [<- there is no such escape: a backslash itself is written twice]\""),
     (Colours, E2024, "---\n---", "\x1b[36m---\n---\x1b[0m"),
     (Colours, E2021, "---\n---\n#\"a\"", "\x1b[36m---\n---\x1b[0m\n#\x1b[32m\"a\"\x1b[0m"),

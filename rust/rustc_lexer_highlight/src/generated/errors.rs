@@ -35,7 +35,7 @@ pub enum TokenError {
     ExtraAfterFrontmatterClose,
     /// An identifier contains an emoji.
     InvalidName,
-    /// An identifier directly before a quote or a hash is not a known prefix.
+    /// An identifier directly before a quote or a hash is not a known prefix. This includes `k` in `k#a`.
     UnknownPrefix,
     /// A lifetime directly before a hash is not a known prefix.
     UnknownLifetimePrefix,
@@ -126,6 +126,9 @@ impl TokenError {
 
 /// Returns the error of a token with this kind and text, or one of its errors if it has two. CR LF counts as a newline,
 /// and so does a carriage return at the end of a doc comment or a frontmatter.
+///
+/// This function does not know the edition. It returns `UnknownPrefix` for `k#a`, which is an identifier, `#` and an
+/// identifier in editions before 2021.
 pub fn token_error(kind: TokenKind, text: &str) -> Option<TokenError> {
     // Most tokens match the last arm. The calls are not inlined, so that this arm needs no stack frame.
     match kind {
@@ -146,7 +149,7 @@ pub fn token_error(kind: TokenKind, text: &str) -> Option<TokenError> {
             literal_error(kind, suffix_start as usize, text)
         }
         TokenKind::InvalidIdent => Some(TokenError::InvalidName),
-        TokenKind::UnknownPrefix => Some(TokenError::UnknownPrefix),
+        TokenKind::UnknownPrefix | TokenKind::ForcedKeywordIdent => Some(TokenError::UnknownPrefix),
         TokenKind::UnknownPrefixLifetime => Some(TokenError::UnknownLifetimePrefix),
         TokenKind::GuardedStrPrefix => Some(TokenError::GuardedString),
         TokenKind::Lifetime {

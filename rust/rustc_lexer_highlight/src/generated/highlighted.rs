@@ -2,10 +2,10 @@
 //! Writes a text between marks, with its shebang line and its tokens, for a terminal or as the inside of a page.
 
 use crate::generated::class::{Class, class_of};
-use crate::generated::errors::token_error;
+use crate::generated::errors::{TokenError, token_error};
 use crate::generated::format::Format;
 use crate::generated::literal::{mode_of, write_literal};
-use crate::generated::part::{write_in_class, write_with_error};
+use crate::generated::part::{write_in_class, write_malformed};
 use core::fmt;
 use rustc_lexer::generated::{
     Edition, TokenKind, byte_order_mark_len, tokenize_document, tokenize_in,
@@ -23,12 +23,13 @@ pub fn write_highlighted<W: fmt::Write>(
     output: &mut W,
 ) -> fmt::Result {
     let tokens = tokenize_document(text, edition);
-    let mut start = text.len() - tokens.as_str().len();
+    let mut rest = tokens.as_str();
+    let start = text.len() - rest.len();
     write_start(format, &text[..start], output)?;
     for token in tokens {
-        let end = start + token.len as usize;
-        write_token(format, edition, token.kind, &text[start..end], output)?;
-        start = end;
+        let (piece, next) = rest.split_at(token.len as usize);
+        write_token(format, edition, token.kind, piece, next, output)?;
+        rest = next;
     }
     Ok(())
 }
@@ -52,35 +53,47 @@ pub fn write_first_tokens<W: fmt::Write>(
     output: &mut W,
 ) -> fmt::Result {
     let mut tokens = tokenize_in(text, edition);
-    let mut start = 0;
+    let mut rest = text;
     let mut left = count;
     while left > 0 {
         let Some(token) = tokens.next() else {
             break;
         };
-        let end = start + token.len as usize;
-        write_token(format, edition, token.kind, &text[start..end], output)?;
-        start = end;
+        let (piece, next) = rest.split_at(token.len as usize);
+        write_token(format, edition, token.kind, piece, next, output)?;
+        rest = next;
         left -= 1;
     }
     Ok(())
 }
 
-/// Writes a token between its marks. If the token has an error, its first line is also between the marks of the
-/// error. In a literal without an error of its own, each escape and each stretch that is wrong has marks around it.
+/// Writes a token between its marks. `next` is the text after it. If the token has an error, its first line is also
+/// between the marks of the error. In a literal without an error of its own, each escape and each stretch that is
+/// wrong has marks around it.
 fn write_token<W: fmt::Write>(
     format: Format,
     edition: Edition,
     kind: TokenKind,
     text: &str,
+    next: &str,
     output: &mut W,
 ) -> fmt::Result {
     let class = class_of(kind, text, edition);
-    if let Some(error) = token_error(kind, text) {
-        return write_with_error(format, error, class, text, output);
+    if let Some(error) = error_in(kind, text, edition) {
+        return write_malformed(format, error, class, text, next, output);
     }
     match mode_of(kind) {
         None => write_in_class(format, class, text, output),
         Some(mode) => write_literal(format, mode, text, output),
+    }
+}
+
+/// Returns the error of a token in an edition, or `None` if it has none. Before 2021, `k#a` is an identifier, `#` and
+/// an identifier, without an error.
+fn error_in(kind: TokenKind, text: &str, edition: Edition) -> Option<TokenError> {
+    let error = token_error(kind, text)?;
+    match (kind, edition) {
+        (TokenKind::ForcedKeywordIdent, Edition::E2015 | Edition::E2018) => None,
+        _ => Some(error),
     }
 }

@@ -9,6 +9,28 @@ use crate::generated::screen::write_seen;
 use core::fmt;
 use memchr::memchr2;
 
+/// Writes a token with an error. `next` is the text after it. If the token ends between the carriage return and the
+/// newline of a CR LF, the carriage return is written as it is.
+pub fn write_malformed<W: fmt::Write>(
+    format: Format,
+    error: TokenError,
+    class: Class,
+    text: &str,
+    next: &str,
+    output: &mut W,
+) -> fmt::Result {
+    if is_cut_line_end(text, next) {
+        write_with_error(format, error, class, &text[..text.len() - 1], output)?;
+        return write_shown(format, Class::Comment, "\r", output);
+    }
+    write_with_error(format, error, class, text, output)
+}
+
+/// Returns whether a token ends between the carriage return and the newline of a CR LF. `next` is the text after it.
+fn is_cut_line_end(text: &str, next: &str) -> bool {
+    text.ends_with('\r') && next.starts_with('\n')
+}
+
 /// Writes a part with an error: its first line between the marks of the error, and all of it between those of its
 /// class.
 pub fn write_with_error<W: fmt::Write>(
