@@ -19,7 +19,7 @@ use Rattle.rustc_lexer.specs.declared.token.TokenKind.TheVariants.{UnknownPrefix
 use Rattle.rustc_lexer.specs.declared.token.TokenKind.TheVariants.{Literal, Lifetime, Unknown}
 use Rattle.rustc_lexer_highlight.specs.Class.{class_number, class_of}
 use Rattle.rustc_lexer_highlight.specs.declared.errors.TokenError.{TokenError}
-use Rattle.rustc_lexer_highlight.specs.TokenError.{error_number, sentence}
+use Rattle.rustc_lexer_highlight.specs.TokenError.{error_number, message}
 use Rattle.rustc_lexer_c.specs.declared.token.CToken.{CToken}
 use Rattle.rustc_lexer_c.specs.declared.status.Refusal.TheVariants.{NotUtf8, SmallBuffer, TooLong}
 use Rattle.rustc_lexer_c.specs.Status.{OK, refusal_number}
@@ -29,12 +29,13 @@ abbrev pub number_of : Option TokenError → ℕ
 number_of None = 0
 number_of (Some error) = error_number error
 
--- the message of an error, or an empty text if there is none
+-- Returns the message of an error, or an empty text if there is none.
 abbrev pub message_of : Option TokenError → List ℕ
 message_of None = []
-message_of (Some error) = sentence error
+message_of (Some error) = message error
 
--- the status of a call that takes a text and a buffer of any length
+-- Holds if a call with a text and a buffer can return this status: OK or SmallBuffer for a valid text, and otherwise the
+-- reason why it is invalid.
 pub record IsMessageStatus (bytes : List ℕ) (status : ℕ) : Type 0 where
   pub ok : IsText bytes → (status ≡ OK) ⊎ (status ≡ refusal_number SmallBuffer)
   pub not_utf8 : length bytes < 2 ^ 32 → ¬ (IsUtf8 bytes) → status ≡ refusal_number NotUtf8

@@ -1,10 +1,10 @@
--- Writes one after another, as the calls that they make.
+-- Consecutive writes, as the calls that they consist of.
 use Rattle.std.proofs.Common.{List, [], ◌∷◌, ◌++◌, ℕ, refl, sym, subst, append-nil, arith}
 use Rattle.std.proofs.lemmas.List.Folds.{concat-append}
 use Rattle.std.specs.{Fmt.{WritesInCalls}, List.{FoldsTo}, Result.{IsOk}, Prelude.{OnOk, Result}}
 use Rattle.std.proofs.lemmas.Grind.{common_steps}
 
--- calls over some items, and then over others
+-- Two folds over consecutive lists make one fold over both.
 folds-append : {P A : Type 0} (R : P → A → P → Type 0) (p q r : P) (xs ys : List A) → FoldsTo R p xs q
     → FoldsTo R q ys r → FoldsTo R p (xs ++ ys) r
 folds-append R p q r [] ys e f = subst (λ (a : _). FoldsTo R a ys r) (sym e) f
@@ -14,11 +14,11 @@ pub on_ok : {T E : Type 0} (r : Result T E) {P Q : Type 0} → (IsOk r → P) �
 on_ok r holds more = grind (arith, common_steps)
 
 module _ {W : Type 0} (took : W → List ℕ → W → Type 0) where
-  -- a text that is written in one call
+  -- A single call writes a text.
   pub one_call : (w v : W) (bs : List ℕ) → took w bs v → WritesInCalls took w bs v
   one_call w v bs call = record { parts = bs ∷ []; calls = (v, call, refl); whole = append-nil bs }
 
-  -- the same where the call may fail
+  -- The same holds for a call that can fail.
   pub tried_call : {T E : Type 0} (r : Result T E) (w v : W) (bs : List ℕ) → (IsOk r → took w bs v)
       → OnOk r (WritesInCalls took w bs v)
   tried_call r w v bs call = on_ok r call (one_call w v bs)
@@ -26,7 +26,7 @@ module _ {W : Type 0} (took : W → List ℕ → W → Type 0) where
   pub no_calls : (w : W) → WritesInCalls took w [] w
   no_calls w = record { parts = []; calls = refl; whole = refl }
 
-  -- one write, and then another
+  -- Two consecutive writes write both texts.
   pub writes_both : (w v u : W) (bs cs : List ℕ) → WritesInCalls took w bs v → WritesInCalls took v cs u
       → WritesInCalls took w (bs ++ cs) u
   writes_both w v u bs cs first second = grind (arith, common_steps, folds-append, concat-append)

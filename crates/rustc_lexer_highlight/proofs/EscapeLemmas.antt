@@ -1,4 +1,4 @@
--- A text with entities: that they are undone, that it holds no tag, and how it is written.
+-- Escaped text: decoding it returns the text, it contains no tag, and how it is written.
 use Rattle.std.proofs.Common.{◌≡◌, ℕ, zero, suc, ◌+◌, ◌<◌, ◌≤◌, true, false, List, [], ◌∷◌, ◌++◌, length, take, drop}
 use Rattle.std.proofs.Common.{drop-cons, get_or, refl, sym, ap, subst, ◌∙◌, arith, append_assoc, Some, None}
 use Rattle.std.specs.Str.{IsUtf8}
@@ -21,13 +21,13 @@ untagged_byte : (b : ℕ) (rest : List ℕ) → untagged_from false (escaped_byt
     escaped_byte b ++ untagged_from false rest
 untagged_byte b rest = grind (arith, common_steps)
 
--- no tag begins in a text with entities
+-- Escaped text contains no tag.
 pub untagged_escaped : (text rest : List ℕ) → untagged_from false (escaped text ++ rest) ≡
     escaped text ++ untagged_from false rest
 untagged_escaped [] rest = refl
 untagged_escaped (b ∷ bs) rest = grind (arith, common_steps, append_assoc, untagged_byte, untagged_escaped bs rest)
 
--- the bytes before the first special one are as they are
+-- The bytes before the first special one are unchanged.
 front_plain : (bs : List ℕ) (n : ℕ) → n ≤ length bs → ((k : ℕ) → k < n → is_special (get_or bs k 0) ≡ true → ⊥)
     → escaped bs ≡ take n bs ++ escaped (drop n bs)
 front_plain bs zero low none = refl
@@ -39,15 +39,14 @@ front_plain (b ∷ bs) (suc n) low none =
 special_small : (b : ℕ) → is_special b ≡ true → b < 128
 special_small b set = grind (arith, common_steps, eqb-true)
 
--- the text may be cut past a special byte
+-- The end of a special byte is a char boundary.
 pub may_cut_past : (bs : List ℕ) (n : ℕ) → IsUtf8 bs → IsFirstByte is_special bs (Some n) → (n + 1 ≤ length bs)
     × (n + 1 < length bs → 128 ≤ get_or bs (n + 1) 0 → 192 ≤ get_or bs (n + 1) 0)
 may_cut_past bs n utf8 found =
     (let i = found.0.high in omega arith, λ low wide. lead_after_ascii bs n utf8 (special_small _ found.1) low wide)
 
 module _ {W : Type 0} (took : W → List ℕ → W → Type 0) where
-  -- the calls that write a text up to its first special byte, and the entity of that, and then those that write the
-  -- rest
+  -- Writing the text before the first special byte, its entity, and then the escaped rest writes the escaped text.
   pub writes_special : (w0 w1 w2 w : W) (bs front name rest : List ℕ) (n : ℕ) → IsFirstByte is_special bs (Some n)
       → front ≡ take n bs → name ≡ entity (get_or bs n 0) → rest ≡ drop (n + 1) bs
       → took w0 front w1 → took w1 name w2 → WritesInCalls took w2 (escaped rest) w
@@ -63,7 +62,7 @@ module _ {W : Type 0} (took : W → List ℕ → W → Type 0) where
       (writes_both took w0 w1 w _ _ (one_call took w0 w1 front a)
       (writes_both took w1 w2 w _ _ (one_call took w1 w2 name b) more))
 
-  -- a text with no special byte is written as it is
+  -- A text without special bytes is unchanged.
   pub writes_plain : (w v : W) (bs : List ℕ) → IsFirstByte is_special bs None → took w bs v
       → WritesInCalls took w (escaped bs) v
   writes_plain w v bs none call =

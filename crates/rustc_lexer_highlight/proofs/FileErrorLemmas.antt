@@ -12,7 +12,8 @@ use Rattle.rustc_literal_escaper.specs.model.Elements.{front_by, items_from}
 use Rattle.rustc_literal_escaper.specs.model.Single.{alone_error, read_errors, single, single_error}
 use Rattle.rustc_literal_escaper.specs.declared.{error.EscapeError.{EscapeError}, mode.Mode.{Mode}}
 use Rattle.rustc_literal_escaper.specs.declared.mode.Mode.TheVariants.{Str}
-use Rattle.rustc_lexer_highlight.specs.{LineEnds.{escape_errors_in_file, file_items, moved, place, unix}, Literal.{first_offset}}
+use Rattle.rustc_lexer_highlight.specs.LineEnds.{escape_errors_in_file, file_items, moved, place, unix}
+use Rattle.rustc_lexer_highlight.specs.Literal.{first_offset}
 use Rattle.rustc_lexer_highlight.specs.model.LineEnds.{offset_of, single_left}
 use Rattle.rustc_lexer_highlight.proofs.LineEndLemmas.{chars-unix, utf8-unix}
 
@@ -38,7 +39,7 @@ pub string_errors : (mode : Mode) (text : List ℕ) → is_single mode ≡ false
 string_errors mode text double = errors-moved mode text (items_of (is_raw mode) (unix text))
     ∙ ap (map (move text)) (sym (errors-are mode (unix text) double))
 
--- without a carriage return, a text is as it was
+-- A text without a carriage return is unchanged.
 same-unix : (s : List ℕ) → position_or_len (λ x. x == 13) s ≡ length s → unix s ≡ s
 same-unix [] none = refl
 same-unix (c ∷ s) none = grind (arith, common_steps, nat_tests, same-unix s)
@@ -83,7 +84,7 @@ pub single_moved : (text : List ℕ) (mode : Mode) (left : List ℕ) → single_
 single_moved text mode [] = refl
 single_moved text mode (c ∷ s) = alone-moved text (error_of mode (single c s).0) (single c s).1
 
--- ---- the iterator's three parts
+-- ---- the three fields of the iterator
 
 no-items : items_of false [] ≡ []
 no-items = ap (items_from (front_by false) 0) chars-nil ∙ nothing (front_by false) (reading.place 0)

@@ -1,4 +1,4 @@
--- The error at the end of a frontmatter is the one that its lines say.
+-- The error at the end of a frontmatter follows from its lines.
 use Rattle.std.proofs.Common.{◌≡◌, ℕ, zero, suc, ◌+◌, ◌-◌, ◌<◌, ◌≤◌, ◌==◌, nat_eq, nat_lt, not, ◌&&◌, ◌||◌, Bool, true}
 use Rattle.std.proofs.Common.{false, true≢false, if◌then◌else◌, List, [], ◌∷◌, ◌++◌, codes, length, take, drop, get_or}
 use Rattle.std.proofs.Common.{refl, sym, ap, ◌∙◌, subst, arith, append_assoc, append-nil, drop-drop, length-append}
@@ -28,13 +28,18 @@ use Rattle.rustc_lexer.specs.laws.LanguageRuns.{word_start-no_space}
 use Rattle.rustc_lexer.specs.laws.Reach.{run_all}
 use Rattle.rustc_lexer.proofs.lemmas.tokens.ClassParts.{continue_part}
 use Rattle.rustc_lexer_highlight.specs.declared.errors.TokenError.{TokenError}
-use Rattle.rustc_lexer_highlight.specs.declared.errors.TokenError.TheVariants.{WhitespaceBeforeFrontmatter, UnclosedFrontmatter}
-use Rattle.rustc_lexer_highlight.specs.declared.errors.TokenError.TheVariants.{WhitespaceBeforeFrontmatterClose, FrontmatterCloseMismatch}
+use Rattle.rustc_lexer_highlight.specs.declared.errors.TokenError.TheVariants.{WhitespaceBeforeFrontmatter}
+use Rattle.rustc_lexer_highlight.specs.declared.errors.TokenError.TheVariants.{UnclosedFrontmatter}
+use Rattle.rustc_lexer_highlight.specs.declared.errors.TokenError.TheVariants.{WhitespaceBeforeFrontmatterClose}
+use Rattle.rustc_lexer_highlight.specs.declared.errors.TokenError.TheVariants.{FrontmatterCloseMismatch}
 use Rattle.rustc_lexer_highlight.specs.declared.errors.TokenError.TheVariants.{ExtraAfterFrontmatterClose}
 use Rattle.rustc_literal_escaper.specs.Grammar.{is_newline}
-use Rattle.rustc_lexer_highlight.specs.Frontmatter.{blanks, closing_error, dashes, end_error, is_end, is_of, past_infostring, past_run}
-use Rattle.rustc_lexer_highlight.specs.{TokenError.{token_error, front_error, kind_error}, TextError.{frontmatter_error}}
-use Rattle.rustc_lexer_highlight.specs.FrontmatterEnd.{EndsAfter, IsEndError, IsOpen, NoLineBegins, TellsFrontmatter, closed, indented}
+use Rattle.rustc_lexer_highlight.specs.Frontmatter.{blanks, closing_error, dashes, end_error, is_end, is_of}
+use Rattle.rustc_lexer_highlight.specs.Frontmatter.{past_infostring, past_run}
+use Rattle.rustc_lexer_highlight.specs.TokenError.{token_error, front_error, kind_error}
+use Rattle.rustc_lexer_highlight.specs.TextError.{frontmatter_error}
+use Rattle.rustc_lexer_highlight.specs.FrontmatterEnd.{EndsAfter, IsEndError, IsOpen, NoLineBegins, TellsFrontmatter}
+use Rattle.rustc_lexer_highlight.specs.FrontmatterEnd.{closed, indented}
 use Rattle.rustc_lexer_highlight.specs.FrontmatterEnd.{more_words, other_dashes, unclosed}
 use Rattle.rustc_lexer_highlight.proofs.FrontmatterLemmas.{last-line, skip_ends, skip_on}
 
@@ -57,7 +62,7 @@ is_of-is : (ds : List ℕ) (b : ℕ) → is_of ds b ≡ is_among ds b
 is_of-is [] b = refl
 is_of-is (d ∷ ds) b = grind (arith, common_steps, nat_tests, is_of-is ds b)
 
--- of characters in ASCII, in bytes
+-- A run of ASCII characters is the same run of bytes.
 module _ (ds : List ℕ) (ascii : list_all (λ d. nat_lt d 128) ds ≡ true) where
   small : (c : ℕ) → is_among ds c ≡ true → c < 128
   small c e = ltb-true c 128 (among (λ d. nat_lt d 128) ds ascii c e)
@@ -102,7 +107,7 @@ drop-dashes n s =
     ap (λ (k : ℕ). drop k (encode_utf8_all (fence n ++ s))) (sym (fence-length n))
     ∙ drop-encode (codes "-") refl (fence n) s (fence-all (is_among (codes "-")) refl n)
 
--- dashes stand on one line
+-- Dashes at the start of a line and the text after it are on that line.
 begins-line : (n : ℕ) (line next : Chars) → NextIsNot is_inline next → begins (fence n) (line ++ next) ≡ true
     → begins (fence n) line ≡ true
 begins-line zero line next stop e = refl
@@ -112,7 +117,7 @@ begins-line (suc n) (c ∷ line) next stop e =
     let parts = and_parts (c == 45) (begins (fence n) (line ++ next)) e in
     rw (parts.0, begins-line n line next stop parts.1) refl
 
--- a line that begins with dashes begins with no blanks, and has no more dashes there
+-- A line that starts with dashes starts with no blanks, and has no more dashes there.
 flush : (n d : ℕ) (bs v : Chars) → 0 < n → AreAll is_horizontal_whitespace bs → NextNotIn (codes "-") v
     → begins (fence n) (bs ++ (fence d ++ v)) ≡ true → (length bs ≡ 0) × (n ≤ d)
 flush n d [] v some blank stop e =
@@ -145,7 +150,7 @@ label-inline (the.named u c v w before start info info_stops after stop) =
     inline-append u (c ∷ v ++ w) (all-inline is_horizontal_whitespace refl u before)
     (inline-append (c ∷ v) w name (all-inline is_horizontal_whitespace refl w after))
 
--- a text has a last line
+-- A text has a last line: the text after its last newline, or the whole text.
 data HasLast : Chars → Type 0 where
   only : {s : Chars} → AreAll is_inline s → HasLast s
   last : (u line : Chars) → AreAll is_inline line → HasLast (u ++ 10 ∷ line)
@@ -188,7 +193,7 @@ last_byte u line none =
       ap is_newline (get_or-append_seam u 10 line 0),
     )
 
--- what stands past the last newline, in bytes
+-- In bytes, the last line is the text after the last newline.
 last-encode : (u line : Chars) → AreAll is_inline line
     → (list_any is_newline (encode_utf8_all (u ++ 10 ∷ line)) ≡ true)
     × (after_last is_newline (encode_utf8_all (u ++ 10 ∷ line)) ≡ encode_utf8_all line)
@@ -213,7 +218,7 @@ end-encode (c ∷ []) = by_either (nat_lt c 128)
     grind (arith, nat_tests))
 end-encode (c ∷ d ∷ s) = let long = length-le-encodes (c ∷ d ∷ s) in grind (arith, nat_tests)
 
--- ---- what the shape of the last line says
+-- ---- the error by the shape of the last line
 
 abbrev verdict : ℕ → Chars → ℕ → Chars → Option TokenError
 verdict n bs d end =
@@ -222,7 +227,7 @@ verdict n bs d end =
     else if not (nat_eq d n) then Some (FrontmatterCloseMismatch n d)
     else if is_end end then None else Some ExtraAfterFrontmatterClose
 
--- how many dashes come after the blanks of the last line
+-- Returns how many dashes follow the blanks of the last line.
 abbrev last_dashes : Chars → ℕ
 last_dashes s = let line = after_last is_newline (encode_utf8_all s) in dashes (drop (blanks line) line)
 
@@ -236,13 +241,13 @@ last_dashes-is u bs v blank stop inline =
       drop-encode (codes "\t ") refl bs v blank,
     ) refl
 
--- three dashes end it
+-- A last line that starts with blanks and at least three dashes meets `EndsAfter`.
 ends_after : (d : ℕ) (u bs v : Chars) → 3 ≤ d → AreAll is_horizontal_whitespace bs → AreAll is_inline (fence d ++ v)
     → EndsAfter bs (u ++ 10 ∷ (bs ++ (fence d ++ v)))
 ends_after (suc (suc (suc d))) u bs v many blank plain = (u, fence d ++ v, refl, blank, plain)
 ends_after d u bs v many blank plain = absurd (omega arith)
 
--- n dashes come first
+-- The case of a last line that starts with n dashes.
 closes : (n : ℕ) (next u cs end : Chars) → NextNotIn (codes "-") (cs ++ end) → AreAll is_horizontal_whitespace cs
     → NextIsNot is_horizontal_whitespace end → AreAll is_inline end
     → IsEndError n next (u ++ 10 ∷ (fence n ++ (cs ++ end)))
@@ -254,11 +259,12 @@ closes n next u cs (c ∷ w) stop blank end_stop plain =
     (λ ends. closed u cs (c ∷ w) blank ends)
     (λ more. more_words u cs c w blank end_stop more stop plain)
 
--- no line begins with k dashes, unless the last does
+-- Holds if no line starts with k dashes, unless the last line does.
 abbrev NoneUnless : ℕ → Chars → Chars → Chars → Type 0
 NoneUnless k next u line = begins (fence k) line ≡ false → NoLineBegins k ((u ++ 10 ∷ line) ++ next)
 
--- what is told at the end of a body, past one line that begins with n dashes
+-- The error at the end of a body. By `same`, it is also the error of the whole token, whose first line starts with n
+-- dashes.
 record Told (n : ℕ) (next body : Chars) : Type 0 where
   end : Option TokenError
   is : IsEndError n next body end
@@ -309,7 +315,7 @@ module _ (n d : ℕ) (next u bs cs end : Chars) (many : 3 ≤ n) (blank : AreAll
   lone-unless : ((length bs ≡ 0) × (3 ≤ d) → ⊥) → NoLineBegins 3 (body ++ next)
   lone-unless other = lone (false_from_ne_true _ (λ t. other (flush 3 d bs (cs ++ end) (omega arith) blank stop t)))
 
-  -- no blanks come first
+  -- The case of a last line without leading blanks.
   at-once : bs ≡ [] → 3 ≤ d → IsEndError n next body
       (if not (nat_eq d n) then Some (FrontmatterCloseMismatch n d) else if is_end end then None else Some
       ExtraAfterFrontmatterClose)
@@ -346,7 +352,7 @@ module _ (n d : ℕ) (next u bs cs end : Chars) (many : 3 ≤ n) (blank : AreAll
         ap (λ (s : Chars). end_error (encode_utf8_all s)) whole ∙ rw (past.0, past.1, opens) closing-read;
   }
 
--- that line in parts: spaces and tabs, dashes, spaces and tabs, and the rest
+-- Divides the last line into blanks, dashes, blanks and the rest.
 told-line : (n : ℕ) (next u line : Chars) → 3 ≤ n → AreAll is_inline line → NoneUnless 3 next u line
     → NoneUnless n next u line → Told n next (u ++ 10 ∷ line)
 told-line n next u line many =
@@ -367,7 +373,7 @@ told-line n next u line many =
     (no_dash (take (blanks_len tail) tail ++ left) (ap (next_is is_dash) cut ∙ run-stops is_dash rest))
     (run_all is_horizontal_whitespace tail) (run-stops is_horizontal_whitespace tail))
 
--- where no line begins with dashes
+-- The case without a line that starts with three dashes, or with n.
 told-lone : (n : ℕ) (next : Chars) {body : Chars} → 3 ≤ n → HasLast body → NoLineBegins 3 (body ++ next)
     → NoLineBegins n (body ++ next) → Told n next body
 told-lone n next many (last u line all) lone none = told-line n next u line many all (λ _. lone) (λ _. none)
@@ -396,7 +402,7 @@ told-body n {next} many (the.other pattern none (the.with_line three u line is a
 told-body n {next} {body} many (the.other pattern none (the.other three lone left)) =
     told-lone n next many (has_last body) lone none
 
--- ---- the label, read again
+-- ---- the label
 
 label-past : (body next : Chars) {label : Chars} → IsLabelBefore (body ++ next) label
     → past_run is_horizontal_whitespace (past_infostring (past_run is_horizontal_whitespace (label ++ body))) ≡ body
@@ -418,7 +424,7 @@ label-past body next (the.named u c v w before start info info_stops after stop)
     )
     (past-here is_horizontal_whitespace w body after (front-stops is_horizontal_whitespace body next stop))
 
--- ---- what is told
+-- ---- the error of the token
 
 opening-told : {n : ℕ} {bad_label : Bool} {opening body next : Chars} (text : List ℕ)
     → IsOpeningBefore (body ++ next) n bad_label opening

@@ -1,4 +1,4 @@
--- The last line of a text, and a run of bytes.
+-- The last line of a text, and runs of bytes.
 use Rattle.std.proofs.Common.{◌≡◌, ℕ, ◌+◌, ◌-◌, suc, Bool, true, false, List, [], ◌∷◌, refl, drop, length, not, sym}
 use Rattle.std.proofs.Common.{take, ap, arith, Some, None}
 use Rattle.std.specs.{List.{after_last, list_any, prefix_len, suffix_len}, Str.{byte}}
@@ -11,7 +11,7 @@ use Rattle.rustc_lexer_highlight.specs.declared.errors.TokenError.TheVariants.{U
 use Rattle.rustc_literal_escaper.specs.Grammar.{is_newline}
 use Rattle.rustc_lexer_highlight.specs.Frontmatter.{closing_error, dashes, end_error, past_run}
 
--- what stands past the last newline
+-- The last line is the text after the last newline.
 pub last-line : (text : List ℕ) (n : ℕ) → IsLastByte (is_byte (byte "\n")) text (Some n)
     → (list_any is_newline text ≡ true) × (after_last is_newline text ≡ drop (n + 1) text)
 last-line text n last =
@@ -42,7 +42,7 @@ module _ (bytes text : List ℕ) (same : bytes ≡ text) where
 
 pub ruleset run_lemmas = (prefix_len-drop_yes, prefix_len-drop_no, prefix_len-drop_all)
 
--- past a run of a class
+-- Skipping a run character by character.
 module _ (p : ℕ → Bool) (s t : List ℕ) (c : ℕ) (front : s ≡ c ∷ t) where
   pub skip_on : p c ≡ true → past_run p t ≡ past_run p s
   skip_on e = let one : 1 + prefix_len p t ≡ suc (prefix_len p t) = omega arith in rw (front, e, one) refl

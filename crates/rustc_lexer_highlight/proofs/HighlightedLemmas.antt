@@ -1,4 +1,4 @@
--- What a highlighted text says, and the calls that write it.
+-- The text of a highlighted document, and the calls that write it.
 use Rattle.std.proofs.Common.{◌≡◌, ℕ, ◌-◌, List, [], ◌∷◌, length, take, drop, refl, sym, ap}
 use Rattle.std.proofs.Common.{subst, ◌∙◌, arith, take-add, Option, append-nil}
 use Rattle.std.specs.{Fmt.{WritesInCalls}, Prelude.{OnOk, Result}}
@@ -9,44 +9,47 @@ use Rattle.rustc_lexer.specs.declared.{edition.Edition.{Edition}, token.Token.{T
 use Rattle.rustc_lexer.specs.{Document.{document_tokens, byte_order_mark_len, tokens_start}, State.{State}}
 use Rattle.rustc_lexer.specs.Tokens.{bound, Partitions, TakesToken}
 use Rattle.rustc_literal_escaper.specs.declared.mode.Mode.{Mode}
-use Rattle.rustc_lexer_highlight.specs.declared.{class.{Class.{Class, TheVariants.{Comment, Plain}}}, errors.TokenError.{TokenError}}
-use Rattle.rustc_lexer_highlight.specs.{declared.{format.{Format.{Format, TheVariants.{Html}}}}, Escape.{unescaped, untagged}}
-use Rattle.rustc_lexer_highlight.specs.Highlighted.{document_parts, highlighted, marked_tokens, parts, parts_by, start_parts, token_parts}
-use Rattle.rustc_lexer_highlight.specs.Part.{Own, own, with_marks, without_marks}
+use Rattle.rustc_lexer_highlight.specs.declared.class.{Class.{Class, TheVariants.{Comment, Plain}}}
+use Rattle.rustc_lexer_highlight.specs.declared.errors.TokenError.{TokenError}
+use Rattle.rustc_lexer_highlight.specs.declared.{format.{Format.{Format, TheVariants.{Html}}}}
+use Rattle.rustc_lexer_highlight.specs.Escape.{unescaped, untagged}
+use Rattle.rustc_lexer_highlight.specs.Highlighted.{document_parts, highlighted, marked_tokens, parts, parts_by}
+use Rattle.rustc_lexer_highlight.specs.Highlighted.{start_parts, token_parts}
+use Rattle.rustc_lexer_highlight.specs.Part.{Own, own, with_markup, without_markup}
 use Rattle.rustc_lexer_highlight.proofs.{EscapeLemmas.{unescaped_escaped}, LiteralLemmas.{without_literal}}
-use Rattle.rustc_lexer_highlight.proofs.PartLemmas.{shows, without_faulty, writes_parts}
+use Rattle.rustc_lexer_highlight.proofs.PartLemmas.{shows, without_malformed, writes_parts}
 
 without_token : (error : Option TokenError) (mode : Option Mode) (class : Class) (text next : List ℕ)
-    → without_marks (parts_by error mode class text next) ≡ text
-without_token error mode class text next = grind (arith, common_steps, without_faulty, without_literal, append-nil)
+    → without_markup (parts_by error mode class text next) ≡ text
+without_token error mode class text next = grind (arith, common_steps, without_malformed, without_literal, append-nil)
 
--- without the marks, the parts are the text as far as the tokens go
-without_marks-parts : (edition : Edition) (text : List ℕ) (tokens : List Token)
-    → without_marks (parts edition text tokens) ≡ take (bound tokens (length tokens)) text
-without_marks-parts edition text [] = refl
-without_marks-parts edition text (token ∷ tokens) =
+-- Without markup, the parts are the text of the tokens.
+without_markup-parts : (edition : Edition) (text : List ℕ) (tokens : List Token)
+    → without_markup (parts edition text tokens) ≡ take (bound tokens (length tokens)) text
+without_markup-parts edition text [] = refl
+without_markup-parts edition text (token ∷ tokens) =
     grind (
       arith,
       common_steps,
       flat_map-append,
       without_token,
       take-add,
-      without_marks-parts edition
+      without_markup-parts edition
           (drop token.len text) tokens,
     )
 
--- without the marks, a document is as it was
+-- Without markup, the parts are the text of the document.
 pub document_is : (edition : Edition) (text : List ℕ)
     → Partitions (drop (tokens_start text) text) (document_tokens edition text)
-    → without_marks (document_parts edition text) ≡ text
-document_is edition text cut = grind (arith, common_steps, without_marks-parts)
+    → without_markup (document_parts edition text) ≡ text
+document_is edition text cut = grind (arith, common_steps, without_markup-parts)
 
--- and so it is on a page
-pub page_is : (edition : Edition) (text : List ℕ) → without_marks (document_parts edition text) ≡ text
+-- So a page displays the text of the document.
+pub page_is : (edition : Edition) (text : List ℕ) → without_markup (document_parts edition text) ≡ text
     → unescaped (untagged (highlighted Html edition text)) ≡ text
 page_is edition text is =
     ap unescaped (shows (document_parts edition text))
-    ∙ (unescaped_escaped (without_marks (document_parts edition text)) ∙ is)
+    ∙ (unescaped_escaped (without_markup (document_parts edition text)) ∙ is)
 
 -- the text past a token is that of the state past it
 pub past_piece : (s t : State) (token : Token) (rest next : List ℕ) → IsUtf8 rest → rest ≡ s.rest
@@ -60,22 +63,22 @@ past_piece s t token rest next utf8 place step back = (
 -- ---- the calls that write the tokens
 
 module _ {W : Type 0} (took : W → List ℕ → W → Type 0) where
-  -- a token, and then those that are left
+  -- Writing a token and then the rest writes all tokens.
   pub writes_token : (format : Format) (edition : Edition) (w0 w1 w : W) (text rest own : List ℕ)
       (left others : List Token) (token : Token)
       → left ≡ token ∷ others → rest ≡ drop token.len text → own ≡ take token.len text
-      → WritesInCalls took w0 (with_marks format (token_parts edition token.kind own rest)) w1
+      → WritesInCalls took w0 (with_markup format (token_parts edition token.kind own rest)) w1
       → WritesInCalls took w1 (marked_tokens format edition rest others) w
       → WritesInCalls took w0 (marked_tokens format edition text left) w
   writes_token format edition w0 w1 w text rest own left others token first past is wrote more =
       grind (arith, common_steps, writes_parts)
 
-  -- a byte order mark, and then a shebang line
+  -- Writing the byte order mark and then the shebang line writes the text before the first token.
   pub writes_start : {T E : Type 0} (r : Result T E) (format : Format) (text mark line : List ℕ) (n : ℕ) (w v u : W)
       → n ≡ byte_order_mark_len text → mark ≡ take (n - 0) text → line ≡ drop n text
-      → WritesInCalls took w (with_marks format (Own Plain mark ∷ [])) v
-      → OnOk r (WritesInCalls took v (with_marks format (Own Comment line ∷ [])) u)
-      → OnOk r (WritesInCalls took w (with_marks format (start_parts text)) u)
+      → WritesInCalls took w (with_markup format (Own Plain mark ∷ [])) v
+      → OnOk r (WritesInCalls took v (with_markup format (Own Comment line ∷ [])) u)
+      → OnOk r (WritesInCalls took w (with_markup format (start_parts text)) u)
   writes_start r format text mark line n w v u is front past before after =
       let same : n - 0 ≡ byte_order_mark_len text = omega arith in
       let is_mark : mark ≡ take (byte_order_mark_len text) text = front ∙ ap (λ (k : ℕ). take k text) same in
@@ -83,9 +86,9 @@ module _ {W : Type 0} (took : W → List ℕ → W → Type 0) where
       on_ok_weaker r (λ wrote. rw (sym is_mark, sym is_line)
       (writes_parts took format (Own Plain mark ∷ []) (Own Comment line ∷ []) w v u before wrote)) after
 
-  -- what comes before the first token, and then the tokens
+  -- Writing the text before the first token and then the tokens writes the document.
   pub writes_past : (format : Format) (edition : Edition) (w0 w u : W) (text : List ℕ)
-      → WritesInCalls took w0 (with_marks format (start_parts (take (tokens_start text) text))) w
+      → WritesInCalls took w0 (with_markup format (start_parts (take (tokens_start text) text))) w
       → WritesInCalls took w
       (marked_tokens format edition (drop (tokens_start text) text) (document_tokens edition text)) u
       → WritesInCalls took w0 (highlighted format edition text) u

@@ -1,4 +1,4 @@
--- What it takes for a word to be no keyword of a sort.
+-- Words that are not keywords.
 use Rattle.std.proofs.{Common.{arith}, lemmas.Grind.{common_steps}}
 use Rattle.std.proofs.Common.{◌≡◌, ℕ, Bool, false, List, [], ◌∷◌, ◌++◌, ◌||◌, refl, sym, ◌∙◌, take, drop}
 use Rattle.std.proofs.lemmas.List.Folds.{list_any-append}
@@ -9,11 +9,11 @@ use Rattle.rustc_lexer.specs.declared.edition.Edition.{Edition, TheVariants.{E20
 use Rattle.rustc_lexer_highlight.specs.declared.keyword.KeywordKind.{KeywordKind, TheVariants.{Strict}}
 
 infixr 20 ◌&◌
--- one fact, and then another
+-- Pairs two facts.
 pub ◌&◌ : {A B : Type 0} → A → B → A × B
 ◌&◌ a b = (a, b)
 
--- twelve strict keywords of 2015
+-- Returns twelve strict keywords of 2015, from the index `at` on.
 abbrev pub strict_from : ℕ → List (List ℕ)
 strict_from at = take 12 (drop at (made Strict E2015))
 
@@ -36,7 +36,8 @@ none_later : (edition : Edition) (word : List ℕ) → IsNoneOf word (made Stric
     → in_2015 ≡ (in_2015 || is_later Strict edition word)
 none_later edition word later in_2015 = grind (arith, common_steps, is_out)
 
--- a word that is not among the first 24 strict ones, and none that a later edition made
+-- A word that is not among the first 24 strict keywords of 2015, and not a strict keyword of a later edition, is a
+-- strict keyword exactly if it is among the rest.
 pub is_among_last : (edition : Edition) (word : List ℕ) → is_in (strict_from 0) word ≡ false
     → is_in (strict_from 12) word ≡ false
     → IsNoneOf word (made Strict E2018) → is_in (strict_from 24) word ≡ has Strict edition word

@@ -3,11 +3,11 @@ pub mod EscapeLemmas
 pub mod FileErrorLemmas
 pub mod FrontmatterEndLemmas
 pub mod FrontmatterLemmas
+pub mod HighlightedLemmas
 pub mod KeywordLemmas
 pub mod LineEndLemmas
 pub mod LiteralLemmas
-pub mod LiteralMarkLemmas
-pub mod HighlightedLemmas
+pub mod LiteralStretchLemmas
 pub mod MovedLemmas
 pub mod PartLemmas
 pub mod PlaceLemmas

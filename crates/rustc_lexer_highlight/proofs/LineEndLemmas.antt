@@ -1,4 +1,4 @@
--- A text of a file is read in parts that cut no line end.
+-- A text in a file is never cut inside a CRLF.
 use Rattle.std.proofs.Common.{◌≡◌, ℕ, zero, suc, zero-add, append-nil, ◌+◌, ◌-◌, ◌<◌, ◌≤◌, ◌==◌, ◌&&◌, Bool, true}
 use Rattle.std.proofs.Common.{false, List, [], ◌∷◌, ◌++◌, append_assoc, length, length-append, map, refl, sym, ap}
 use Rattle.std.proofs.Common.{subst, ◌∙◌, arith}
@@ -53,7 +53,7 @@ place-append (c ∷ d ∷ w) t i whole = by_either (ends_line c (d ∷ w))
     ∙ (place-one c (length (unix (d ∷ w)) + i) (d ∷ (w ++ t)) stays
     ∙ omega (arith, place-append (d ∷ w) t i whole)))
 
--- a byte that comes later stands later
+-- Offsets keep their order.
 pub place_less : (s : List ℕ) (i j : ℕ) → i < j → place s i < place s j
 place_less s i zero less = absurd (omega arith)
 place_less [] zero (suc j) less = omega arith
@@ -85,13 +85,13 @@ left_left {text} {middle} {left} a b = record {
   spelt = b.spelt;
 }
 
--- some characters are read
+-- The text that is left after some characters were read.
 pub read_left : (rest left w : List ℕ) → IsUtf8 rest → IsUtf8 left → chars rest ≡ w ++ chars left
     → ends_line (last_from 0 w) (chars left) ≡ false → IsLeft rest left
 read_left rest left w all spelt whole stays =
     record { read = w; whole = whole; uncut = rw stays refl; all = all; spelt = spelt }
 
--- and a newline
+-- The same, if a newline was read last.
 pub read_line : (rest left line w : List ℕ) → IsUtf8 rest → IsUtf8 line → chars rest ≡ w ++ chars left
     → chars left ≡ 10 ∷ chars line → IsLeft rest line
 read_line rest left line w all spelt whole newline = record {
@@ -147,7 +147,7 @@ encodes-unix (c ∷ s) = by_either (ends_line c s)
       unix-encode c,
     ) (ap (λ (t : List ℕ). encode c ++ t) (encodes-unix s)))
 
--- where only some characters are left
+-- The offset is the length of the text that has been read.
 pub offset_is : (text left : List ℕ) → IsLeft text left → length text - length left ≡ offset_of text (unix (chars left))
 offset_is text left is =
     let read : List ℕ = encodes is.read in
@@ -212,7 +212,7 @@ moved-in at text (suc count) (c ∷ s) =
       moved-in at text count (at c s).left,
     )
 
--- the items that are read are those of the text without the carriage returns, at their places
+-- The items that the iterator returns are the items of the text with LF line endings, with their ranges in the file.
 pub all_items : (raw : Bool) (text : List ℕ) → IsUtf8 text
     → items_by (front_by raw) (offset_of text) (unix (chars text)) ≡ file_items raw text
 unfolding items_by

@@ -1,4 +1,4 @@
--- What a literal says between its marks, and the calls that write it.
+-- The text of a highlighted literal, and the calls that write it.
 use Rattle.std.proofs.Common.{◌≡◌, ℕ, ◌+◌, ◌-◌, ◌<◌, ◌≤◌, Bool, List, [], ◌∷◌, ◌++◌, map, take, drop, refl, sym, ap}
 use Rattle.std.proofs.Common.{subst, ◌∙◌, arith, take-append-drop, length-drop, append-nil, length, IsCharBoundary}
 use Rattle.std.proofs.Common.{IsUtf8, Option, Some}
@@ -15,23 +15,26 @@ use Rattle.rustc_lexer_highlight.specs.laws.{Literal.{stretches-read, the_stretc
 use Rattle.rustc_lexer_highlight.specs.LineEnds.{file_items, place, unix}
 use Rattle.rustc_lexer_highlight.specs.Literal as lit
 use Rattle.rustc_literal_escaper.specs.{Items.{ArePlaced, IsPlaced}, declared.mode.Mode.{Mode}}
-use Rattle.rustc_lexer_highlight.specs.declared.{class.Class.TheVariants.{Text}, literal.{Look.{Look}, Painter.{Painter}}}
+use Rattle.rustc_lexer_highlight.specs.declared.class.Class.TheVariants.{Text}
+use Rattle.rustc_lexer_highlight.specs.declared.literal.{Look.{Look}, Painter.{Painter}}
 use Rattle.rustc_lexer_highlight.specs.declared.format.Format.{Format}
 use Rattle.std.specs.List.{between}
 use Rattle.rustc_lexer_highlight.specs.Answers.{stretches_of, string_stretches}
-use Rattle.rustc_lexer_highlight.specs.Literal.{Stretch, single_stretches, stretches_at, look_parts, parts_from, char_error, char_look}
+use Rattle.rustc_lexer_highlight.specs.Literal.{Stretch, single_stretches, stretches_at, look_parts, parts_from}
+use Rattle.rustc_lexer_highlight.specs.Literal.{char_error, char_look}
 use Rattle.rustc_lexer_highlight.specs.Literal.{moved_stretch, stretch}
 use Rattle.rustc_lexer_highlight.specs.Highlighted.{literal_parts}
 use Rattle.rustc_lexer_highlight.specs.model.Literal.{IsCut, Paints, WritesOn, element_look, gap, stretches_from}
 use Rattle.rustc_lexer_highlight.specs.model.Literal as model
-use Rattle.rustc_lexer_highlight.specs.Part.{Own, own, with_marks, without_marks}
-use Rattle.rustc_lexer_highlight.proofs.{LineEndLemmas.{utf8-unix}, MovedLemmas.{items_placed, place-end, stretches-moved}}
+use Rattle.rustc_lexer_highlight.specs.Part.{Own, own, with_markup, without_markup}
+use Rattle.rustc_lexer_highlight.proofs.LineEndLemmas.{utf8-unix}
+use Rattle.rustc_lexer_highlight.proofs.MovedLemmas.{items_placed, place-end, stretches-moved}
 use Rattle.rustc_lexer_highlight.proofs.PartLemmas.{without_error, writes_parts}
 
-without_look : (look : Look) (text : List ℕ) → without_marks (look_parts look text) ≡ text
+without_look : (look : Look) (text : List ℕ) → without_markup (look_parts look text) ≡ text
 without_look look text = grind (arith, common_steps, append-nil, without_error)
 
-without_from : (at : ℕ) (left : List ℕ) (ss : List Stretch) → without_marks (parts_from at left ss) ≡ left
+without_from : (at : ℕ) (left : List ℕ) (ss : List Stretch) → without_markup (parts_from at left ss) ≡ left
 without_from at left [] = append-nil left
 without_from at left (s ∷ ss) =
     grind (
@@ -43,11 +46,11 @@ without_from at left (s ∷ ss) =
       without_from s.end (drop (s.end - s.start) (drop (s.start - at) left)) ss,
     )
 
--- without the marks, a literal is as it was, whatever its stretches are
-pub without_literal : (mode : Mode) (text : List ℕ) → without_marks (literal_parts mode text) ≡ text
+-- Without markup, the parts of a literal are its text, whatever its stretches are.
+pub without_literal : (mode : Mode) (text : List ℕ) → without_markup (literal_parts mode text) ≡ text
 without_literal mode text = without_from 0 text (stretches_of mode text)
 
--- ---- the stretches of a string are those that the code finds
+-- ---- the stretches of a string, as the code finds them
 
 pub string_found : (mode : Mode) (text : List ℕ) (begin close : ℕ) → IsUtf8 text → begin ≤ close
     → IsCharBoundary text begin → IsCharBoundary text close
@@ -68,20 +71,20 @@ string_found mode text begin close utf8 le at_begin at_close =
     ∙ ap (map (moved_stretch begin inside)) (stretches-read pieces.1 items 0 (length left) ends
     ∙ ((the_stretches mode 0 (chars left)).only tt (stretches_at 0 pieces.0)).0 (lit.made pieces.1))))
 
--- ---- the places
+-- ---- offsets
 
--- a place between characters of what stands between the quotes is one of the literal
+-- A char boundary of the contents is a char boundary of the literal.
 pub boundary_in : (text : List ℕ) (begin close k : ℕ) → begin ≤ close → IsCharBoundary text begin
     → IsCharBoundary text close → IsCharBoundary (between begin close text) k
     → (begin + k ≤ close) × IsCharBoundary text (begin + k)
 boundary_in text begin close k order at_begin at_close at_k =
     grind (arith, common_steps, length-drop, length-take-le, cases_lt, IsCharBoundary-from_rest, get_or-take)
 
--- nothing is written yet
+-- At the start, nothing has been written.
 pub nothing_written : (text : List ℕ) (begin : ℕ) → IsUtf8 text → IsCharBoundary text begin → IsCut text 0 begin
 nothing_written text begin utf8 at = record { first = IsCharBoundary-start text utf8; second = at; order = omega arith }
 
--- the first of some items, and the others
+-- Holds if a range ends at or before `close`, is on char boundaries, and is not empty.
 pub record Placed (text : List ℕ) (close start end : ℕ) : Type 0 where
   pub low : start < end
   pub high : end ≤ close
@@ -107,7 +110,7 @@ pub placed_all : (text inside : List ℕ) (begin close : ℕ) (raw : Bool) (item
     → items ≡ file_items raw inside → inside ≡ between begin close text → ArePlaced (between begin close text) items
 placed_all text inside begin close raw items utf8 are is = grind (arith, common_steps, items_placed)
 
--- ---- an item that was reported already
+-- ---- an item that has already been reported
 
 told_already : (mode : Mode) (begin at close : ℕ) (items rest : List Item) (item : Item) → items ≡ item ∷ rest
     → begin + item.0.start < at → stretches_from mode begin at close items ≡ stretches_from mode begin at close rest
@@ -117,12 +120,12 @@ told_already mode begin at close items rest item is less = ap (stretches_from mo
 -- ---- the calls
 
 module _ {W : Type 0} (took : W → List ℕ → W → Type 0) where
-  -- a stretch, and the plain text before it
+  -- Writing the plain text before a stretch, and then the stretch.
   pub writes_stretch : (format : Format) (look : Look) (some : Option Look) (text plain own : List ℕ)
       (shown start end : ℕ) (w0 w1 w2 : W) → some ≡ Some look → shown ≤ start → start ≤ end
       → plain ≡ take (start - shown) (drop shown text) → own ≡ take (end - start) (drop start text)
-      → WritesInCalls took w0 (with_marks format (Own Text plain ∷ [])) w1
-      → WritesInCalls took w1 (with_marks format (look_parts look own)) w2
+      → WritesInCalls took w0 (with_markup format (Own Text plain ∷ [])) w1
+      → WritesInCalls took w1 (with_markup format (look_parts look own)) w2
       → WritesOn took format text w0 shown (stretch start end some) w2 end
   writes_stretch format look some text plain own shown start end w0 w1 w2 is low high is_plain is_own a b =
       λ more last rest.
@@ -135,21 +138,21 @@ module _ {W : Type 0} (took : W → List ℕ → W → Type 0) where
       w0 w1 last a (writes_parts took format (look_parts look own) (parts_from end (drop end text) more) w1 w2 last
       b rest))
 
-  -- what is left of a literal from the place `shown` on
+  -- Holds if the rest of a literal, from the offset `shown` on, is written with these stretches.
   abbrev pub WritesLeft : Format → List ℕ → W → ℕ → List Stretch → W → Type 0
   WritesLeft format text w shown ss last =
-      WritesInCalls took w (with_marks format (parts_from shown (drop shown text) ss)) last
+      WritesInCalls took w (with_markup format (parts_from shown (drop shown text) ss)) last
 
-  -- some stretches, and then no more
+  -- Writing some stretches, if no more follow.
   pub writes_last : (format : Format) (text rest : List ℕ) (shown to : ℕ) (ss : List Stretch) (w v u : W)
       → WritesOn took format text w shown ss v to → rest ≡ drop to text
-      → WritesInCalls took v (with_marks format (Own Text rest ∷ [])) u
+      → WritesInCalls took v (with_markup format (Own Text rest ∷ [])) u
       → WritesLeft format text w shown ss u
   writes_last format text rest shown to ss w v u on is wrote =
       subst (λ (all : List Stretch). WritesLeft format text w shown all u) (append-nil ss)
-      (on [] u (subst (λ (xs : List ℕ). WritesInCalls took v (with_marks format (Own Text xs ∷ [])) u) is wrote))
+      (on [] u (subst (λ (xs : List ℕ). WritesInCalls took v (with_markup format (Own Text xs ∷ [])) u) is wrote))
 
-  -- a painter has the same format and the same text as before
+  -- A painter keeps its format and its text.
   painted : (p q : Painter) (format : Format) (text : List ℕ) (ss : List Stretch) (end : ℕ) (w v : W)
       → p.format ≡ format → p.text.now ≡ text
       → Paints took p w ss end q v → WritesOn took format text w p.shown ss v q.shown
@@ -157,32 +160,32 @@ module _ {W : Type 0} (took : W → List ℕ → W → Type 0) where
       subst (λ (f : Format). WritesOn took f text w p.shown ss v q.shown) same_format
       (subst (λ (t : List ℕ). WritesOn took p.format t w p.shown ss v q.shown) same_text on.writes)
 
-  -- some stretches, and then what is left
+  -- Writing some stretches and then the rest of the literal.
   paints_last : (p q : Painter) (format : Format) (text : List ℕ) (ss : List Stretch) (end : ℕ) (w v u : W)
       → p.format ≡ format → p.text.now ≡ text
       → Paints took p w ss end q v
-      → WritesInCalls took v (with_marks q.format (Own Text (drop q.shown q.text.now) ∷ [])) u
+      → WritesInCalls took v (with_markup q.format (Own Text (drop q.shown q.text.now) ∷ [])) u
       → WritesLeft format text w p.shown ss u
   paints_last p q format text ss end w v u same_format same_text on wrote =
       writes_last format text (drop q.shown text) p.shown q.shown ss w v u
       (painted p q format text ss end w v same_format same_text on) refl
-      (subst (λ (f : Format). WritesInCalls took v (with_marks f (Own Text (drop q.shown text) ∷ [])) u)
+      (subst (λ (f : Format). WritesInCalls took v (with_markup f (Own Text (drop q.shown text) ∷ [])) u)
       (on.format ∙ same_format)
-      (subst (λ (t : List ℕ). WritesInCalls took v (with_marks q.format (Own Text (drop q.shown t) ∷ [])) u)
+      (subst (λ (t : List ℕ). WritesInCalls took v (with_markup q.format (Own Text (drop q.shown t) ∷ [])) u)
       (on.text ∙ same_text) wrote))
 
-  -- what stands between single quotes
+  -- Writing the contents between single quotes.
   pub paints_single : (p q : Painter) (mode : Mode) (inside : List ℕ) (close : ℕ) (look : Option Look) (w v u : W)
       → look ≡ char_look (char_error mode inside) inside → inside ≡ between p.at close p.text.now
       → Paints took p w (stretch p.at close look) close q v
-      → WritesInCalls took v (with_marks q.format (Own Text (drop q.shown q.text.now) ∷ [])) u
+      → WritesInCalls took v (with_markup q.format (Own Text (drop q.shown q.text.now) ∷ [])) u
       → WritesLeft p.format p.text.now w p.shown (single_stretches mode p.at close p.text.now) u
   paints_single p q mode inside close look w v u looks is on wrote =
       subst (λ (l : Option Look). WritesLeft p.format p.text.now w p.shown (stretch p.at close l) u)
       (looks ∙ ap (λ (xs : List ℕ). char_look (char_error mode xs) xs) is)
       (paints_last p q p.format p.text.now (stretch p.at close look) close w v u refl refl on wrote)
 
-  -- an element that is told already
+  -- An element that has already been reported is skipped.
   pub writes_told : (format : Format) (mode : Mode) (text : List ℕ) (begin at close shown : ℕ) (items rest : List Item)
       (item : Item) (w last : W) → items ≡ item ∷ rest → begin + item.0.start < at
       → WritesLeft format text w shown (stretches_from mode begin at close rest) last
@@ -190,7 +193,7 @@ module _ {W : Type 0} (took : W → List ℕ → W → Type 0) where
   writes_told format mode text begin at close shown items rest item w last is less more =
       grind (arith, common_steps, told_already)
 
-  -- an element, and what stands before it
+  -- Writing an element and the skipped text before it.
   writes_item : (format : Format) (mode : Mode) (text : List ℕ) (begin at close shown to next : ℕ)
       (items rest : List Item) (item : Item) (look : Option Look) (w v u last : W)
       → items ≡ item ∷ rest → at ≤ begin + item.0.start → look ≡ element_look mode item.1
@@ -222,7 +225,7 @@ module _ {W : Type 0} (took : W → List ℕ → W → Type 0) where
       writes_item format mode text begin p.at close p.shown q.shown r.shown items rest item look w v u last is high
       looks a b left
 
-  -- all elements, and then none
+  -- After the last element, only the skipped text before the closing quote is left.
   pub writes_all : (format : Format) (mode : Mode) (text inside : List ℕ) (begin close shown : ℕ) (items : List Item)
       (w last : W)
       → items ≡ file_items (is_raw mode) inside → inside ≡ between begin close text
@@ -233,7 +236,7 @@ module _ {W : Type 0} (took : W → List ℕ → W → Type 0) where
   pub paints_end : (format : Format) (mode : Mode) (text : List ℕ) (begin close : ℕ) (p q : Painter) (items : List Item)
       (w v u : W) → items ≡ []
       → p.format ≡ format → p.text.now ≡ text → Paints took p w (gap p.at close) close q v
-      → WritesInCalls took v (with_marks q.format (Own Text (drop q.shown q.text.now) ∷ [])) u
+      → WritesInCalls took v (with_markup q.format (Own Text (drop q.shown q.text.now) ∷ [])) u
       → WritesLeft format text w p.shown (stretches_from mode begin p.at close items) u
   paints_end format mode text begin close p q items w v u none same_format same_text on wrote =
       subst (λ (left : List Item). WritesLeft format text w p.shown (stretches_from mode begin p.at close left) u)

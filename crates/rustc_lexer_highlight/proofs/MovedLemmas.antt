@@ -1,4 +1,4 @@
--- What stands in a literal of a file, by what stands in the text with newlines for its line ends.
+-- The contents of a literal in a file, and the same contents with LF line endings.
 use Rattle.std.proofs.Common.{◌≡◌, ℕ, zero, suc, add-zero, ◌+◌, ◌≤◌, ◌⊎◌, inl, inr, nat_lt, get_or, append-nil}
 use Rattle.std.proofs.Common.{IsCharBoundary, IsUtf8, Bool, true, List, [], ◌∷◌, length, map, refl, sym, ap, ◌∙◌, arith}
 use Rattle.std.proofs.Common.{Option, Result}
@@ -18,7 +18,7 @@ use Rattle.rustc_lexer_highlight.specs.{Literal.{char_error, moved_stretch, stre
 use Rattle.rustc_lexer_highlight.specs.model.{LineEnds.{is_whole, single_left}, Literal.{stretches_from}}
 use Rattle.rustc_lexer_highlight.proofs.LineEndLemmas.{chars-unix, place-append, place_less, utf8-unix}
 
--- ---- places
+-- ---- offsets
 
 whole-nil : (s : List ℕ) → is_whole s [] ≡ true
 whole-nil s = grind (arith, common_steps, nat_tests)
@@ -26,7 +26,7 @@ whole-nil s = grind (arith, common_steps, nat_tests)
 pub place-end : (s : List ℕ) → place s (length (unix s)) ≡ length s
 place-end s = rw (append-nil s, add-zero (length (unix s)), add-zero (length s)) at (place-append s [] 0 (whole-nil s))
 
--- the byte at a place is that of the text with newlines, or a carriage return
+-- The byte at a converted offset is the same byte, or a carriage return.
 place-byte : (s : List ℕ) (i : ℕ) → (get_or s (place s i) 0 ≡ get_or (unix s) i 0) ⊎ (get_or s (place s i) 0 ≡ 13)
 place-byte [] zero = inl refl
 place-byte [] (suc i) = inl refl
@@ -115,7 +115,7 @@ single-error meaning mode text is same =
     ∙ (ap result_err (sym (literal_read meaning (unix (chars text))))
     ∙ ap (λ (s : List ℕ). result_err (without_range (single_of meaning s))) (sym (chars-unix text is))))
 
--- a mode without single quotes is read as that of a character
+-- Returns `Char` for a mode without single quotes.
 abbrev pub alone_mode : Mode → Mode
 alone_mode Byte = Byte
 alone_mode mode = Char

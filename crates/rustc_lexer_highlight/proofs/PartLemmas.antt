@@ -1,4 +1,4 @@
--- A part of a text between its marks: what it says, and the calls that write it.
+-- The text of a part with its markup, and the calls that write it.
 use Rattle.std.proofs.Common.{◌≡◌, ℕ, zero, suc, ◌%◌, ◌==◌, Bool, true, false, List, [], ◌∷◌, ◌++◌, length, take, drop}
 use Rattle.std.proofs.Common.{refl, sym, ap, subst, ◌∙◌, arith, append_assoc, not, take-append-drop, ◌-◌, append-nil}
 use Rattle.std.proofs.Common.{true≢false, ◌<◌, codes, IsCharBoundary}
@@ -7,18 +7,18 @@ use Rattle.std.specs.{Prelude.{decimal}, Fmt.{digit_glyph, digits, digits_onto, 
 use Rattle.std.proofs.lemmas.{Bool.{eqb-true, ne_eqb}, List.Concat.{flat_map-append}, Grind.{common_steps}}
 use Rattle.rustc_literal_escaper.specs.declared.error.EscapeError.{EscapeError}
 use Rattle.rustc_lexer_highlight.specs.declared.{class.Class.{Class, TheVariants.{Comment}}, errors.TokenError.{TokenError}, format.{Format.{Format, TheVariants.{Html}}}}
-use Rattle.rustc_lexer_highlight.specs.{Escape.{escaped, escaped_byte, untagged, untagged_from}, TokenError.{sentence}}
-use Rattle.rustc_literal_escaper.specs.Numbers.{error_sentence}
-use Rattle.rustc_lexer_highlight.specs.Mark.{class_open, class_close, error_open, error_close}
-use Rattle.rustc_lexer_highlight.specs.Part.{Part, Own, Close, Return, error_parts, faulty_parts, first_line, is_cut_line_end, own, shown}
-use Rattle.rustc_lexer_highlight.specs.Part.{with_marks, without_marks, written}
+use Rattle.rustc_lexer_highlight.specs.{Escape.{escaped, escaped_byte, untagged, untagged_from}, TokenError.{message}}
+use Rattle.rustc_literal_escaper.specs.Numbers.{error_message}
+use Rattle.rustc_lexer_highlight.specs.Markup.{class_open, class_close, error_open, error_close}
+use Rattle.rustc_lexer_highlight.specs.Part.{Part, Own, Close, Return, error_parts, malformed_parts, first_line, is_cut_line_end, own, shown}
+use Rattle.rustc_lexer_highlight.specs.Part.{with_markup, without_markup, written}
 use Rattle.rustc_lexer_highlight.proofs.{CallLemmas.{no_calls, one_call, writes_both}, EscapeLemmas.{untagged_escaped}}
 
-pub without_error : (error : TokenError) (class : Class) (text : List ℕ) → without_marks (error_parts error class text) ≡
-    text
+pub without_error : (error : TokenError) (class : Class) (text : List ℕ)
+    → without_markup (error_parts error class text) ≡ text
 without_error error class text = grind (arith, common_steps, append-nil, take-append-drop)
 
--- a text may be cut before a carriage return at its end
+-- The text can be cut before the carriage return at its end.
 module _ (text next : List ℕ) (ends : is_cut_line_end text next ≡ true) where
   pub may_cut_return : (0 < length text) × IsCharBoundary text (length text - 1)
   may_cut_return = grind (arith, common_steps, eqb-true)
@@ -29,14 +29,14 @@ module _ (text next : List ℕ) (ends : is_cut_line_end text next ≡ true) wher
       let past : suc (length text - 1) ≡ length text = omega (arith, may_cut_return.0) in
       grind (arith, common_steps, eqb-true, last, past, drop-length)
 
-pub without_faulty : (error : TokenError) (class : Class) (text next : List ℕ)
-    → without_marks (faulty_parts error class text next) ≡ text
-without_faulty error class text next =
+pub without_malformed : (error : TokenError) (class : Class) (text next : List ℕ)
+    → without_markup (malformed_parts error class text next) ≡ text
+without_malformed error class text next =
     grind (arith, common_steps, without_error, flat_map-append, cut_return, append-nil)
 
--- ---- no mark of a page shows anything
+-- ---- the markup of a page displays nothing
 
--- digits stand inside of a tag
+-- A digit does not end a tag.
 no_end : (n : ℕ) → digit_glyph false (n % 10) ≡ 62 → ⊥
 no_end n = grind (arith, common_steps)
 
@@ -53,14 +53,15 @@ in_decimal : (n : ℕ) (rest : List ℕ) → untagged_from true (decimal n ++ re
 unfolding digits
 in_decimal n rest = in_digits 64 n [] rest refl
 
-in_error : (error : EscapeError) (rest : List ℕ) → untagged_from true (error_sentence error ++ rest) ≡
+in_error : (error : EscapeError) (rest : List ℕ) → untagged_from true (error_message error ++ rest) ≡
     untagged_from true rest
 in_error error rest = grind (arith, common_steps)
 
--- a sentence stands inside of a tag
-in_sentence : (error : TokenError) (rest : List ℕ) → untagged_from true (sentence error ++ rest) ≡ untagged_from true rest
-unfolding sentence
-in_sentence error rest = grind (arith, common_steps, append_assoc, in_decimal, in_error)
+-- A message does not end a tag.
+in_message : (error : TokenError) (rest : List ℕ)
+    → untagged_from true (message error ++ rest) ≡ untagged_from true rest
+unfolding message
+in_message error rest = grind (arith, common_steps, append_assoc, in_decimal, in_error)
 
 class_open_unseen : (class : Class) (rest : List ℕ) → untagged_from false (class_open Html class ++ rest) ≡
     untagged_from false rest
@@ -70,40 +71,40 @@ class_close_unseen : (class : Class) (rest : List ℕ) → untagged_from false (
     untagged_from false rest
 class_close_unseen class rest = grind (arith, common_steps)
 
--- outside of tags, a part shows what it is without its marks
+-- Outside of tags, a page displays a part as its escaped text.
 shows_part : (part : Part) (rest : List ℕ) → untagged_from false (written Html part ++ rest) ≡
     escaped (own part) ++ untagged_from false rest
 shows_part part rest =
-    grind (arith, common_steps, append_assoc, class_open_unseen, untagged_escaped, class_close_unseen, in_sentence)
+    grind (arith, common_steps, append_assoc, class_open_unseen, untagged_escaped, class_close_unseen, in_message)
 
--- and so do some parts: a page shows the text with entities
-pub shows : (ps : List Part) → untagged (with_marks Html ps) ≡ escaped (without_marks ps)
+-- A page displays all parts as their escaped text.
+pub shows : (ps : List Part) → untagged (with_markup Html ps) ≡ escaped (without_markup ps)
 shows [] = refl
-shows (p ∷ ps) = shows_part p (with_marks Html ps)
-    ∙ (ap (λ xs. escaped (own p) ++ xs) (shows ps) ∙ sym (flat_map-append escaped_byte (own p) (without_marks ps)))
+shows (p ∷ ps) = shows_part p (with_markup Html ps)
+    ∙ (ap (λ xs. escaped (own p) ++ xs) (shows ps) ∙ sym (flat_map-append escaped_byte (own p) (without_markup ps)))
 
 -- ---- the calls that write it
 
-with_marks-append : (format : Format) (ps qs : List Part) → with_marks format (ps ++ qs) ≡
-    with_marks format ps ++ with_marks format qs
-with_marks-append format [] qs = refl
-with_marks-append format (p ∷ ps) qs = ap (λ xs. written format p ++ xs) (with_marks-append format ps qs)
-    ∙ sym (append_assoc (written format p) (with_marks format ps) (with_marks format qs))
+with_markup-append : (format : Format) (ps qs : List Part) → with_markup format (ps ++ qs) ≡
+    with_markup format ps ++ with_markup format qs
+with_markup-append format [] qs = refl
+with_markup-append format (p ∷ ps) qs = ap (λ xs. written format p ++ xs) (with_markup-append format ps qs)
+    ∙ sym (append_assoc (written format p) (with_markup format ps) (with_markup format qs))
 
 module _ {W : Type 0} (took : W → List ℕ → W → Type 0) where
-  -- some parts, and then others
+  -- Writing two lists of parts writes both.
   pub writes_parts : (format : Format) (ps qs : List Part) (w0 w1 w2 : W)
-      → WritesInCalls took w0 (with_marks format ps) w1 → WritesInCalls took w1 (with_marks format qs) w2
-      → WritesInCalls took w0 (with_marks format (ps ++ qs)) w2
+      → WritesInCalls took w0 (with_markup format ps) w1 → WritesInCalls took w1 (with_markup format qs) w2
+      → WritesInCalls took w0 (with_markup format (ps ++ qs)) w2
   writes_parts format ps qs w0 w1 w2 first more =
-      subst (λ (bs : List ℕ). WritesInCalls took w0 bs w2) (sym (with_marks-append format ps qs))
+      subst (λ (bs : List ℕ). WritesInCalls took w0 bs w2) (sym (with_markup-append format ps qs))
       (writes_both took w0 w1 w2 _ _ first more)
 
-  -- a part of the text between the marks of its class
+  -- Writing the opening markup, the text and the closing markup writes a part.
   pub writes_in_class : (format : Format) (class : Class) (text : List ℕ) (w0 w1 w2 w3 : W) (before after : List ℕ)
       → (length text == 0) ≡ false → before ≡ class_open format class → after ≡ class_close format class
       → took w0 before w1 → WritesInCalls took w1 (shown format class text) w2 → took w2 after w3
-      → WritesInCalls took w0 (with_marks format (Own class text ∷ [])) w3
+      → WritesInCalls took w0 (with_markup format (Own class text ∷ [])) w3
   writes_in_class format class [] w0 w1 w2 w3 before after some opens closes a b d = absurd (true≢false some)
   writes_in_class format class (x ∷ xs) w0 w1 w2 w3 before after some opens closes a b d =
       let open_call = subst (λ (bs : List ℕ). took w0 bs w1) opens a in
@@ -112,12 +113,12 @@ module _ {W : Type 0} (took : W → List ℕ → W → Type 0) where
       writes_both took w0 w1 w3 _ _ (one_call took w0 w1 _ open_call) (
       writes_both took w1 w2 w3 _ _ b (one_call took w2 w3 _ close_call))) (no_calls took w3)
 
-  -- a token with an error, and a carriage return
+  -- Writing a token with an error, and then the carriage return at its end, writes its parts.
   pub writes_return : (format : Format) (error : TokenError) (class : Class) (text next line : List ℕ) (w0 w1 w2 : W)
       → is_cut_line_end text next ≡ true → line ≡ take (length text - 1 - 0) text
-      → WritesInCalls took w0 (with_marks format (error_parts error class line)) w1
+      → WritesInCalls took w0 (with_markup format (error_parts error class line)) w1
       → WritesInCalls took w1 (shown format Comment (codes "\r")) w2
-      → WritesInCalls took w0 (with_marks format (faulty_parts error class text next)) w2
+      → WritesInCalls took w0 (with_markup format (malformed_parts error class text next)) w2
   writes_return format error class text next line w0 w1 w2 ends front a b =
       let same : length text - 1 - 0 ≡ length text - 1 = omega arith in
       let is_line : line ≡ take (length text - 1) text = front ∙ ap (λ (k : ℕ). take k text) same in
@@ -125,14 +126,14 @@ module _ {W : Type 0} (took : W → List ℕ → W → Type 0) where
       (writes_both took w1 w2 w2 _ _ b (no_calls took w2)) in
       rw (ends, ← is_line) whole
 
-  -- a token with an error between its marks
+  -- Writing the first line with the markup of the error, and then the rest, writes a token with an error.
   pub writes_error : (format : Format) (error : TokenError) (class : Class) (text line rest : List ℕ) (n : ℕ)
       (w0 w1 w2 w3 w4 : W) → n ≡ first_line text → line ≡ take (n - 0) text → rest ≡ drop n text
       → WritesInCalls took w0 (error_open format error) w1
-      → WritesInCalls took w1 (with_marks format (Own class line ∷ [])) w2
+      → WritesInCalls took w1 (with_markup format (Own class line ∷ [])) w2
       → WritesInCalls took w2 (error_close format error) w3
-      → WritesInCalls took w3 (with_marks format (Own class rest ∷ [])) w4
-      → WritesInCalls took w0 (with_marks format (error_parts error class text)) w4
+      → WritesInCalls took w3 (with_markup format (Own class rest ∷ [])) w4
+      → WritesInCalls took w0 (with_markup format (error_parts error class text)) w4
   writes_error format error class text line rest n w0 w1 w2 w3 w4 is front past a b d e =
       let all : n - 0 ≡ n = omega arith in
       let is_line : line ≡ take (first_line text) text = front ∙ ap (λ (k : ℕ). take k text) (all ∙ is) in

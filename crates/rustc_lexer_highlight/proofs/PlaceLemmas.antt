@@ -1,4 +1,4 @@
--- The first and the last byte that pass a test, in a text.
+-- The first and the last byte of a text that pass a test.
 use Rattle.std.proofs.Common.{◌≡◌, ℕ, ◌+◌, ◌-◌, ◌<◌, ◌==◌, Bool, List, length, not, ap, sym, arith, ◌∙◌, Some, None}
 use Rattle.std.proofs.Common.{IsCharBoundary, IsUtf8}
 use Rattle.std.specs.List.{position_or_len}
@@ -46,7 +46,7 @@ module _ (b : ℕ) (bytes text : List ℕ) where
       (λ k low less. not_from_false _ (false_from_ne_true _ (none k low less))) (λ some. absurd (omega arith)) in
       let here : 0 ≡ last_offset b bytes = omega arith in here ∙ ap (last_offset b) same
 
-  -- the text may be cut past a byte of ASCII
+  -- The end of an ASCII byte is a char boundary.
   pub past_first : (n : ℕ) → bytes ≡ text → IsUtf8 text → b < 128 → IsFirstByte (is_byte b) bytes (Some n)
       → IsCharBoundary text (n + 1)
   past_first n same utf8 ascii found = grind (arith, common_steps, eqb-true, IsCharBoundary-after_ascii)

@@ -1,4 +1,5 @@
--- A text as it is written for a terminal: it has no control characters except layout; the calls that write it.
+-- The output for a terminal: the calls that write it, and that it contains no control characters other than tabs and
+-- line endings.
 use Rattle.std.proofs.Common.{◌≡◌, ℕ, zero, suc, ◌+◌, ◌<◌, ◌≤◌, ◌==◌, Bool, true, false, true≢false, ◌&&◌, ◌||◌, not}
 use Rattle.std.proofs.Common.{inl, inr, List, [], ◌∷◌, ◌++◌, length, take, drop, get_or, refl, sym, ap, subst, ◌∙◌}
 use Rattle.std.proofs.Common.{arith, length-append, length-drop, take-append-drop, Some, None, IsCharBoundary}
@@ -11,7 +12,8 @@ use Rattle.std.proofs.lemmas.Str.{encode_ascii, IsUtf8-drop, IsUtf8-past_char, I
 use Rattle.std.proofs.lemmas.Str.{chars_past_char, encodes-append, encodes-chars, length-encode, len_utf8_bounds}
 use Rattle.memchr.specs.Find.{IsFirstByte}
 use Rattle.rustc_lexer_highlight.specs.declared.class.Class.{Class}
-use Rattle.rustc_lexer_highlight.specs.Screen.{at_line_end, is_layout, is_replaceable, is_shown, may_begin_replaceable, seen, seen_char}
+use Rattle.rustc_lexer_highlight.specs.Screen.{at_line_end, is_layout, is_replaceable, is_shown, may_begin_replaceable}
+use Rattle.rustc_lexer_highlight.specs.Screen.{seen, seen_char}
 use Rattle.rustc_lexer_highlight.specs.Screen.{symbol}
 use Rattle.rustc_lexer_highlight.proofs.CallLemmas.{one_call, writes_both}
 
@@ -21,7 +23,8 @@ far c high = grind (arith, common_steps, nat_tests)
 symbol_shown : (c : ℕ) → is_shown (symbol c) ≡ true
 symbol_shown c = grind (arith, common_steps, nat_tests, far)
 
--- by whether a character is a control character, a tab, a newline, a carriage return, and at the end of a line
+-- The Booleans state whether a character is a control character, a tab, a newline or a carriage return, and whether it
+-- is at the end of a line.
 kept : (k t n r e : Bool) → (k && not (t || n || (r && e))) ≡ false → (not k || t || n || r) ≡ true
 kept k t n r e w5 = grind (arith, common_steps)
 
@@ -37,12 +40,12 @@ all_shown class (c ∷ cs) = rw (one_shown class c cs) (all_shown class cs)
 
 pub ruleset byte_tests = (nat_tests)
 
--- ---- a text with no replaceable character
+-- ---- a text without replaceable characters
 
 irreplaceable_char : (class : Class) (c : ℕ) (cs : List ℕ) → is_replaceable c ≡ false → seen_char class c cs ≡ c
 irreplaceable_char class c cs other = grind (arith, common_steps, nat_tests)
 
--- it is written as it is
+-- Such a text is unchanged.
 seen-append : (class : Class) (cs ds : List ℕ) → list_any is_replaceable cs ≡ false
     → seen class (cs ++ ds) ≡ cs ++ seen class ds
 seen-append class [] ds none = refl
@@ -59,7 +62,7 @@ wide_byte : (c : ℕ) (bs : List ℕ) → 128 ≤ c → c < 160 → get_or (enco
 unfolding encode_utf8
 wide_byte c bs wide small = grind (arith, common_steps, nat_tests)
 
--- the first byte of a character
+-- A replaceable character starts with a byte that passes the test.
 first_byte : (c : ℕ) (bs : List ℕ) → is_replaceable c ≡ true
     → may_begin_replaceable (get_or (encode_utf8 c ++ bs) 0 0) ≡ true
 first_byte c bs is = elim (cases_lt c 128) [
@@ -86,7 +89,8 @@ irreplaceable_text : (bs : List ℕ) → IsUtf8 bs
     → list_any is_replaceable (chars bs) ≡ false
 irreplaceable_text bs utf8 none = irreplaceable (chars bs) (rw (encodes-chars bs utf8) none)
 
--- a text may be cut before the first byte of a replaceable character, and has none before it
+-- The first byte that can start a replaceable character is at a char boundary, and no replaceable character is before
+-- it.
 pub may_cut : (bs : List ℕ) (n : ℕ) → IsFirstByte may_begin_replaceable bs (Some n) → IsCharBoundary bs n
 may_cut bs n found = let high = found.0.high in
     (omega arith, λ low wide. grind (arith, common_steps, nat_tests, found.1))
@@ -100,7 +104,8 @@ front_irreplaceable bs n utf8 found =
     (λ k less set. found.0.before k (omega arith) (omega arith)
     (subst (λ (b : ℕ). may_begin_replaceable b ≡ true) (get_or-take n bs k 0 (omega arith)) set))
 
--- the text before it, its character, and the text after that
+-- Divides a text at the first byte that can start a replaceable character: the text before it, the character, and the
+-- rest.
 pub splits : (text front rest past : List ℕ) (c n : ℕ) → IsUtf8 text → IsFirstByte may_begin_replaceable text (Some n)
     → front ≡ take n text → rest ≡ drop n text
     → chars rest ≡ c ∷ chars past → length past < length rest
@@ -132,7 +137,8 @@ none_replaceable bs text same utf8 none =
     (omega arith) less set)
 
 module _ {W : Type 0} (took : W → List ℕ → W → Type 0) where
-  -- the text before a replaceable character, the character, and then the rest
+  -- Writing the text before a character, that character or its symbol, and then the rest writes the text, if no
+  -- replaceable character is before it.
   pub writes_stretch : (class : Class) (w0 w1 w2 w : W) (c shown : ℕ) (bs front rest : List ℕ) → IsUtf8 front
       → list_any is_replaceable (chars front) ≡ false
       → chars bs ≡ chars front ++ (c ∷ chars rest) → shown ≡ seen_char class c (chars rest)

@@ -1,4 +1,4 @@
--- Carriage returns that no newline follows, and parts of a text whose places may lie past its end.
+-- Bare carriage returns, and ranges of a text whose offsets can be after its end.
 use Rattle.std.proofs.Common.{◌≡◌, ℕ, zero, suc, ◌+◌, ◌-◌, ◌<◌, ◌||◌, true, false, List, [], ◌∷◌, drop, take, length}
 use Rattle.std.proofs.Common.{get_or, min, sym, ap, refl, arith, ◌∙◌, Some, None}
 use Rattle.std.specs.{List.{between, list_any}, Str.{IsAscii, chars}}
@@ -16,7 +16,7 @@ rest_fits rest next at fits is =
     let same : length next ≡ length (take (length rest - (at + 1)) (drop (at + 1) rest)) = ap length is in
     omega (arith, fits)
 
--- whether one is bare, by what follows the first
+-- Whether a text contains a bare carriage return, by the text after the first carriage return.
 past_return : (rest : List ℕ) (at : ℕ) → IsFirstByte (is_byte 13) rest (Some at)
     → has_bare_return rest ≡ (goes_on (drop (suc at) rest) || has_bare_return (drop (suc at) rest))
 past_return [] at found = absurd (omega (arith, found.0.high))
@@ -71,7 +71,7 @@ suffix_here n text =
 small_stays : (c : ℕ) → c < 128 → turns_direction c ≡ false
 small_stays c small = grind (arith, common_steps, nat_tests)
 
--- no character of ASCII turns the direction
+-- No ASCII character is a bidirectional control character.
 pub ascii_stays : (text : List ℕ) → IsAscii text → list_any turns_direction (chars text) ≡ false
 ascii_stays text ascii =
     ap (list_any turns_direction) (chars-IsAscii text ascii)

@@ -1,5 +1,5 @@
--- The stretches of a literal, under the name that contracts use. Those of a string are taken from a
--- value whose type says that they are allowed and no others; the proof is in laws/Literal.antt.
+-- The stretches of a literal, under the name that contracts use. For a string, they come from a value whose type states
+-- that exactly these stretches are allowed. The proof is in laws/Literal.antt.
 use Rattle.std.specs.Prelude.{ℕ, if◌then◌else◌, List, [], map, Option, Some, None}
 use Rattle.std.specs.List.{between}
 use Rattle.std.specs.Str.{chars}
@@ -11,7 +11,8 @@ use Rattle.rustc_lexer_highlight.specs.LineEnds.{unix}
 use Rattle.rustc_lexer_highlight.specs.Literal.{AreStretches, Stretch, contents_places, moved_stretch, single_stretches}
 use Rattle.rustc_lexer_highlight.specs.laws.Literal.{the_stretches}
 
--- those of the contents with newlines for CR LF, at their places
+-- Returns the stretches of a string: the stretches of the contents with LF line endings, with their ranges in the
+-- literal.
 abbrev pub string_stretches : Mode → ℕ → ℕ → Utf8 → List Stretch
 string_stretches mode begin close text =
     let contents = between begin close text in

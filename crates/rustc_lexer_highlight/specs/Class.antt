@@ -1,4 +1,4 @@
--- The class of a token in an edition, which says what it is for a reader, by its kind and its text.
+-- The class of a token: what it is to a reader. It depends on the token's kind and text, and on the edition.
 use Rattle.std.specs.Prelude.{ℕ, Bool, false, if◌then◌else◌, List, [], ◌∷◌, Some, None}
 use Rattle.std.specs.Char.{is_ascii_uppercase}
 use Rattle.rustc_lexer.specs.declared.edition.Edition.{Edition}
@@ -11,10 +11,11 @@ use Rattle.rustc_lexer.specs.declared.token.TokenKind.TheVariants.{UnknownPrefix
 use Rattle.rustc_lexer_highlight.specs.declared.class.Class.{Class}
 use Rattle.rustc_lexer_highlight.specs.declared.keyword.KeywordKind.TheVariants.{Strict}
 use Rattle.rustc_lexer_highlight.specs.Keyword.{has}
-use Rattle.rustc_lexer_highlight.specs.declared.class.Class.TheVariants.{Plain, Comment, Doc, Keyword, TypeName, Text, Escape, Number}
+use Rattle.rustc_lexer_highlight.specs.declared.class.Class.TheVariants.{Plain, Comment, Doc, Keyword, TypeName, Text}
+use Rattle.rustc_lexer_highlight.specs.declared.class.Class.TheVariants.{Escape, Number}
 use Rattle.rustc_lexer_highlight.specs.declared.class.Class.TheVariants.{Lifetime}
 
--- whether a name begins with an ASCII capital letter
+-- Whether the name starts with an ASCII uppercase letter.
 abbrev pub is_type_name : List ℕ → Bool
 is_type_name [] = false
 is_type_name (b ∷ bs) = is_ascii_uppercase b
@@ -42,7 +43,7 @@ class_of RawLifetime text edition = Lifetime
 class_of UnknownPrefixLifetime text edition = Lifetime
 class_of kind text edition = Plain
 
--- the number of a class, for other languages. A number never changes: a new class gets a new one
+-- Returns the number of a class in the C ABI. It never changes: a new class gets a new number.
 abbrev pub class_number : Class → ℕ
 class_number Plain = 1
 class_number Comment = 2

@@ -1,15 +1,15 @@
--- A text as it is written in an HTML page, and the text that a page shows.
+-- Escaping for HTML, and the text that a page displays.
 use Rattle.std.specs.Prelude.{ℕ, zero, suc, ◌==◌, Bool, true, false, ◌||◌, not, if◌then◌else◌, List, [], ◌∷◌, codes}
 use Rattle.std.specs.Prelude.{length, take}
 use Rattle.std.specs.List.{flat_map}
 use Rattle.std.specs.Str.{byte, bytes_eq}
 
--- the bytes that HTML would read as markup, as nothing or as the end of a line
+-- Whether HTML would read the byte as markup or as the end of a line, or would drop it.
 abbrev pub is_special : ℕ → Bool
 is_special b =
     b == byte "&" || b == byte "<" || b == byte ">" || b == byte "\r" || b == 0
 
--- the entity for `&`, `<`, `>` or a carriage return, or else for U+0000
+-- Returns the entity of a byte: of `&`, `<`, `>` or a carriage return, and otherwise of U+0000.
 abbrev pub entity : ℕ → List ℕ
 entity b =
     if b == byte "&" then codes "&amp;"
@@ -20,15 +20,14 @@ entity b =
 abbrev pub escaped_byte : ℕ → List ℕ
 escaped_byte b = if is_special b then entity b else b ∷ []
 
--- the text with entities for these bytes
+-- Returns the text with entities in place of these bytes.
 abbrev pub escaped : List ℕ → List ℕ
 escaped text = flat_map escaped_byte text
 
 abbrev pub begins_with : List ℕ → List ℕ → Bool
 begins_with name bs = bytes_eq (take (length name) bs) name
 
--- the text that these bytes with entities stand for, if the first n of them belong to an entity
--- that was read already
+-- Decodes the entities, if the first n bytes belong to an entity that has already been decoded.
 abbrev pub unescaped_past : ℕ → List ℕ → List ℕ
 unescaped_past n [] = []
 unescaped_past (suc n) (b ∷ bs) = unescaped_past n bs
@@ -41,17 +40,17 @@ unescaped_past zero (b ∷ bs) =
     else (if begins_with (codes "#0;") bs then 0 ∷ unescaped_past 3 bs
     else b ∷ unescaped_past 0 bs)))))
 
--- the text that these bytes with entities stand for
+-- Decodes the entities.
 abbrev pub unescaped : List ℕ → List ℕ
 unescaped bs = unescaped_past 0 bs
 
--- the bytes outside of tags; the flag says whether the first byte is inside of one
+-- Returns the bytes outside of tags. `inside` holds if the first byte is inside a tag.
 abbrev pub untagged_from : Bool → List ℕ → List ℕ
 untagged_from inside [] = []
 untagged_from true (b ∷ bs) = untagged_from (not (b == byte ">")) bs
 untagged_from false (b ∷ bs) =
     if b == byte "<" then untagged_from true bs else b ∷ untagged_from false bs
 
--- the text of a page: the bytes outside of tags, each of which goes from `<` to `>`
+-- Returns the text of a page: the bytes outside of tags. A tag is everything from `<` to `>`.
 abbrev pub untagged : List ℕ → List ℕ
 untagged bs = untagged_from false bs

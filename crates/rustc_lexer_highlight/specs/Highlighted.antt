@@ -1,4 +1,4 @@
--- A text with its shebang line and its tokens highlighted.
+-- The output for a whole text: its shebang line and its tokens, highlighted.
 use Rattle.std.specs.Prelude.{ℕ, List, [], ◌∷◌, ◌++◌, take, drop, Option, Some, None}
 use Rattle.rustc_lexer.specs.declared.edition.Edition.{Edition}
 use Rattle.rustc_lexer.specs.declared.edition.Edition.TheVariants.{E2015, E2018}
@@ -15,27 +15,27 @@ use Rattle.rustc_lexer_highlight.specs.Class.{class_of}
 use Rattle.rustc_lexer_highlight.specs.TokenError.{token_error}
 use Rattle.rustc_lexer_highlight.specs.Answers.{stretches_of}
 use Rattle.rustc_lexer_highlight.specs.Literal.{closed_mode, parts_from}
-use Rattle.rustc_lexer_highlight.specs.Part.{Part, Own, faulty_parts, with_marks}
+use Rattle.rustc_lexer_highlight.specs.Part.{Part, Own, malformed_parts, with_markup}
 
--- the parts of a literal that is closed
+-- Returns the parts of a terminated literal.
 abbrev pub literal_parts : Mode → List ℕ → List Part
 literal_parts mode text = parts_from 0 text (stretches_of mode text)
 
--- the parts of a token: of one with an error, of a literal that is closed, or of one that has a
--- single class
+-- Returns the parts of a token before the text `next`: a token with an error, a terminated literal, or a token with a
+-- single class.
 abbrev pub parts_by : Option TokenError → Option Mode → Class → List ℕ → List ℕ → List Part
-parts_by (Some error) mode class text next = faulty_parts error class text next
+parts_by (Some error) mode class text next = malformed_parts error class text next
 parts_by None (Some mode) class text next = literal_parts mode text
 parts_by None None class text next = Own class text ∷ []
 
--- the error of a token in an edition. Before 2021, `k#a` is an identifier, `#` and an identifier,
--- without an error
+-- Returns the error of a token in an edition. Before 2021, `k#a` is an identifier, `#` and an identifier, and has no
+-- error.
 abbrev pub error_in : Edition → TokenKind → List ℕ → Option TokenError
 error_in E2015 ForcedKeywordIdent text = None
 error_in E2018 ForcedKeywordIdent text = None
 error_in edition kind text = token_error kind text
 
--- the parts of a token before the text `next`
+-- Returns the parts of a token in an edition, before the text `next`.
 abbrev pub token_parts : Edition → TokenKind → List ℕ → List ℕ → List Part
 token_parts edition kind text next =
     parts_by (error_in edition kind text) (closed_mode kind) (class_of kind text edition) text next
@@ -46,21 +46,22 @@ parts edition text (token ∷ tokens) =
     token_parts edition token.kind (take token.len text) (drop token.len text)
     ++ parts edition (drop token.len text) tokens
 
--- the parts of the text before the first token: a byte order mark, and a shebang line as a comment
+-- Returns the parts of the text before the first token: the byte order mark as plain text, and the shebang line as a
+-- comment.
 abbrev pub start_parts : List ℕ → List Part
 start_parts start =
     Own Plain (take (byte_order_mark_len start) start) ∷ Own Comment (drop (byte_order_mark_len start) start) ∷ []
 
--- the parts of a document in an edition
+-- Returns the parts of a document in an edition.
 abbrev pub document_parts : Edition → List ℕ → List Part
 document_parts edition text =
     start_parts (take (tokens_start text) text)
     ++ parts edition (drop (tokens_start text) text) (document_tokens edition text)
 
--- the tokens of a text in an edition, each between its marks, as they are written
+-- Returns the output for some tokens of a text in an edition.
 abbrev pub marked_tokens : Format → Edition → List ℕ → List Token → List ℕ
-marked_tokens format edition text tokens = with_marks format (parts edition text tokens)
+marked_tokens format edition text tokens = with_markup format (parts edition text tokens)
 
--- the same for a whole text
+-- Returns the output for a whole document.
 abbrev pub highlighted : Format → Edition → List ℕ → List ℕ
-highlighted format edition text = with_marks format (document_parts edition text)
+highlighted format edition text = with_markup format (document_parts edition text)

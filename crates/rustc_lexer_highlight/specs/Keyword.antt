@@ -1,4 +1,4 @@
--- The keywords of each edition, as the chapter Keywords of the Rust Reference lists them.
+-- The keywords of each edition, as listed in the chapter Keywords of the Rust Reference.
 use Rattle.std.specs.Prelude.{ℕ, Bool, false, ◌||◌, if◌then◌else◌, List, [], ◌∷◌, codes, Option, Some, None}
 use Rattle.std.specs.List.{list_any}
 use Rattle.std.specs.Str.{bytes_eq}
@@ -7,7 +7,7 @@ use Rattle.rustc_lexer.specs.declared.edition.Edition.TheVariants.{E2015, E2018,
 use Rattle.rustc_lexer_highlight.specs.declared.keyword.KeywordKind.{KeywordKind}
 use Rattle.rustc_lexer_highlight.specs.declared.keyword.KeywordKind.TheVariants.{Strict, Reserved, Weak}
 
--- the words that an edition made keywords of a sort; those of E2015 were there before it
+-- Returns the keywords of a kind that an edition added. The first edition, E2015, added all its keywords.
 abbrev pub made : KeywordKind → Edition → List (List ℕ)
 made Strict E2015 =
     codes "_" ∷ codes "as" ∷ codes "break" ∷ codes "const" ∷ codes "continue" ∷ codes "crate"
@@ -32,8 +32,8 @@ made sort edition = []
 abbrev pub is_in : List (List ℕ) → List ℕ → Bool
 is_in words word = list_any (λ keyword. bytes_eq keyword word) words
 
--- whether an edition after that of 2015 made the word a keyword of a sort: this one, or one before.
--- That of 2021 made none
+-- Whether this edition, or an earlier one after 2015, added the word as a keyword of the kind. The 2021 edition added
+-- none.
 abbrev pub is_later : KeywordKind → Edition → List ℕ → Bool
 is_later sort E2015 word = false
 is_later sort E2024 word = is_in (made sort E2018) word || is_in (made sort E2024) word
@@ -42,7 +42,8 @@ is_later sort edition word = is_in (made sort E2018) word
 abbrev pub has : KeywordKind → Edition → List ℕ → Bool
 has sort edition word = is_in (made sort E2015) word || is_later sort edition word
 
--- a word that is a keyword of two sorts, as `dyn` is from 2018 on, is of the stricter one
+-- Returns the kind of a keyword, or `None` for any other word. The stricter kind wins if a word has two, as `dyn` has
+-- from 2018 on.
 abbrev pub keyword_kind : List ℕ → Edition → Option KeywordKind
 keyword_kind word edition =
     if has Strict edition word then Some Strict

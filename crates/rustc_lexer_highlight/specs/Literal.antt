@@ -1,6 +1,6 @@
--- A literal that is closed. Between its quotes are pieces: elements, and line ends that are
--- skipped. A piece that is an escape or wrong is a stretch of the literal, and everything else is
--- plain. `w` is the text of a piece, and `next` all of the text after it up to the closing quote.
+-- The contents of a terminated literal, divided into pieces: elements and skipped line endings. A piece that is an
+-- escape or an error is a *stretch* of the literal; the rest is plain text. `w` is the text of a piece, and `next` is
+-- all of the text after it, up to the closing quote.
 use Rattle.std.specs.Prelude.{◌≡◌, ◌+◌, ◌-◌, ◌==◌, ℕ, length, take, drop, codes, not, nat_lt, Bool, true, false}
 use Rattle.std.specs.Prelude.{if◌then◌else◌, List, [], ◌∷◌, ◌++◌, Option, Some, None, nat_eq}
 use Rattle.std.specs.Char.{is_whitespace}
@@ -36,7 +36,7 @@ use Rattle.rustc_lexer_highlight.specs.declared.literal.Look.TheVariants.{Escape
 use Rattle.rustc_lexer_highlight.specs.LineEnds.{place, unix}
 use Rattle.rustc_lexer_highlight.specs.Part.{Part, Own, error_parts}
 
--- the mode of a literal that is closed. Numbers have none
+-- Returns the mode of a terminated literal. Numbers have none.
 abbrev pub literal_mode : LiteralKind → Option Mode
 literal_mode (CharToken true) = Some Char
 literal_mode (ByteToken true) = Some Byte
@@ -57,16 +57,15 @@ closed_mode kind = None
 abbrev pub delimiter : Mode → ℕ
 delimiter mode = if is_single mode then byte "'" else byte "\""
 
--- the offset of the first byte with this value, or the length of the text if there is none
+-- Returns the offset of the first byte with this value, or the length of the text if there is none.
 unfoldable pub first_offset : ℕ → Utf8 → ℕ
 first_offset b text = position_or_len (λ x. x == b) text
 
--- the offset of the last byte with this value, or 0 if there is none
+-- Returns the offset of the last byte with this value, or 0 if there is none.
 unfoldable pub last_offset : ℕ → Utf8 → ℕ
 last_offset b text = length text - suffix_len (λ x. not (x == b)) text - 1
 
--- where the text between the first quote and the last one begins and ends, by the offsets of the
--- quotes
+-- Returns the offsets at which the contents start and end, from the offsets of the two quotes.
 abbrev pub between_places : ℕ → ℕ → Option (ℕ × ℕ)
 between_places first last = if nat_lt first last then Some (first + 1, last) else None
 
@@ -74,7 +73,7 @@ abbrev pub contents_places : Mode → Utf8 → Option (ℕ × ℕ)
 contents_places mode text =
     between_places (first_offset (delimiter mode) text) (last_offset (delimiter mode) text)
 
--- the range between the quotes of a literal that is closed, with its mode
+-- Returns the mode of a terminated literal and the range between its quotes.
 abbrev pub contents_in : Mode → Utf8 → Option (Mode × Range ℕ)
 contents_in mode text =
     option_map (λ (places : ℕ × ℕ). (mode, record { start = places.0; end = places.1 }))
@@ -89,7 +88,7 @@ abbrev pub is_plain : Element → Bool
 is_plain (Plain c) = true
 is_plain element = false
 
--- how an element looks: wrong, plain (None), or an escape
+-- Relates an element to its look: an error, an escape, or plain (`None`).
 pub data Looks (mode : Mode) (element : Element) : Option Look → Type 0 where
   wrong : {error : EscapeError}
       → error_of mode element ≡ Some error
@@ -101,7 +100,7 @@ pub data Looks (mode : Mode) (element : Element) : Option Look → Type 0 where
       → is_plain element ≡ false
       → Looks mode element (Some Escape)
 
--- w is an element, or a skipped line end with a warning; and how it looks
+-- Holds if w is a piece with this look, when `next` follows it: an element, or a skipped line ending with a warning.
 pub data IsPieceBefore (mode : Mode) (next : Chars)
     : (raw : Bool) → Option Look → Chars → Type 0 where
   element : {element : Element} {look : Option Look} {w : Chars}
@@ -113,14 +112,14 @@ pub data IsPieceBefore (mode : Mode) (next : Chars)
       → IsRawElement element c
       → Looks mode element look
       → IsPieceBefore mode next true look (c ∷ [])
-  -- a backslash at the end of a line, if the white space that is skipped has more line ends
+  -- A backslash at the end of a line, if the whitespace that it skips contains another newline.
   lines : (space : Chars)
       → list_all is_passed_over space ≡ true
       → list_any is_newline space ≡ true
       → next_is is_passed_over next ≡ false
       → IsPieceBefore mode next false (Some (Wrong MultipleSkippedLinesWarning))
       (codes "\\\n" ++ space)
-  -- or else with the first character of white space that is not skipped, if such a one follows
+  -- Otherwise, if whitespace that is not skipped follows, the piece includes its first character.
   white_space : (space : Chars) (c : ℕ)
       → list_all is_passed_over space ≡ true
       → list_any is_newline space ≡ false
@@ -129,8 +128,7 @@ pub data IsPieceBefore (mode : Mode) (next : Chars)
       → IsPieceBefore mode next false (Some (Wrong UnskippedWhitespaceWarning))
       (codes "\\\n" ++ (space ++ c ∷ []))
 
--- line ends without a warning, one right after another, each with the white space that is skipped
--- after it
+-- Holds for consecutive line endings without a warning, each with the whitespace that is skipped after it.
 pub data AreSkippedBefore (next : Chars) : (raw : Bool) → Chars → Type 0 where
   none : {raw : Bool} → AreSkippedBefore next raw []
   more : {w : Chars} (space : Chars)
@@ -143,12 +141,12 @@ pub data AreSkippedBefore (next : Chars) : (raw : Bool) → Chars → Type 0 whe
 abbrev pub Piece : Type 0
 Piece = Chars × Option Look
 
--- these are one piece, an escape
+-- Returns the characters as one piece, an escape. The empty text has no piece.
 abbrev pub skipped : Chars → List Piece
 skipped [] = []
 skipped (c ∷ w) = (c ∷ w, Some Escape) ∷ []
 
--- the pieces of the text between double quotes
+-- Relates the contents of a string to their pieces.
 pub data ArePieces (mode : Mode) (raw : Bool) : Chars → List Piece → Type 0 where
   last : {gap : Chars} → AreSkippedBefore [] raw gap → ArePieces mode raw gap (skipped gap)
   more : {gap w next : Chars} {look : Option Look} {pieces : List Piece}
@@ -157,7 +155,7 @@ pub data ArePieces (mode : Mode) (raw : Bool) : Chars → List Piece → Type 0 
       → ArePieces mode raw next pieces
       → ArePieces mode raw (gap ++ (w ++ next)) (skipped gap ++ (w, look) ∷ pieces)
 
--- ---- the stretches, each with its places in the literal
+-- ---- the stretches, each with its range in the literal
 
 pub record Stretch : Type 0 where
   pub start : ℕ
@@ -168,20 +166,20 @@ abbrev pub stretch : ℕ → ℕ → Option Look → List Stretch
 stretch start end None = []
 stretch start end (Some look) = record { start = start; end = end; look = look } ∷ []
 
--- the stretches of pieces, the first of which begins at the offset `from`. A plain one has none
+-- Returns the stretches of pieces that start at the offset `from`. A plain piece has none.
 abbrev pub stretches_at : ℕ → List Piece → List Stretch
 stretches_at from [] = []
 stretches_at from (piece ∷ pieces) =
     stretch from (from + bytes piece.0) piece.1 ++ stretches_at (from + bytes piece.0) pieces
 
--- the stretches of the text between double quotes, which begins at this offset
+-- Relates the contents of a string, which start at the offset `begin`, to their stretches.
 pub data AreStretches (mode : Mode) (begin : ℕ) (text : Chars) : List Stretch → Type 0 where
   made : {pieces : List Piece}
       → ArePieces mode (is_raw mode) text pieces
       → AreStretches mode begin text (stretches_at begin pieces)
 
--- a stretch of these contents with newlines for CR LF is this one of the literal, if the contents
--- begin at the offset `begin` of it
+-- Converts a stretch of the contents with LF line endings to a stretch of the literal, whose contents start at the
+-- offset `begin` and can have CRLF line endings.
 abbrev pub moved_stretch : ℕ → Utf8 → Stretch → Stretch
 moved_stretch begin contents s = record {
   start = begin + place contents s.start;
@@ -189,7 +187,7 @@ moved_stretch begin contents s = record {
   look = s.look;
 }
 
--- what is wrong between single quotes; CR LF is a newline
+-- Returns the error between single quotes. A CRLF counts as a newline.
 abbrev pub char_error : Mode → Utf8 → Option EscapeError
 char_error Byte contents = result_err (byte_literal (chars (unix contents)))
 char_error mode contents = result_err (char_literal (chars (unix contents)))
@@ -198,7 +196,7 @@ abbrev pub char_look : Option EscapeError → Utf8 → Option Look
 char_look (Some error) contents = Some (Wrong error)
 char_look None contents = if starts_with nat_eq contents (codes "\\") then Some Escape else None
 
--- between single quotes everything is one stretch: an error, an escape, or plain
+-- Returns the stretches between single quotes: the contents are one stretch if they are an error or an escape.
 abbrev pub single_stretches : Mode → ℕ → ℕ → Utf8 → List Stretch
 single_stretches mode begin close text =
     let contents = between begin close text in
@@ -210,8 +208,7 @@ abbrev pub look_parts : Look → Utf8 → List Part
 look_parts Escape text = Own EscapeClass text ∷ []
 look_parts (Wrong error) text = error_parts (InLiteral error) Text text
 
--- the parts of the rest of a literal from the offset `at` on: its stretches, and the plain text
--- around them
+-- Returns the parts of the rest of a literal, from the offset `at` on: its stretches, and the plain text around them.
 abbrev pub parts_from : ℕ → Utf8 → List Stretch → List Part
 parts_from at left [] = Own Text left ∷ []
 parts_from at left (s ∷ ss) =

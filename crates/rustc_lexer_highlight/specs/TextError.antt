@@ -1,6 +1,5 @@
--- The errors in the text of a token that its kind does not tell: those that rustc finds as it takes
--- the lexer's tokens, and that of its lints `text_direction_codepoint_in_comment` and
--- `text_direction_codepoint_in_literal`.
+-- The errors in the text of a token that its kind does not imply: errors that rustc finds when it converts the lexer's
+-- tokens, and its lints `text_direction_codepoint_in_comment` and `text_direction_codepoint_in_literal`.
 use Rattle.std.specs.Prelude.{ℕ, ◌==◌, Bool, false, ◌&&◌, ◌||◌, not, nat_eq, nat_le, nat_lt, if◌then◌else◌, List, []}
 use Rattle.std.specs.Prelude.{◌∷◌, codes, drop, get_or, length, Option, Some, None}
 use Rattle.std.specs.List.{between, list_any, prefix_len}
@@ -14,25 +13,27 @@ use Rattle.rustc_lexer.specs.declared.token.TokenKind.{TokenKind}
 use Rattle.rustc_lexer.specs.declared.token.TokenKind.TheVariants.{LineComment, BlockComment, Frontmatter, RawIdent}
 use Rattle.rustc_lexer.specs.declared.token.TokenKind.TheVariants.{RawLifetime, Literal}
 use Rattle.rustc_lexer_highlight.specs.declared.errors.TokenError.{TokenError}
-use Rattle.rustc_lexer_highlight.specs.declared.errors.TokenError.TheVariants.{InvalidDigit, FloatOfBase, RawKeyword, UnderscoreSuffix}
+use Rattle.rustc_lexer_highlight.specs.declared.errors.TokenError.TheVariants.{InvalidDigit, FloatOfBase, RawKeyword}
+use Rattle.rustc_lexer_highlight.specs.declared.errors.TokenError.TheVariants.{UnderscoreSuffix}
 use Rattle.rustc_lexer_highlight.specs.declared.errors.TokenError.TheVariants.{BareCarriageReturnInDocComment}
-use Rattle.rustc_lexer_highlight.specs.declared.errors.TokenError.TheVariants.{BareCarriageReturnInFrontmatter, TooManyDashes}
+use Rattle.rustc_lexer_highlight.specs.declared.errors.TokenError.TheVariants.{BareCarriageReturnInFrontmatter}
+use Rattle.rustc_lexer_highlight.specs.declared.errors.TokenError.TheVariants.{TooManyDashes}
 use Rattle.rustc_lexer_highlight.specs.declared.errors.TokenError.TheVariants.{TextDirectionCodepoint}
 use Rattle.rustc_lexer_highlight.specs.Frontmatter.{dashes, is_of}
 
--- whether a byte comes that is no newline
+-- Whether the text starts with a byte other than a newline.
 abbrev pub goes_on : List ℕ → Bool
 goes_on [] = false
 goes_on (b ∷ bs) = not (b == byte "\n")
 
--- whether a carriage return is bare: no newline follows it. One at the end of a token may have a
--- newline behind the token
+-- Whether the text contains a bare carriage return, which is followed by a byte other than a newline. A carriage return
+-- at the end of a token does not count, since a newline can follow the token.
 abbrev pub has_bare_return : List ℕ → Bool
 has_bare_return [] = false
 has_bare_return (b ∷ bs) = b == byte "\r" && goes_on bs || has_bare_return bs
 
--- the explicit formatting characters of the bidirectional algorithm (UAX #9): embeddings, overrides
--- and isolates, and what ends them
+-- Whether the character is an explicit formatting character of the Unicode bidirectional algorithm (UAX #9): an
+-- embedding, an override, an isolate, or a terminator of these.
 abbrev pub turns_direction : ℕ → Bool
 turns_direction c =
     nat_le 0x202a c && nat_le c 0x202e || nat_le 0x2066 c && nat_le c 0x2069
@@ -51,7 +52,7 @@ frontmatter_error text =
     else if nat_lt 255 (dashes text) then Some (TooManyDashes (dashes text))
     else None
 
--- the words that cannot be raw, as names and as lifetimes
+-- The raw identifiers and raw lifetimes that are not allowed.
 abbrev pub NEVER_RAW : List (List ℕ)
 NEVER_RAW =
     codes "r#self" ∷ codes "r#Self" ∷ codes "r#super" ∷ codes "r#crate" ∷ codes "r#_"
@@ -61,8 +62,7 @@ abbrev pub raw_name_error : List ℕ → Option TokenError
 raw_name_error text =
     if list_any (λ word. bytes_eq word text) NEVER_RAW then Some RawKeyword else None
 
--- digits between the prefix of a base and the suffix, of which the base has these; an underscore is
--- as good as a digit
+-- Returns the error of the digits of a number whose base allows only `these` bytes, underscores included.
 abbrev pub digit_error : List ℕ → List ℕ → Option TokenError
 digit_error these digits =
     if nat_eq (prefix_len (is_of these) digits) (length digits) then None else Some InvalidDigit
@@ -71,7 +71,8 @@ abbrev pub suffix_error : List ℕ → Option TokenError
 suffix_error suffix =
     if nat_eq (length suffix) 1 && get_or suffix 0 0 == byte "_" then Some UnderscoreSuffix else None
 
--- a literal whose suffix begins at an offset. Of bytes the escaper tells what is not in ASCII
+-- Returns the error in the text of a literal whose suffix starts at the offset `suffix_start`. Bytes and byte strings
+-- are not searched for bidirectional characters, since the escaper reports each non-ASCII character in them.
 abbrev pub literal_text_error : LiteralKind → ℕ → List ℕ → Option TokenError
 literal_text_error (Int Binary empty_int) suffix_start text =
     digit_error (codes "01_") (between 2 suffix_start text)
@@ -86,7 +87,7 @@ literal_text_error (RawByteStr n_hashes) suffix_start text = suffix_error (drop 
 literal_text_error kind suffix_start text =
     option_or (suffix_error (drop suffix_start text)) (direction_error text)
 
--- the error in the text of a token
+-- Returns the error in the text of a token.
 abbrev pub text_error : TokenKind → List ℕ → Option TokenError
 text_error (LineComment doc_style) text = comment_error doc_style text
 text_error (BlockComment doc_style terminated) text = comment_error doc_style text

@@ -1,4 +1,4 @@
--- The error of a token, and the sentence that describes it.
+-- The error of a malformed token, and its message.
 use Rattle.std.specs.Prelude.{ℕ, ◌-◌, ◌==◌, Bool, true, false, ◌&&◌, not, nat_eq, nat_lt, if◌then◌else◌, List, ◌++◌}
 use Rattle.std.specs.Prelude.{codes, decimal, drop, Option, Some, None, Result, Ok, Err}
 use Rattle.std.specs.Option.{option_or}
@@ -17,51 +17,68 @@ use Rattle.rustc_lexer.specs.declared.token.TokenKind.TheVariants.{Lifetime, Unk
 use Rattle.rustc_lexer.specs.Answers.{raw_check}
 use Rattle.rustc_lexer.specs.Classes.{next_is}
 use Rattle.rustc_lexer_highlight.specs.declared.errors.TokenError.{TokenError}
-use Rattle.rustc_lexer_highlight.specs.declared.errors.TokenError.TheVariants.{UnterminatedBlockComment, WhitespaceBeforeFrontmatter}
+use Rattle.rustc_lexer_highlight.specs.declared.errors.TokenError.TheVariants.{UnterminatedBlockComment}
+use Rattle.rustc_lexer_highlight.specs.declared.errors.TokenError.TheVariants.{WhitespaceBeforeFrontmatter}
 use Rattle.rustc_lexer_highlight.specs.declared.errors.TokenError.TheVariants.{InvalidInfostring, UnclosedFrontmatter}
-use Rattle.rustc_lexer_highlight.specs.declared.errors.TokenError.TheVariants.{WhitespaceBeforeFrontmatterClose, FrontmatterCloseMismatch}
-use Rattle.rustc_lexer_highlight.specs.declared.errors.TokenError.TheVariants.{ExtraAfterFrontmatterClose, InvalidName, UnknownPrefix}
-use Rattle.rustc_lexer_highlight.specs.declared.errors.TokenError.TheVariants.{UnknownLifetimePrefix, GuardedString, InvalidLifetime}
-use Rattle.rustc_lexer_highlight.specs.declared.errors.TokenError.TheVariants.{UnknownCharacter, EmptyNumber, EmptyExponent, UnterminatedChar}
-use Rattle.rustc_lexer_highlight.specs.declared.errors.TokenError.TheVariants.{UnterminatedByte, UnterminatedString, InvalidRawStarter}
-use Rattle.rustc_lexer_highlight.specs.declared.errors.TokenError.TheVariants.{UnterminatedRawString, TooFewHashes, TooManyHashes, InLiteral}
-use Rattle.rustc_lexer_highlight.specs.declared.errors.TokenError.TheVariants.{InvalidDigit, FloatOfBase, RawKeyword, UnderscoreSuffix}
+use Rattle.rustc_lexer_highlight.specs.declared.errors.TokenError.TheVariants.{WhitespaceBeforeFrontmatterClose}
+use Rattle.rustc_lexer_highlight.specs.declared.errors.TokenError.TheVariants.{FrontmatterCloseMismatch}
+use Rattle.rustc_lexer_highlight.specs.declared.errors.TokenError.TheVariants.{ExtraAfterFrontmatterClose, InvalidName}
+use Rattle.rustc_lexer_highlight.specs.declared.errors.TokenError.TheVariants.{UnknownPrefix}
+use Rattle.rustc_lexer_highlight.specs.declared.errors.TokenError.TheVariants.{UnknownLifetimePrefix, GuardedString}
+use Rattle.rustc_lexer_highlight.specs.declared.errors.TokenError.TheVariants.{InvalidLifetime}
+use Rattle.rustc_lexer_highlight.specs.declared.errors.TokenError.TheVariants.{UnknownCharacter, EmptyNumber}
+use Rattle.rustc_lexer_highlight.specs.declared.errors.TokenError.TheVariants.{EmptyExponent, UnterminatedChar}
+use Rattle.rustc_lexer_highlight.specs.declared.errors.TokenError.TheVariants.{UnterminatedByte, UnterminatedString}
+use Rattle.rustc_lexer_highlight.specs.declared.errors.TokenError.TheVariants.{InvalidRawStarter}
+use Rattle.rustc_lexer_highlight.specs.declared.errors.TokenError.TheVariants.{UnterminatedRawString, TooFewHashes}
+use Rattle.rustc_lexer_highlight.specs.declared.errors.TokenError.TheVariants.{TooManyHashes, InLiteral}
+use Rattle.rustc_lexer_highlight.specs.declared.errors.TokenError.TheVariants.{InvalidDigit, FloatOfBase, RawKeyword}
+use Rattle.rustc_lexer_highlight.specs.declared.errors.TokenError.TheVariants.{UnderscoreSuffix}
 use Rattle.rustc_lexer_highlight.specs.declared.errors.TokenError.TheVariants.{BareCarriageReturnInDocComment}
-use Rattle.rustc_lexer_highlight.specs.declared.errors.TokenError.TheVariants.{BareCarriageReturnInFrontmatter, TooManyDashes}
+use Rattle.rustc_lexer_highlight.specs.declared.errors.TokenError.TheVariants.{BareCarriageReturnInFrontmatter}
+use Rattle.rustc_lexer_highlight.specs.declared.errors.TokenError.TheVariants.{TooManyDashes}
 use Rattle.rustc_lexer_highlight.specs.declared.errors.TokenError.TheVariants.{TextDirectionCodepoint}
-use Rattle.rustc_lexer_highlight.specs.declared.errors.TheConstants.{UNTERMINATED_BLOCK_COMMENT, WHITESPACE_BEFORE_FRONTMATTER}
+use Rattle.rustc_lexer_highlight.specs.declared.errors.TheConstants.{UNTERMINATED_BLOCK_COMMENT}
+use Rattle.rustc_lexer_highlight.specs.declared.errors.TheConstants.{WHITESPACE_BEFORE_FRONTMATTER}
 use Rattle.rustc_lexer_highlight.specs.declared.errors.TheConstants.{INVALID_INFOSTRING, UNCLOSED_FRONTMATTER}
-use Rattle.rustc_lexer_highlight.specs.declared.errors.TheConstants.{WHITESPACE_BEFORE_FRONTMATTER_CLOSE, EXTRA_AFTER_FRONTMATTER_CLOSE}
-use Rattle.rustc_lexer_highlight.specs.declared.errors.TheConstants.{INVALID_NAME, UNKNOWN_PREFIX, UNKNOWN_LIFETIME_PREFIX}
-use Rattle.rustc_lexer_highlight.specs.declared.errors.TheConstants.{GUARDED_STRING, INVALID_LIFETIME, UNKNOWN_CHARACTER, EMPTY_NUMBER}
-use Rattle.rustc_lexer_highlight.specs.declared.errors.TheConstants.{EMPTY_EXPONENT, UNTERMINATED_CHAR, UNTERMINATED_BYTE}
-use Rattle.rustc_lexer_highlight.specs.declared.errors.TheConstants.{UNTERMINATED_STRING, INVALID_RAW_STARTER, OPEN_PLAIN_RAW_STRING}
-use Rattle.rustc_lexer_highlight.specs.declared.errors.TheConstants.{INVALID_DIGIT, FLOAT_OF_BASE, RAW_KEYWORD, UNDERSCORE_SUFFIX}
+use Rattle.rustc_lexer_highlight.specs.declared.errors.TheConstants.{WHITESPACE_BEFORE_FRONTMATTER_CLOSE}
+use Rattle.rustc_lexer_highlight.specs.declared.errors.TheConstants.{EXTRA_AFTER_FRONTMATTER_CLOSE}
+use Rattle.rustc_lexer_highlight.specs.declared.errors.TheConstants.{INVALID_NAME, UNKNOWN_PREFIX}
+use Rattle.rustc_lexer_highlight.specs.declared.errors.TheConstants.{UNKNOWN_LIFETIME_PREFIX}
+use Rattle.rustc_lexer_highlight.specs.declared.errors.TheConstants.{GUARDED_STRING, INVALID_LIFETIME}
+use Rattle.rustc_lexer_highlight.specs.declared.errors.TheConstants.{UNKNOWN_CHARACTER, EMPTY_NUMBER}
+use Rattle.rustc_lexer_highlight.specs.declared.errors.TheConstants.{EMPTY_EXPONENT, UNTERMINATED_CHAR}
+use Rattle.rustc_lexer_highlight.specs.declared.errors.TheConstants.{UNTERMINATED_BYTE}
+use Rattle.rustc_lexer_highlight.specs.declared.errors.TheConstants.{UNTERMINATED_STRING, INVALID_RAW_STARTER}
+use Rattle.rustc_lexer_highlight.specs.declared.errors.TheConstants.{OPEN_PLAIN_RAW_STRING}
+use Rattle.rustc_lexer_highlight.specs.declared.errors.TheConstants.{INVALID_DIGIT, FLOAT_OF_BASE, RAW_KEYWORD}
+use Rattle.rustc_lexer_highlight.specs.declared.errors.TheConstants.{UNDERSCORE_SUFFIX}
 use Rattle.rustc_lexer_highlight.specs.declared.errors.TheConstants.{BARE_CARRIAGE_RETURN_IN_DOC_COMMENT}
-use Rattle.rustc_lexer_highlight.specs.declared.errors.TheConstants.{BARE_CARRIAGE_RETURN_IN_FRONTMATTER, TEXT_DIRECTION_CODEPOINT}
+use Rattle.rustc_lexer_highlight.specs.declared.errors.TheConstants.{BARE_CARRIAGE_RETURN_IN_FRONTMATTER}
+use Rattle.rustc_lexer_highlight.specs.declared.errors.TheConstants.{TEXT_DIRECTION_CODEPOINT}
 use Rattle.rustc_lexer_highlight.specs.Frontmatter.{end_error, has_crlf}
 use Rattle.rustc_lexer_highlight.specs.TextError.{text_error}
-use Rattle.rustc_literal_escaper.specs.Numbers.{error_sentence}
+use Rattle.rustc_literal_escaper.specs.Numbers.{error_message}
 
--- the error for a reader, by the reason why a raw string is refused
-abbrev pub refusal : RawStrError → TokenError
-refusal (InvalidStarter bad_char) = InvalidRawStarter
-refusal (NoTerminator expected found None) = UnterminatedRawString expected
-refusal (NoTerminator expected found (Some end)) = TooFewHashes expected found end
-refusal (TooManyDelimiters found) = TooManyHashes found
+-- Returns the error of a raw string for the reason why it is invalid.
+abbrev pub raw_str_error : RawStrError → TokenError
+raw_str_error (InvalidStarter bad_char) = InvalidRawStarter
+raw_str_error (NoTerminator expected found None) = UnterminatedRawString expected
+raw_str_error (NoTerminator expected found (Some end)) = TooFewHashes expected found end
+raw_str_error (TooManyDelimiters found) = TooManyHashes found
 
-abbrev pub refused : Result (Unit {0}) RawStrError → Option TokenError
-refused (Ok done) = None
-refused (Err error) = Some (refusal error)
+abbrev pub raw_check_error : Result (Unit {0}) RawStrError → Option TokenError
+raw_check_error (Ok done) = None
+raw_check_error (Err error) = Some (raw_str_error error)
 
 abbrev pub is_r : ℕ → Bool
 is_r c = c == byte "r"
 
--- why a raw string is refused whose prefix has `prefix_len` characters
+-- Returns the error of a raw string whose prefix has `prefix_len` characters.
 abbrev pub raw_error : List ℕ → ℕ → Option TokenError
 raw_error text prefix_len =
     if nat_lt 0 prefix_len && next_is is_r (drop (prefix_len - 1) (chars text))
-    then refused (raw_check text prefix_len)
+    then raw_check_error (raw_check text prefix_len)
     else None
 
 abbrev pub literal_error : LiteralKind → List ℕ → Option TokenError
@@ -77,14 +94,15 @@ literal_error (RawByteStr None) text = raw_error text 2
 literal_error (RawCStr None) text = raw_error text 2
 literal_error kind text = None
 
--- the error of a frontmatter that no white space precedes: that of its end, or else of its first
--- line, on which more may stand than a label
+-- Returns the error of a frontmatter without leading whitespace. An error at its end comes before an invalid
+-- infostring.
 abbrev pub front_error : Bool → Option TokenError → Option TokenError
 front_error has_more (Some error) = Some error
 front_error true None = Some InvalidInfostring
 front_error false None = None
 
--- the error that the kind of a token tells
+-- Returns the error that the kind of a token implies. For frontmatters and raw strings, the text decides which error it
+-- is.
 abbrev pub kind_error : TokenKind → List ℕ → Option TokenError
 kind_error (BlockComment doc_style false) text = Some UnterminatedBlockComment
 kind_error (Frontmatter true invalid_infostring) text = Some WhitespaceBeforeFrontmatter
@@ -100,11 +118,11 @@ kind_error Unknown text = Some UnknownCharacter
 kind_error (Literal kind suffix_start) text = literal_error kind text
 kind_error kind text = None
 
--- the error of a token; if it has two, one of them: that of its kind comes before that of its text
+-- Returns the error of a token. An error that its kind implies comes before an error in its text.
 abbrev pub token_error : TokenKind → List ℕ → Option TokenError
 token_error kind text = option_or (kind_error kind text) (text_error kind text)
 
--- the number of an error, in the same way as that of a class
+-- Returns the number of an error in the C ABI. It never changes: a new error gets a new number.
 abbrev pub error_number : TokenError → ℕ
 error_number UnterminatedBlockComment = 1
 error_number WhitespaceBeforeFrontmatter = 2
@@ -138,46 +156,49 @@ error_number BareCarriageReturnInFrontmatter = 29
 error_number (TooManyDashes found) = 30
 error_number TextDirectionCodepoint = 31
 
-unfoldable pub sentence : TokenError → List ℕ
-sentence UnterminatedBlockComment = UNTERMINATED_BLOCK_COMMENT.now
-sentence WhitespaceBeforeFrontmatter = WHITESPACE_BEFORE_FRONTMATTER.now
-sentence InvalidInfostring = INVALID_INFOSTRING.now
-sentence UnclosedFrontmatter = UNCLOSED_FRONTMATTER.now
-sentence WhitespaceBeforeFrontmatterClose = WHITESPACE_BEFORE_FRONTMATTER_CLOSE.now
-sentence ExtraAfterFrontmatterClose = EXTRA_AFTER_FRONTMATTER_CLOSE.now
-sentence InvalidName = INVALID_NAME.now
-sentence UnknownPrefix = UNKNOWN_PREFIX.now
-sentence UnknownLifetimePrefix = UNKNOWN_LIFETIME_PREFIX.now
-sentence GuardedString = GUARDED_STRING.now
-sentence InvalidLifetime = INVALID_LIFETIME.now
-sentence UnknownCharacter = UNKNOWN_CHARACTER.now
-sentence EmptyNumber = EMPTY_NUMBER.now
-sentence EmptyExponent = EMPTY_EXPONENT.now
-sentence UnterminatedChar = UNTERMINATED_CHAR.now
-sentence UnterminatedByte = UNTERMINATED_BYTE.now
-sentence UnterminatedString = UNTERMINATED_STRING.now
-sentence InvalidRawStarter = INVALID_RAW_STARTER.now
-sentence InvalidDigit = INVALID_DIGIT.now
-sentence FloatOfBase = FLOAT_OF_BASE.now
-sentence RawKeyword = RAW_KEYWORD.now
-sentence UnderscoreSuffix = UNDERSCORE_SUFFIX.now
-sentence BareCarriageReturnInDocComment = BARE_CARRIAGE_RETURN_IN_DOC_COMMENT.now
-sentence BareCarriageReturnInFrontmatter = BARE_CARRIAGE_RETURN_IN_FRONTMATTER.now
-sentence TextDirectionCodepoint = TEXT_DIRECTION_CODEPOINT.now
-sentence (FrontmatterCloseMismatch opening closing) =
-    codes "this frontmatter opens with "
-    ++ (decimal opening ++ (codes " dashes and closes with " ++ decimal closing))
-sentence (UnterminatedRawString expected) =
+-- Returns the message of an error.
+unfoldable pub message : TokenError → List ℕ
+message UnterminatedBlockComment = UNTERMINATED_BLOCK_COMMENT.now
+message WhitespaceBeforeFrontmatter = WHITESPACE_BEFORE_FRONTMATTER.now
+message InvalidInfostring = INVALID_INFOSTRING.now
+message UnclosedFrontmatter = UNCLOSED_FRONTMATTER.now
+message WhitespaceBeforeFrontmatterClose = WHITESPACE_BEFORE_FRONTMATTER_CLOSE.now
+message ExtraAfterFrontmatterClose = EXTRA_AFTER_FRONTMATTER_CLOSE.now
+message InvalidName = INVALID_NAME.now
+message UnknownPrefix = UNKNOWN_PREFIX.now
+message UnknownLifetimePrefix = UNKNOWN_LIFETIME_PREFIX.now
+message GuardedString = GUARDED_STRING.now
+message InvalidLifetime = INVALID_LIFETIME.now
+message UnknownCharacter = UNKNOWN_CHARACTER.now
+message EmptyNumber = EMPTY_NUMBER.now
+message EmptyExponent = EMPTY_EXPONENT.now
+message UnterminatedChar = UNTERMINATED_CHAR.now
+message UnterminatedByte = UNTERMINATED_BYTE.now
+message UnterminatedString = UNTERMINATED_STRING.now
+message InvalidRawStarter = INVALID_RAW_STARTER.now
+message InvalidDigit = INVALID_DIGIT.now
+message FloatOfBase = FLOAT_OF_BASE.now
+message RawKeyword = RAW_KEYWORD.now
+message UnderscoreSuffix = UNDERSCORE_SUFFIX.now
+message BareCarriageReturnInDocComment = BARE_CARRIAGE_RETURN_IN_DOC_COMMENT.now
+message BareCarriageReturnInFrontmatter = BARE_CARRIAGE_RETURN_IN_FRONTMATTER.now
+message TextDirectionCodepoint = TEXT_DIRECTION_CODEPOINT.now
+message (FrontmatterCloseMismatch opening closing) =
+    codes "frontmatter opens with "
+    ++ (decimal opening ++ (codes " dashes but closes with " ++ decimal closing))
+message (UnterminatedRawString expected) =
     if nat_eq expected 0 then OPEN_PLAIN_RAW_STRING.now
-    else codes "nothing closes this raw string: a quote and "
-    ++ (decimal expected ++ codes " # would")
-sentence (TooFewHashes expected found end) =
-    codes "a quote and "
+    else codes "unterminated raw string: expected a closing quote and "
+    ++ (decimal expected ++ codes " `#`")
+message (TooFewHashes expected found end) =
+    codes "unterminated raw string: expected "
     ++ (decimal expected
-    ++ (codes " # would close this raw string; at byte "
-    ++ (decimal end ++ (codes " it has " ++ decimal found))))
-sentence (TooManyHashes found) =
-    codes "a raw string has at most 255 hashes on each side, and this one " ++ decimal found
-sentence (TooManyDashes found) =
-    codes "a frontmatter has at most 255 dashes on each side, and this one " ++ decimal found
-sentence (InLiteral error) = error_sentence error
+    ++ (codes " `#` after the closing quote, found "
+    ++ (decimal found ++ (codes " at byte " ++ decimal end))))
+message (TooManyHashes found) =
+    codes "raw string with "
+    ++ (decimal found ++ codes " `#` on each side: at most 255 are allowed")
+message (TooManyDashes found) =
+    codes "frontmatter fence with "
+    ++ (decimal found ++ codes " dashes: at most 255 are allowed")
+message (InLiteral error) = error_message error

@@ -1,4 +1,4 @@
-//! Classes of tokens. The class of a token decides its colour.
+//! Classes of tokens, such as comments and keywords. They decide the colours.
 ghost use Rattle.std.specs.Prelude.{◌≡◌};
 ghost use Rattle.rustc_lexer_highlight.specs.Class.{class_number, class_of, is_type_name, word_class};
 
@@ -7,24 +7,24 @@ use rustc_lexer::{Edition, LiteralKind, TokenKind};
 
 /// The class of a token: what it is to a reader.
 ///
-/// [`class_of`] never returns `Escape`, which is of a part of a literal.
+/// [`class_of`] never returns `Escape`, the class of an escape inside a literal.
 #[derive(Clone, Copy, Debug, PartialEq, Eq)]
 #[non_exhaustive]
 pub enum Class {
-    /// White space, a symbol, or a name that is in no other class.
+    /// Whitespace, a symbol, or a name in no other class.
     Plain,
     /// A comment that is not a doc comment.
     Comment,
     /// A doc comment, or a frontmatter.
     Doc,
-    /// A strict keyword of the edition, like `while`. Reserved words, like `try`, and weak keywords, like `union`, are
-    /// names.
+    /// A strict keyword of the edition, such as `while`. A reserved word such as `try` and a weak keyword such as
+    /// `union` are names.
     Keyword,
-    /// A name that begins with a capital letter of ASCII.
+    /// A name that starts with an ASCII uppercase letter.
     TypeName,
-    /// A string, a character or a byte.
+    /// A string, character or byte literal.
     Text,
-    /// An escape in one of these.
+    /// An escape in such a literal.
     Escape,
     /// A number.
     Number,
@@ -33,7 +33,7 @@ pub enum Class {
 }
 
 impl Class {
-    /// Returns the number of the class, from 1 on, for other languages. It never changes.
+    /// Returns the number of the class in the C ABI, from 1 on. It never changes.
     pub fn number(self) -> u8
         ensures { result ≡ class_number self }
     {
@@ -41,8 +41,11 @@ impl Class {
     }
 }
 
-/// Returns the class of a token in an edition, by its kind and its text: what it is to a reader, as `highlight` shows it
-/// by a colour.
+/// Returns the class of a token in an edition, by its kind and its text.
+///
+/// The class is what the token is to a reader. `highlight` displays it as a colour.
+///
+/// # Examples
 ///
 /// ```
 /// use rustc_lexer_highlight::{Class, Edition, class_of};
@@ -89,7 +92,7 @@ fn word_class(word: &str, edition: Edition) -> Class
     }
 }
 
-/// Returns whether a name begins with a capital letter of ASCII, like the names of types.
+/// Returns whether a name starts with an ASCII uppercase letter, like the names of types.
 fn is_type_name(word: &str) -> bool
     ensures { result ≡ is_type_name word.now }
 {

@@ -1,9 +1,10 @@
-//! Errors of tokens.
+//! Errors of malformed tokens, with their messages.
 ghost use Rattle.std.specs.Prelude.{◌≡◌, ◌&&◌, not, Some};
 ghost use Rattle.std.specs.Option.{option_or};
 ghost use Rattle.std.specs.Str.{chars};
 ghost use Rattle.rustc_lexer.specs.Classes.{Fits};
-ghost use Rattle.rustc_lexer_highlight.specs.TokenError.{error_number, token_error, front_error, literal_error, raw_error, sentence};
+ghost use Rattle.rustc_lexer_highlight.specs.TokenError.{error_number, token_error, front_error, literal_error};
+ghost use Rattle.rustc_lexer_highlight.specs.TokenError.{raw_error, message};
 ghost use Rattle.rustc_lexer_highlight.specs.Frontmatter.{end_error, has_crlf};
 ghost use Rattle.rustc_lexer_highlight.specs.FrontmatterEnd.{TellsFrontmatter};
 ghost use Rattle.rustc_lexer_highlight.specs.TextError.{frontmatter_error, literal_text_error};
@@ -17,11 +18,11 @@ use rustc_literal_escaper::EscapeError;
 use std::error::Error;
 use std::fmt;
 
-/// An error of a token. `Display` writes a message.
+/// An error in a token. Its `Display` writes a message.
 ///
-/// [`token_error`](crate::token_error) never returns `InLiteral`, since a literal can have many such errors.
-/// [`literal_contents`](crate::literal_contents) returns the text that has them, and
-/// [`EscapeErrorsInFile`](crate::EscapeErrorsInFile) iterates over them.
+/// [`token_error`](crate::token_error) never returns `InLiteral`, since a literal can contain many such errors. To find
+/// them, pass the text from [`literal_contents`](crate::literal_contents) to
+/// [`EscapeErrorsInFile`](crate::EscapeErrorsInFile).
 #[derive(Clone, Copy, Debug, PartialEq, Eq)]
 #[non_exhaustive]
 pub enum TokenError {
@@ -29,28 +30,28 @@ pub enum TokenError {
     UnterminatedBlockComment,
     /// Whitespace precedes the opening fence of a frontmatter.
     WhitespaceBeforeFrontmatter,
-    /// The first line of a frontmatter has more after the fence than an infostring.
+    /// The text after the opening fence of a frontmatter is not a valid infostring.
     InvalidInfostring,
     /// A frontmatter is unclosed.
     UnclosedFrontmatter,
     /// Whitespace precedes the closing fence of a frontmatter.
     WhitespaceBeforeFrontmatterClose,
-    /// The opening and the closing fence of a frontmatter have these different numbers of dashes.
+    /// The opening and the closing fence of a frontmatter have different numbers of dashes.
     FrontmatterCloseMismatch { opening: u32, closing: u32 },
-    /// The closing fence of a frontmatter is followed by other text on its line.
+    /// Other text follows the closing fence of a frontmatter on its line.
     ExtraAfterFrontmatterClose,
     /// An identifier contains an emoji.
     InvalidName,
-    /// An identifier directly before a quote or a hash is not a known prefix. This includes `k` in `k#a`.
+    /// An identifier directly before a quote or `#` is not a known prefix. This includes `k` in `k#a`.
     UnknownPrefix,
-    /// A lifetime directly before a hash is not a known prefix.
+    /// A lifetime directly before `#` is not a known prefix.
     UnknownLifetimePrefix,
-    /// `#"` and `##` are reserved.
+    /// The text starts with `#"` or `##`, which are reserved for guarded strings.
     GuardedString,
     /// The name of a lifetime starts with an ASCII digit or an emoji, or contains an emoji that cannot continue an
     /// identifier.
     InvalidLifetime,
-    /// No token starts with the character.
+    /// No token starts with this character.
     UnknownCharacter,
     /// A number has no digits after the prefix of its base.
     EmptyNumber,
@@ -60,23 +61,23 @@ pub enum TokenError {
     UnterminatedChar,
     /// A byte literal is unterminated.
     UnterminatedByte,
-    /// A string is unterminated.
+    /// A string, byte string or C string is unterminated.
     UnterminatedString,
-    /// The prefix of a raw string is followed by neither a hash nor a quote.
+    /// A raw string has no opening quote.
     InvalidRawStarter,
-    /// A raw string is unterminated, and no quote in it is followed by a hash.
+    /// A raw string is unterminated, and no quote in it is followed by `#`.
     UnterminatedRawString { expected: u32 },
-    /// A raw string is unterminated. Too few hashes follow the quote that ends at byte `end` of it.
+    /// A raw string is unterminated: too few `#` follow the quote that ends at byte `end` of it.
     TooFewHashes { expected: u32, found: u32, end: u32 },
-    /// A raw string has more than 255 hashes on each side.
+    /// A raw string has more than 255 `#` on each side.
     TooManyHashes { found: u32 },
     /// The contents of a literal have an error or a warning.
     InLiteral(EscapeError),
-    /// A number of base 2 or 8 has a digit that is invalid in its base.
+    /// A binary or octal number contains a digit that is invalid in its base.
     InvalidDigit,
-    /// A number with a prefix for its base has a decimal point or an exponent.
+    /// A number that is not decimal has a decimal point or an exponent.
     FloatOfBase,
-    /// The word after `r#` or `'r#` is `self`, `Self`, `super`, `crate` or `_`.
+    /// A raw identifier or a raw lifetime has the name `self`, `Self`, `super`, `crate` or `_`.
     RawKeyword,
     /// The suffix of a literal is `_`.
     UnderscoreSuffix,
@@ -84,9 +85,9 @@ pub enum TokenError {
     BareCarriageReturnInDocComment,
     /// A frontmatter contains a bare carriage return.
     BareCarriageReturnInFrontmatter,
-    /// The fences of a frontmatter have more than 255 dashes.
+    /// The fences of a frontmatter have more than 255 dashes each.
     TooManyDashes { found: u32 },
-    /// A comment or a literal contains a character that changes the text direction.
+    /// A comment or a literal contains a bidirectional control character, which changes the direction of text.
     TextDirectionCodepoint,
 }
 
@@ -131,8 +132,8 @@ impl TokenError {
     }
 }
 
-/// Returns the error of a token with this kind and text, or one of its errors if it has two. CR LF counts as a newline,
-/// and so does a carriage return at the end of a doc comment or a frontmatter.
+/// Returns the error of a token with this kind and text, or one of its errors if it has two. A CRLF counts as a
+/// newline, and so does a carriage return at the end of a doc comment or a frontmatter.
 ///
 /// This function does not know the edition. It returns `UnknownPrefix` for `k#a`, which is an identifier, `#` and an
 /// identifier in editions before 2021.
@@ -174,8 +175,8 @@ pub fn token_error(kind: TokenKind, text: &str) -> Option<TokenError>
     }
 }
 
-/// Returns the error of a frontmatter that no whitespace precedes, or `None` if it has none. The error of its last line
-/// comes first, then that of its infostring, then that of its text.
+/// Returns the error of a frontmatter without leading whitespace, or `None` if it has none. An error at its end comes
+/// first, then an invalid infostring, then an error in its text.
 #[inline(never)]
 fn frontmatter_error(invalid_infostring: bool, text: &str) -> Option<TokenError>
     requires fits { Fits text.now }
@@ -189,7 +190,8 @@ fn frontmatter_error(invalid_infostring: bool, text: &str) -> Option<TokenError>
     }
 }
 
-/// Returns the error of a literal, or `None` if it has none: that of its kind, or else that of its text.
+/// Returns the error of a literal, or `None` if it has none. An error that its kind implies comes before an error in
+/// its text.
 #[inline(never)]
 fn literal_error(kind: LiteralKind, suffix_start: usize, text: &str) -> Option<TokenError>
     requires fits { Fits text.now }
@@ -202,7 +204,7 @@ fn literal_error(kind: LiteralKind, suffix_start: usize, text: &str) -> Option<T
     }
 }
 
-/// Returns the error that the kind of a literal shows, or `None` if it shows none.
+/// Returns the error that the kind of a literal implies, or `None` if it implies none.
 fn literal_kind_error(kind: LiteralKind, text: &str) -> Option<TokenError>
     requires fits { Fits text.now }
     ensures { result ≡ literal_error kind text.now }
@@ -258,69 +260,68 @@ fn raw_error(text: &str, prefix_len: u32) -> Option<TokenError>
     }
 }
 
-const UNTERMINATED_BLOCK_COMMENT: &str = "nothing closes this comment";
+const UNTERMINATED_BLOCK_COMMENT: &str = "unterminated block comment";
 
-const WHITESPACE_BEFORE_FRONTMATTER: &str =
-    "white space comes before this frontmatter, which begins its line";
+const WHITESPACE_BEFORE_FRONTMATTER: &str = "whitespace before the opening fence of a frontmatter";
 
-const INVALID_INFOSTRING: &str = "the first line of this frontmatter holds more than a name";
+const INVALID_INFOSTRING: &str =
+    "invalid infostring: expected at most one name after the opening fence";
 
-const UNCLOSED_FRONTMATTER: &str =
-    "nothing closes this frontmatter: a line of as many dashes would";
+const UNCLOSED_FRONTMATTER: &str = "unclosed frontmatter: missing closing fence";
 
 const WHITESPACE_BEFORE_FRONTMATTER_CLOSE: &str =
-    "white space comes before the dashes that close this frontmatter";
+    "whitespace before the closing fence of a frontmatter";
 
 const EXTRA_AFTER_FRONTMATTER_CLOSE: &str =
-    "the last line of this frontmatter holds more than dashes";
+    "unexpected text after the closing fence of a frontmatter";
 
-const INVALID_NAME: &str = "this name holds an emoji";
+const INVALID_NAME: &str = "invalid identifier: contains an emoji";
 
-const UNKNOWN_PREFIX: &str = "no literal has this prefix";
+const UNKNOWN_PREFIX: &str = "unknown prefix before a quote or `#`";
 
-const UNKNOWN_LIFETIME_PREFIX: &str = "no lifetime has this prefix";
+const UNKNOWN_LIFETIME_PREFIX: &str = "unknown lifetime prefix before `#`";
 
-const GUARDED_STRING: &str = "these marks are reserved for strings to come";
+const GUARDED_STRING: &str = "reserved syntax: guarded string";
 
-const INVALID_LIFETIME: &str = "this lifetime begins with a digit or holds an emoji";
+const INVALID_LIFETIME: &str = "invalid lifetime: starts with a digit or contains an emoji";
 
-const UNKNOWN_CHARACTER: &str = "no token begins with this character";
+const UNKNOWN_CHARACTER: &str = "unexpected character: no token starts with it";
 
-const EMPTY_NUMBER: &str = "this number has no digits";
+const EMPTY_NUMBER: &str = "number has no digits";
 
-const EMPTY_EXPONENT: &str = "the exponent has no digits";
+const EMPTY_EXPONENT: &str = "exponent has no digits";
 
-const UNTERMINATED_CHAR: &str = "nothing closes this character";
+const UNTERMINATED_CHAR: &str = "unterminated character literal: missing closing quote";
 
-const UNTERMINATED_BYTE: &str = "nothing closes this byte";
+const UNTERMINATED_BYTE: &str = "unterminated byte literal: missing closing quote";
 
-const UNTERMINATED_STRING: &str = "nothing closes this string";
+const UNTERMINATED_STRING: &str = "unterminated string: missing closing quote";
 
-const INVALID_RAW_STARTER: &str = "no quote follows: a raw string begins with hashes and a quote";
+const INVALID_RAW_STARTER: &str = "invalid raw string: missing opening quote";
 
-const OPEN_PLAIN_RAW_STRING: &str = "nothing closes this raw string: a quote would";
+const OPEN_PLAIN_RAW_STRING: &str = "unterminated raw string: missing closing quote";
 
-const INVALID_DIGIT: &str = "this number has a digit that its base does not have";
+const INVALID_DIGIT: &str = "invalid digit in a binary or octal number";
 
-const FLOAT_OF_BASE: &str = "only a decimal number has a point or an exponent";
+const FLOAT_OF_BASE: &str = "invalid float: only a decimal number can have a point or an exponent";
 
-const RAW_KEYWORD: &str = "this word cannot be a raw name";
+const RAW_KEYWORD: &str = "invalid raw identifier or lifetime: this name cannot be raw";
 
-const UNDERSCORE_SUFFIX: &str = "an underscore alone is no suffix";
+const UNDERSCORE_SUFFIX: &str = "invalid literal suffix `_`";
 
 const BARE_CARRIAGE_RETURN_IN_DOC_COMMENT: &str =
-    "a doc comment cannot hold a carriage return that no newline follows";
+    "bare CR in a doc comment: a CR must be part of a CRLF";
 
 const BARE_CARRIAGE_RETURN_IN_FRONTMATTER: &str =
-    "a frontmatter cannot hold a carriage return that no newline follows";
+    "bare CR in a frontmatter: a CR must be part of a CRLF";
 
 const TEXT_DIRECTION_CODEPOINT: &str =
-    "a character here turns the direction of text, so that code looks other than it is";
+    "bidirectional control character: code may be displayed in a different order";
 
 impl fmt::Display for TokenError {
-    ghost output = { λ error. Some (sentence error) };
+    ghost output = { λ error. Some (message error) };
 
-    #[tactic(auto, unfolding(crate::specs::TokenError::sentence))]
+    #[tactic(auto, unfolding(crate::specs::TokenError::message))]
     fn fmt<W: fmt::Write>(&self, f: &mut fmt::Formatter<W>) -> fmt::Result {
         match self {
             TokenError::UnterminatedBlockComment => f.write_str(UNTERMINATED_BLOCK_COMMENT),
@@ -360,7 +361,7 @@ impl fmt::Display for TokenError {
             }
             TokenError::UnterminatedRawString { expected } => write!(
                 f,
-                "nothing closes this raw string: a quote and {expected} # would"
+                "unterminated raw string: expected a closing quote and {expected} `#`"
             ),
             TokenError::TooFewHashes {
                 expected,
@@ -368,19 +369,19 @@ impl fmt::Display for TokenError {
                 end,
             } => write!(
                 f,
-                "a quote and {expected} # would close this raw string; at byte {end} it has {found}"
+                "unterminated raw string: expected {expected} `#` after the closing quote, found {found} at byte {end}"
             ),
             TokenError::FrontmatterCloseMismatch { opening, closing } => write!(
                 f,
-                "this frontmatter opens with {opening} dashes and closes with {closing}"
+                "frontmatter opens with {opening} dashes but closes with {closing}"
             ),
             TokenError::TooManyHashes { found } => write!(
                 f,
-                "a raw string has at most 255 hashes on each side, and this one {found}"
+                "raw string with {found} `#` on each side: at most 255 are allowed"
             ),
             TokenError::TooManyDashes { found } => write!(
                 f,
-                "a frontmatter has at most 255 dashes on each side, and this one {found}"
+                "frontmatter fence with {found} dashes: at most 255 are allowed"
             ),
         }
     }

@@ -1,4 +1,4 @@
-//! Writes a text for a page, with entities for the bytes that a page would not show.
+//! Escapes text for HTML.
 ghost use Rattle.std.specs.Prelude.{◌≡◌, OnOk};
 ghost use Rattle.std.specs.Fmt.{WritesInCalls};
 ghost use Rattle.memchr.specs.Find.{IsFirstByte};
@@ -6,8 +6,8 @@ ghost use Rattle.rustc_lexer_highlight.specs.Escape.{entity, escaped, is_special
 
 use std::fmt;
 
-/// Writes a text with entities for `&`, `<` and `>`; for a carriage return, which a page would read as the end of a
-/// line, and for U+0000, which it would drop.
+/// Writes a text with entities for `&`, `<` and `>`, for carriage returns, which HTML would read as line endings, and
+/// for U+0000, which it would drop.
 #[tactic(auto, using(crate::proofs::EscapeLemmas::unescaped_escaped, crate::proofs::EscapeLemmas::may_cut_past, crate::proofs::EscapeLemmas::writes_plain, crate::proofs::CallLemmas::on_ok, std::proofs::lemmas::Grind::common_steps))]
 pub fn write_escaped<W: fmt::Write>(text: &str, output: &mut W) -> fmt::Result
     ensures written { OnOk result
@@ -23,7 +23,7 @@ pub fn write_escaped<W: fmt::Write>(text: &str, output: &mut W) -> fmt::Result
     output.write_str(rest)
 }
 
-/// Returns the offset of the first byte that has an entity.
+/// Returns the offset of the first byte that has an entity, or `None` if there is none.
 fn first_special(text: &[u8]) -> Option<usize>
     ensures { IsFirstByte is_special text.now result }
 {
@@ -37,7 +37,7 @@ fn is_special(byte: u8) -> bool
     matches!(byte, b'&' | b'<' | b'>' | b'\r' | 0)
 }
 
-/// Returns the entity for `&`, `<`, `>` or a carriage return, or else for U+0000.
+/// Returns the entity of `&`, `<`, `>` or a carriage return, and the entity of U+0000 for any other byte.
 fn entity(byte: u8) -> &'static str
     ensures { result.now ≡ entity byte }
 {

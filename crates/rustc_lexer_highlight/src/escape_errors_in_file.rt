@@ -1,4 +1,4 @@
-//! What is wrong in a literal of a file.
+//! Errors and warnings in a literal of a file, which can have CRLF line endings.
 ghost use Rattle.std.specs.Prelude.{◌≡◌, length, true};
 ghost use Rattle.std.specs.Iterator.{at_most};
 ghost use Rattle.std.specs.Str.{chars};
@@ -14,10 +14,12 @@ use std::iter::Iterator;
 use std::marker::Model;
 use std::ops::Range;
 
-/// An iterator over the errors and warnings of a literal in a file, each with its place in bytes.
+/// An iterator over the errors and warnings in a literal of a file, with their byte ranges.
 ///
-/// rustc reads a carriage return and a newline as a newline, so that carriage return is no error, as it is for
-/// [`check_for_errors`](rustc_literal_escaper::check_for_errors). Every other one is.
+/// A CRLF counts as a newline here, like in rustc. For [`check_for_errors`](rustc_literal_escaper::check_for_errors),
+/// its carriage return is an error.
+///
+/// # Examples
 ///
 /// ```
 /// use rustc_lexer_highlight::EscapeErrorsInFile;
@@ -29,9 +31,9 @@ use std::ops::Range;
 /// ```
 #[derive(Drop)]
 pub struct EscapeErrorsInFile<'a> {
-    /// Those of a literal without a carriage return.
+    /// The errors of contents without a carriage return.
     errors: EscapeErrors<'a>,
-    /// The error between single quotes, until it is returned.
+    /// The error between single quotes, until it has been returned.
     alone: Option<(Range<usize>, EscapeError)>,
     elements: FileElements<'a>,
     mode: Mode,
@@ -49,8 +51,9 @@ impl<'a> Model for EscapeErrorsInFile<'a> {
 }
 
 impl<'a> EscapeErrorsInFile<'a> {
-    /// Returns an iterator over the errors and warnings of a literal of this kind. `contents` is the text between the
-    /// quotes.
+    /// Returns an iterator over the errors and warnings of a literal.
+    ///
+    /// `contents` is the text between the quotes.
     #[tactic(auto, using(crate::proofs::FileErrorLemmas::error_lemmas, std::proofs::lemmas::Grind::common_steps))]
     pub fn new(contents: &'a str, mode: Mode) -> EscapeErrorsInFile<'a>
         ensures { result ≡ escape_errors_in_file mode contents.now }
@@ -79,7 +82,8 @@ impl<'a> Iterator for EscapeErrorsInFile<'a> {
 
     ghost remaining = { λ s. at_most (length s) };
 
-    /// Returns the next error or warning. Past the last one it returns `None`, and does so from then on.
+    /// Returns the next error or warning, or `None` if there are no more. After it has returned `None`, it always
+    /// returns `None`.
     fn next(&mut self) -> Option<(Range<usize>, EscapeError)> {
         if let Some(found) = self.errors.next() {
             return Some(found);
@@ -91,7 +95,7 @@ impl<'a> Iterator for EscapeErrorsInFile<'a> {
     }
 }
 
-/// Returns the error between single quotes and its place, or `None` if there is no error.
+/// Returns the error between single quotes with its byte range, or `None` if there is no error.
 #[tactic(auto, using(crate::proofs::FileErrorLemmas::single_moved))]
 pub fn single_error(contents: &str, mode: Mode) -> Option<(Range<usize>, EscapeError)>
     ensures { result ≡ single_left contents.now mode (unix (chars contents.now)) }
@@ -99,7 +103,7 @@ pub fn single_error(contents: &str, mode: Mode) -> Option<(Range<usize>, EscapeE
     rustc_literal_escaper::single_error(&mut FileChars::new(contents), mode)
 }
 
-/// Returns whether a literal of this kind has no escapes.
+/// Returns whether a literal of this mode is raw, so that it has no escapes.
 pub fn is_raw(mode: Mode) -> bool
     ensures { result ≡ meaning.is_raw mode }
 {

@@ -1,28 +1,28 @@
-//! The marks around a token: tags of a page, or escape sequences of a terminal.
+//! The markup around tokens: HTML tags, or escape sequences of a terminal.
 #![tactic(auto, using(crate::proofs::CallLemmas::tried_call))]
 
 ghost use Rattle.std.specs.Prelude.{◌≡◌, OnOk};
 ghost use Rattle.std.specs.Fmt.{WritesInCalls};
-ghost use Rattle.rustc_lexer_highlight.specs.Mark.{class_close, class_open, error_close, error_open};
+ghost use Rattle.rustc_lexer_highlight.specs.Markup.{class_close, class_open, error_close, error_open};
 
 use crate::class::Class;
 use crate::errors::TokenError;
 use std::fmt;
 
-/// The format of the marks.
+/// The output format.
 #[derive(Clone, Copy, Debug, PartialEq, Eq)]
 pub enum Format {
-    /// Tags of a page.
+    /// HTML tags.
     Html,
-    /// Escape sequences for the colours of a terminal.
+    /// Escape sequences for terminal colours.
     Colours,
-    /// The sentences of errors alone.
+    /// No markup, only error messages.
     NoColours,
-    /// The same, with control characters as they are. A terminal obeys these.
+    /// Like `NoColours`, but control characters are written as they are. A terminal obeys them.
     Raw,
 }
 
-/// Returns the mark before a token of a class.
+/// Returns the opening markup of a class.
 pub fn class_open(format: Format, class: Class) -> &'static str
     ensures { result.now ≡ class_open format class }
 {
@@ -53,7 +53,7 @@ pub fn class_open(format: Format, class: Class) -> &'static str
     }
 }
 
-/// Returns the mark after a token of a class.
+/// Returns the closing markup of a class.
 pub fn class_close(format: Format, class: Class) -> &'static str
     ensures { result.now ≡ class_close format class }
 {
@@ -64,7 +64,7 @@ pub fn class_close(format: Format, class: Class) -> &'static str
     }
 }
 
-/// Writes the mark before the first line of a token with an error. In a page it is a tag with the sentence.
+/// Writes the opening markup of an error. In HTML it contains the message.
 pub fn open_error<W: fmt::Write>(format: Format, error: TokenError, output: &mut W) -> fmt::Result
     ensures { OnOk result
         (WritesInCalls W.write_str_gives output.old (error_open format error) output.new) }
@@ -76,7 +76,7 @@ pub fn open_error<W: fmt::Write>(format: Format, error: TokenError, output: &mut
     }
 }
 
-/// Writes the mark after the first line of a token with an error. In a terminal it has the sentence.
+/// Writes the closing markup of an error. In all formats but HTML it contains the message.
 pub fn close_error<W: fmt::Write>(format: Format, error: TokenError, output: &mut W) -> fmt::Result
     ensures { OnOk result
         (WritesInCalls W.write_str_gives output.old (error_close format error) output.new) }

@@ -1,4 +1,4 @@
-//! How the first line of a frontmatter ends, and how its last line does. Its line ends may be CR LF.
+//! The first and the last line of a frontmatter. Line endings can be CRLF.
 ghost use Rattle.std.specs.Prelude.{◌≡◌, ◌≤◌, ◌<◌, ◌^◌, ℕ, Bool, codes, length};
 ghost use Rattle.std.specs.List.{prefix_len};
 ghost use Rattle.std.specs.Str.{chars};
@@ -10,8 +10,8 @@ use crate::screen::split_first;
 use memchr::memrchr;
 use rustc_lexer::{is_id_continue, is_id_start};
 
-/// Returns what is wrong with the end of a frontmatter that begins with its dashes. Returns `None` if a line of as many
-/// dashes closes it.
+/// Returns the error at the end of a frontmatter that starts with its dashes, or `None` if a line with as many dashes
+/// closes it.
 #[tactic(auto, using(crate::proofs::FrontmatterLemmas::ends_found, crate::proofs::FrontmatterLemmas::ends_none, std::proofs::lemmas::Grind::common_steps))]
 pub fn end_error(text: &str) -> Option<TokenError>
     requires fits { Fits text.now }
@@ -24,7 +24,8 @@ pub fn end_error(text: &str) -> Option<TokenError>
     closing_error(run_of(b"-", bytes), &bytes[newline + 1..])
 }
 
-/// Returns what is wrong with a line that should close a frontmatter with so many dashes, or `None` if nothing is.
+/// Returns the error of a line that should close a frontmatter whose opening fence has `opening` dashes, or `None` if
+/// it is valid.
 #[tactic(auto, using(std::proofs::lemmas::Grind::common_steps))]
 fn closing_error(opening: usize, line: &[u8]) -> Option<TokenError>
     requires opening { opening < 2 ^ 32 }
@@ -51,7 +52,7 @@ fn closing_error(opening: usize, line: &[u8]) -> Option<TokenError>
     }
 }
 
-/// Returns whether nothing is left of a line but perhaps the carriage return of its end.
+/// Returns whether the rest of a line is empty, or is the carriage return of a CRLF.
 #[tactic(auto, unfolding(crate::specs::Frontmatter::is_end))]
 fn is_end(rest: &[u8]) -> bool
     ensures { result ≡ spec.is_end rest.now }
@@ -59,7 +60,7 @@ fn is_end(rest: &[u8]) -> bool
     rest.is_empty() || rest.len() == 1 && rest[0] == b'\r'
 }
 
-/// Returns how many of these bytes come first.
+/// Returns the length of the longest prefix that consists of these bytes.
 #[tactic(auto, using(crate::proofs::FrontmatterLemmas::run_lemmas, std::proofs::lemmas::Grind::common_steps))]
 pub fn run_of(these: &[u8], bytes: &[u8]) -> usize
     ensures value { result ≡ prefix_len (spec.is_of these.now) bytes.now }
@@ -75,7 +76,7 @@ pub fn run_of(these: &[u8], bytes: &[u8]) -> usize
     count
 }
 
-/// Returns whether CR LF ends the first line of a frontmatter, right after its dashes and its label.
+/// Returns whether a CRLF ends the first line of a frontmatter, directly after its dashes and its infostring.
 pub fn has_crlf(text: &str) -> bool
     ensures { result ≡ spec.has_crlf (chars text.now) }
 {
@@ -84,7 +85,7 @@ pub fn has_crlf(text: &str) -> bool
     begins_crlf(rest)
 }
 
-/// Returns the text after an infostring, if there is one at the front, or else the whole text.
+/// Returns the text after an infostring, or the whole text if it does not start with one.
 fn skip_infostring(text: &str) -> &str
     ensures { chars result.now ≡ spec.past_infostring (chars text.now) }
 {
@@ -103,7 +104,7 @@ fn is_blank(c: char) -> bool
     c == '\t' || c == ' '
 }
 
-/// Returns the text after the characters at the front that pass the test.
+/// Returns the text after its longest prefix of characters that pass the test.
 #[tactic(auto, using(crate::proofs::FrontmatterLemmas::skip_on, crate::proofs::FrontmatterLemmas::skip_ends, crate::proofs::FrontmatterLemmas::skip_all, crate::proofs::ScreenLemmas::seen_lemmas, std::proofs::lemmas::Grind::common_steps))]
 fn skip<F: Fn(char) -> bool>(text: &str, test: F) -> &str
     requires callable { F.IsAlwaysCallable test }
@@ -120,7 +121,7 @@ fn skip<F: Fn(char) -> bool>(text: &str, test: F) -> &str
     left
 }
 
-/// Returns whether a text begins with CR LF.
+/// Returns whether a text starts with a CRLF.
 fn begins_crlf(text: &str) -> bool
     ensures { result ≡ begins (codes "\r\n") (chars text.now) }
 {

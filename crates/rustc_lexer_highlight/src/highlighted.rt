@@ -1,4 +1,4 @@
-//! Writes a text between marks, with its shebang line and its tokens, for a terminal or as the inside of a page.
+//! Writes a text with its shebang line and its tokens highlighted, for a terminal or for the inside of an HTML page.
 ghost use Rattle.std.specs.Prelude.{◌≡◌, OnOk, take};
 ghost use Rattle.std.specs.Fmt.{WritesInCalls};
 ghost use Rattle.rustc_lexer.specs.Classes.{Fits};
@@ -6,7 +6,7 @@ ghost use Rattle.rustc_lexer.specs.LanguageText.{part};
 ghost use Rattle.rustc_lexer.specs.Tokens.{tokens_of};
 ghost use Rattle.rustc_lexer_highlight.specs.Escape.{unescaped, untagged};
 ghost use Rattle.rustc_lexer_highlight.specs.Highlighted.{document_parts, error_in, highlighted, marked_tokens, start_parts, token_parts};
-ghost use Rattle.rustc_lexer_highlight.specs.Part.{with_marks, without_marks};
+ghost use Rattle.rustc_lexer_highlight.specs.Part.{with_markup, without_markup};
 
 use crate::class::{Class, class_of};
 use crate::errors::{TokenError, token_error};
@@ -16,11 +16,11 @@ use crate::part::{write_in_class, write_malformed};
 use rustc_lexer::{Edition, TokenKind, byte_order_mark_len, tokenize_document, tokenize_in};
 use std::fmt;
 
-/// Writes a document with marks: the class of each token as a colour, and a message at each token that has an error.
+/// Writes a document with its tokens highlighted, and with a message at each token that has an error.
 ///
-/// A byte order mark, U+FEFF, at the start is written as it is, and a shebang line as a comment. Without the marks, the
-/// output is the text, with symbols such as `␛` in place of control characters other than tabs and line ends, unless the
-/// format is `Raw`. In a page, the text is what is outside of tags, with its entities decoded.
+/// A byte order mark at the start is written as it is, and a shebang line as a comment. Without its markup, the output
+/// is the text; except in the format `Raw`, symbols such as `␛` replace control characters other than tabs and line
+/// endings. In HTML, the text is everything outside of tags, with its entities decoded.
 #[tactic(auto, using(crate::proofs::HighlightedLemmas::document_is, crate::proofs::HighlightedLemmas::page_is))]
 pub fn write_highlighted<W: fmt::Write>(
     format: Format,
@@ -31,7 +31,7 @@ pub fn write_highlighted<W: fmt::Write>(
     requires fits { Fits text.now }
     ensures written { OnOk result (WritesInCalls W.write_str_gives output.old
         (highlighted format edition text.now) output.new) }
-    ensures text { without_marks (document_parts edition text.now) ≡ text.now }
+    ensures text { without_markup (document_parts edition text.now) ≡ text.now }
     ensures page { unescaped (untagged (highlighted Format.Html edition text.now)) ≡ text.now }
 {
     let tokens = tokenize_document(text, edition);
@@ -50,17 +50,17 @@ pub fn write_highlighted<W: fmt::Write>(
 #[tactic(auto, using(crate::proofs::HighlightedLemmas::writes_start))]
 fn write_start<W: fmt::Write>(format: Format, start: &str, output: &mut W) -> fmt::Result
     ensures { OnOk result (WritesInCalls W.write_str_gives output.old
-        (with_marks format (start_parts start.now)) output.new) }
+        (with_markup format (start_parts start.now)) output.new) }
 {
     let mark = byte_order_mark_len(start);
     write_in_class(format, Class::Plain, &start[..mark], output)?;
     write_in_class(format, Class::Comment, &start[mark..], output)
 }
 
-/// Writes the first `count` tokens of a text in an edition, each between its marks, or all tokens if it has fewer.
-/// The text is a part of a document: no frontmatter is allowed in front, and a shebang line is read as tokens.
+/// Writes the first `count` tokens of a fragment with highlighting, or all tokens if it has fewer.
 ///
-/// So the visible part of a long text can be written without the rest.
+/// Use this to write the visible part of a long text without the rest. A shebang line or a frontmatter is lexed as
+/// other tokens.
 pub fn write_first_tokens<W: fmt::Write>(
     format: Format,
     edition: Edition,
@@ -88,9 +88,8 @@ pub fn write_first_tokens<W: fmt::Write>(
     Ok(())
 }
 
-/// Writes a token between its marks. `next` is the text after it. If the token has an error, its first line is also
-/// between the marks of the error. In a literal without an error of its own, each escape and each stretch that is
-/// wrong has marks around it.
+/// Writes a token with the markup of its class. `next` is the text after it. If the token has an error, the markup of the error is around its first
+/// line. In a literal that has no error of its kind, each escape and each error in its contents has its own markup.
 fn write_token<W: fmt::Write>(
     format: Format,
     edition: Edition,
@@ -101,7 +100,7 @@ fn write_token<W: fmt::Write>(
 ) -> fmt::Result
     requires fits { Fits text.now }
     ensures { OnOk result (WritesInCalls W.write_str_gives output.old
-        (with_marks format (token_parts edition kind text.now next.now)) output.new) }
+        (with_markup format (token_parts edition kind text.now next.now)) output.new) }
 {
     let class = class_of(kind, text, edition);
     if let Some(error) = error_in(kind, text, edition) {

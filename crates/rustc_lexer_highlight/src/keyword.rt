@@ -4,22 +4,24 @@ ghost use Rattle.rustc_lexer_highlight.specs.Keyword as spec;
 
 use rustc_lexer::Edition;
 
-/// The kind of a keyword: how far a word is one.
+/// The kind of a keyword: whether it can also be a name.
 #[derive(Clone, Copy, Debug, PartialEq, Eq)]
 pub enum KeywordKind {
-    /// Nowhere a name, like `while`.
+    /// Never a name, such as `while`.
     Strict,
-    /// Nowhere a name, since Rust keeps it for later, like `yield`.
+    /// Never a name, since Rust reserves it for the future, such as `yield`.
     Reserved,
-    /// A keyword in some places and a name in others, like `union`.
+    /// A keyword in some contexts and a name elsewhere, such as `union`.
     Weak,
 }
 
-/// Returns the kind of keyword that a word is in an edition, by the chapter
-/// [Keywords](https://doc.rust-lang.org/reference/keywords.html) of the Rust Reference. Returns `None` if it is none.
+/// Returns the kind of a keyword in an edition, or `None` if the word is not a keyword.
 ///
-/// The word is the text of a token. A raw identifier, like `r#while`, is no keyword, and the lifetime `'static` is a weak
-/// one.
+/// The word is the text of a token. A raw identifier such as `r#while` is not a keyword, and the lifetime `'static` is
+/// a weak keyword. The kinds follow the chapter [Keywords](https://doc.rust-lang.org/reference/keywords.html) of the
+/// Rust Reference.
+///
+/// # Examples
 ///
 /// ```
 /// use rustc_lexer_highlight::{Edition, KeywordKind, keyword_kind};
@@ -53,7 +55,7 @@ pub(crate) fn is_strict(word: &str, edition: Edition) -> bool
     }
 }
 
-/// Returns whether a word is one of the first twelve strict keywords of 2015. The prover takes long for more at once.
+/// Returns whether a word is one of the first twelve strict keywords of 2015. The prover is slow for a longer list.
 fn is_strict_to_for(word: &str) -> bool
     ensures { result ≡ spec.is_in (take 12 (spec.made KeywordKind.Strict Edition.E2015)) word.now }
 {

@@ -1,5 +1,5 @@
-//! Writes the tokens of a Rust source between marks, for a terminal or a page. The marks show the class of each
-//! token, and what is wrong with it.
+//! Writes Rust source with its tokens highlighted: with HTML tags, with terminal colours, or only with messages about
+//! malformed tokens.
 #![tactic(auto)]
 
 mod class;

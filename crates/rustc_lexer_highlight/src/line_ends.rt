@@ -1,4 +1,4 @@
-//! The text between the quotes of a literal in a file.
+//! The contents of a literal in a file, where a CRLF is one character, a newline.
 ghost use Rattle.std.specs.Prelude.{◌≡◌, ◌<◌, ◌&&◌, ◌∷◌, [], true, false, length, MatchOption};
 ghost use Rattle.std.specs.Str.{chars, IsUtf8};
 ghost use Rattle.rustc_literal_escaper.specs.Grammar.{is_newline, next_is};
@@ -8,11 +8,10 @@ ghost use Rattle.rustc_lexer_highlight.specs.model.LineEnds.{IsLeft};
 use rustc_literal_escaper::{ElementsOf, Text, split_first};
 use std::marker::Model;
 
-/// An iterator over the elements of a string of a file, each with its place in bytes. A carriage return directly in
-/// front of a newline is part of the line end.
+/// An iterator over the elements of a string in a file, with their byte ranges. A CRLF is one character, a newline.
 pub type FileElements<'a> = ElementsOf<FileChars<'a>>;
 
-/// Returns an iterator over the elements of the text between double quotes. `raw` says whether the string is raw.
+/// Returns an iterator over the elements of the contents of a string, which is raw if `raw` is true.
 #[tactic(auto, using(crate::proofs::LineEndLemmas::all_items))]
 pub fn file_elements(contents: &str, raw: bool) -> FileElements<'_>
     ensures { result ≡ file_items raw contents.now }
@@ -57,7 +56,7 @@ impl<'a> Text for FileChars<'a> {
 
     ghost offset_of = { λ f. offset_of f.0 };
 
-    /// Takes the next character. A carriage return and a newline are one, a newline.
+    /// Returns the next character. A CRLF is one character, a newline.
     fn next_char(&mut self) -> Option<char> {
         let (c, left) = first_char(self.rest)?;
         self.rest = left;
@@ -89,7 +88,7 @@ fn first_char(rest: &str) -> Option<(char, &str)>
     }
 }
 
-/// Returns the text after a newline at the front if a carriage return is before it.
+/// Returns the text after a leading newline if a carriage return precedes it.
 fn past_line(is_after_return: bool, rest: &str) -> Option<&str>
     ensures { MatchOption result ((is_after_return && next_is is_newline (chars rest.now)) ≡ false)
         (λ line. (is_after_return ≡ true) × (chars rest.now ≡ 10 ∷ chars line.now)

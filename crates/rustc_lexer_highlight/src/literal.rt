@@ -5,11 +5,11 @@ ghost use Rattle.std.specs.Str.{IsCharBoundary};
 ghost use Rattle.rustc_lexer.specs.Classes.{Fits};
 ghost use Rattle.rustc_literal_escaper.specs.Meaning.{is_single};
 ghost use Rattle.rustc_lexer_highlight.specs.Literal as spec;
-ghost use Rattle.rustc_lexer_highlight.specs.LiteralMarks.{IsMarked};
+ghost use Rattle.rustc_lexer_highlight.specs.LiteralStretches.{IsHighlighted};
 ghost use Rattle.rustc_lexer_highlight.specs.Highlighted.{literal_parts};
 ghost use Rattle.rustc_lexer_highlight.specs.model.Literal as model;
 ghost use Rattle.rustc_lexer_highlight.specs.model.Literal.{IsCut, Paints};
-ghost use Rattle.rustc_lexer_highlight.specs.Part.{Own, with_marks};
+ghost use Rattle.rustc_lexer_highlight.specs.Part.{Own, with_markup};
 
 use crate::class::Class;
 use crate::errors::TokenError;
@@ -23,7 +23,7 @@ use rustc_literal_escaper::{Element, EscapeError, Mode};
 use std::fmt;
 use std::ops::Range;
 
-/// The mark of a stretch of a literal that is not plain.
+/// The look of a stretch of a literal that is not plain.
 #[derive(Clone, Copy, Debug, PartialEq, Eq)]
 pub enum Look {
     /// An escape.
@@ -80,8 +80,8 @@ pub fn literal_contents(kind: TokenKind, text: &str) -> Option<(Mode, Range<usiz
     ensures value { result ≡ spec.contents kind text.now }
     ensures places { IfSome result (λ found. IsCharBoundary text.now found.1.start
         × IsCharBoundary text.now found.1.end × (found.1.start ≤ found.1.end)) }
-    ensures marks { IfSome result (λ found. is_single found.0 ≡ false
-        → IsMarked found.0 found.1.start found.1.end text.now) }
+    ensures highlighted { IfSome result (λ found. is_single found.0 ≡ false
+        → IsHighlighted found.0 found.1.start found.1.end text.now) }
 {
     let mode = mode_of(kind)?;
     let (start, end) = between_quotes(mode, text)?;
@@ -104,7 +104,7 @@ fn between_quotes(mode: Mode, text: &str) -> Option<(usize, usize)>
     }
 }
 
-/// Writes a terminated literal: its escapes in their class, its errors between their marks, and the rest as text.
+/// Writes a terminated literal: its escapes in their class, its errors with messages, and the rest as text.
 #[tactic(auto, using(crate::proofs::LiteralLemmas::nothing_written, crate::proofs::LiteralLemmas::string_found))]
 pub fn write_literal<W: fmt::Write>(
     format: Format,
@@ -114,7 +114,7 @@ pub fn write_literal<W: fmt::Write>(
 ) -> fmt::Result
     requires fits { Fits text.now }
     ensures { OnOk result (WritesInCalls W.write_str_gives output.old
-        (with_marks format (literal_parts mode text.now)) output.new) }
+        (with_markup format (literal_parts mode text.now)) output.new) }
 {
     let Some((begin, close)) = between_quotes(mode, text) else {
         return write_in_class(format, Class::Text, text, output);
@@ -167,7 +167,7 @@ fn last_offset(byte: u8, text: &str) -> usize
     memrchr(byte, text.as_bytes()).unwrap_or(0)
 }
 
-/// Returns the mark of the contents of a literal with single quotes, or `None` if they are plain.
+/// Returns the look of the contents of a literal with single quotes, or `None` if they are plain.
 fn single_look(mode: Mode, inside: &str) -> Option<Look>
     ensures { result ≡ spec.char_look (spec.char_error mode inside.now) inside.now }
 {
@@ -195,7 +195,7 @@ fn single_error(mode: Mode, inside: &str) -> Option<EscapeError>
 struct Painter<'a> {
     format: Format,
     text: &'a str,
-    /// The text before this offset is written.
+    /// The text before this offset has been written.
     shown: usize,
     /// The text between `shown` and this offset is plain.
     at: usize,
@@ -213,7 +213,7 @@ impl<'a> Painter<'a> {
         requires close { IsCharBoundary self.old.text.now close }
         requires order { self.old.at ≤ close }
         ensures { OnOk result (WritesInCalls W.write_str_gives output.old
-            (with_marks self.old.format (spec.parts_from self.old.shown
+            (with_markup self.old.format (spec.parts_from self.old.shown
             (drop self.old.shown self.old.text.now)
             (spec.single_stretches mode self.old.at close self.old.text.now))) output.new) }
     {
@@ -234,7 +234,7 @@ impl<'a> Painter<'a> {
         requires close { IsCharBoundary self.old.text.now close }
         requires order { self.old.at ≤ close }
         ensures { OnOk result (WritesInCalls W.write_str_gives output.old
-            (with_marks self.old.format (spec.parts_from self.old.shown
+            (with_markup self.old.format (spec.parts_from self.old.shown
             (drop self.old.shown self.old.text.now)
             (model.string_stretches mode self.old.at close self.old.text.now))) output.new) }
     {
@@ -252,7 +252,8 @@ impl<'a> Painter<'a> {
         self.write_rest(output)
     }
 
-    /// Marks the text up to `start` as an escape, if there is any: between two elements is only a skipped line end.
+    /// Marks the text up to `start`, if there is any, as an escape. Between two elements there can only be a skipped
+    /// line ending.
     fn mark_skipped<W: fmt::Write>(&mut self, start: usize, output: &mut W) -> fmt::Result
         requires cut { IsCut self.old.text.now self.old.shown self.old.at }
         requires start { IsCharBoundary self.old.text.now start }
@@ -267,7 +268,7 @@ impl<'a> Painter<'a> {
         }
     }
 
-    /// Writes the text up to `end` with a mark, or leaves it to be written as plain text if there is no mark.
+    /// Writes the text up to `end` with this look. If the look is `None`, the text is plain and is written later.
     #[tactic(auto, using(crate::proofs::LiteralLemmas::writes_stretch, std::proofs::lemmas::Grind::common_steps))]
     fn mark<W: fmt::Write>(&mut self, look: Option<Look>, end: usize, output: &mut W) -> fmt::Result
         requires cut { IsCut self.old.text.now self.old.shown self.old.at }
@@ -296,17 +297,17 @@ impl<'a> Painter<'a> {
     fn write_rest<W: fmt::Write>(&self, output: &mut W) -> fmt::Result
         requires shown { IsCharBoundary self.now.text.now self.now.shown }
         ensures { OnOk result (WritesInCalls W.write_str_gives output.old
-            (with_marks self.now.format (Own Class.Text (drop self.now.shown self.now.text.now) ∷ []))
+            (with_markup self.now.format (Own Class.Text (drop self.now.shown self.now.text.now) ∷ []))
             output.new) }
     {
         write_in_class(self.format, Class::Text, &self.text[self.shown..], output)
     }
 }
 
-/// Writes a stretch with its mark.
+/// Writes a stretch with the markup of its look.
 fn write_look<W: fmt::Write>(format: Format, look: Look, text: &str, output: &mut W) -> fmt::Result
     ensures { OnOk result (WritesInCalls W.write_str_gives output.old
-        (with_marks format (spec.look_parts look text.now)) output.new) }
+        (with_markup format (spec.look_parts look text.now)) output.new) }
 {
     match look {
         Look::Escape => write_in_class(format, Class::Escape, text, output),
@@ -322,7 +323,7 @@ fn write_look<W: fmt::Write>(format: Format, look: Look, text: &str, output: &mu
     }
 }
 
-/// Returns the mark of an element, or `None` if it is plain.
+/// Returns the look of an element, or `None` if it is plain.
 fn look_of(mode: Mode, element: Element) -> Option<Look>
     ensures { result ≡ model.element_look mode element }
 {

@@ -1,8 +1,8 @@
-//! Writes a part of a text between the marks of its class and of its error.
+//! Writes a part of a text with the markup of its class and of its error.
 ghost use Rattle.std.specs.Prelude.{◌≡◌, ◌∷◌, [], OnOk};
 ghost use Rattle.std.specs.Fmt.{WritesInCalls};
 ghost use Rattle.std.specs.Str.{IsCharBoundary};
-ghost use Rattle.rustc_lexer_highlight.specs.Part.{Own, error_parts, faulty_parts, first_line, is_cut_line_end, shown, with_marks};
+ghost use Rattle.rustc_lexer_highlight.specs.Part.{Own, error_parts, malformed_parts, first_line, is_cut_line_end, shown, with_markup};
 
 use crate::class::Class;
 use crate::errors::TokenError;
@@ -13,7 +13,7 @@ use memchr::memchr2;
 use std::fmt;
 
 /// Writes a token with an error. `next` is the text after it. If the token ends between the carriage return and the
-/// newline of a CR LF, the carriage return is written as it is.
+/// newline of a CRLF, the carriage return is written unchanged.
 #[tactic(auto, using(crate::proofs::PartLemmas::may_cut_return, crate::proofs::PartLemmas::writes_return, std::proofs::lemmas::Result::on_ok_weaker, std::proofs::lemmas::Grind::common_steps))]
 pub fn write_malformed<W: fmt::Write>(
     format: Format,
@@ -24,7 +24,7 @@ pub fn write_malformed<W: fmt::Write>(
     output: &mut W,
 ) -> fmt::Result
     ensures { OnOk result (WritesInCalls W.write_str_gives output.old
-        (with_marks format (faulty_parts error class text.now next.now)) output.new) }
+        (with_markup format (malformed_parts error class text.now next.now)) output.new) }
 {
     if is_cut_line_end(text, next) {
         write_with_error(format, error, class, &text[..text.len() - 1], output)?;
@@ -33,15 +33,15 @@ pub fn write_malformed<W: fmt::Write>(
     write_with_error(format, error, class, text, output)
 }
 
-/// Returns whether a token ends between the carriage return and the newline of a CR LF. `next` is the text after it.
+/// Returns whether a token ends between the carriage return and the newline of a CRLF. `next` is the text after it.
 fn is_cut_line_end(text: &str, next: &str) -> bool
     ensures { result ≡ is_cut_line_end text.now next.now }
 {
     text.ends_with('\r') && next.starts_with('\n')
 }
 
-/// Writes a part with an error: its first line between the marks of the error, and all of it between those of its
-/// class.
+/// Writes a part with an error. The markup of the error is around its first line, and the markup of the class around
+/// all of it.
 #[tactic(auto, using(crate::proofs::PartLemmas::writes_error, std::proofs::lemmas::Result::on_ok_weaker, std::proofs::lemmas::Grind::common_steps))]
 pub fn write_with_error<W: fmt::Write>(
     format: Format,
@@ -51,7 +51,7 @@ pub fn write_with_error<W: fmt::Write>(
     output: &mut W,
 ) -> fmt::Result
     ensures { OnOk result (WritesInCalls W.write_str_gives output.old
-        (with_marks format (error_parts error class text.now)) output.new) }
+        (with_markup format (error_parts error class text.now)) output.new) }
 {
     let end = first_line(text);
     open_error(format, error, output)?;
@@ -60,7 +60,7 @@ pub fn write_with_error<W: fmt::Write>(
     write_in_class(format, class, &text[end..], output)
 }
 
-/// Returns how many bytes come before the first newline or carriage return.
+/// Returns the length in bytes of the text before the first newline or carriage return.
 #[tactic(auto, using(crate::proofs::PlaceLemmas::first_found, crate::proofs::PlaceLemmas::first_none))]
 fn first_line(text: &str) -> usize
     ensures value { result ≡ first_line text.now }
@@ -69,7 +69,7 @@ fn first_line(text: &str) -> usize
     memchr2(b'\n', b'\r', text.as_bytes()).unwrap_or(text.len())
 }
 
-/// Writes a part of the text between the marks of its class. Writes nothing if the part is empty.
+/// Writes a part with the markup of its class. Writes nothing if the part is empty.
 #[tactic(auto, using(crate::proofs::CallLemmas::on_ok, crate::proofs::PartLemmas::writes_in_class, std::proofs::lemmas::Grind::common_steps))]
 pub fn write_in_class<W: fmt::Write>(
     format: Format,
@@ -78,7 +78,7 @@ pub fn write_in_class<W: fmt::Write>(
     output: &mut W,
 ) -> fmt::Result
     ensures { OnOk result (WritesInCalls W.write_str_gives output.old
-        (with_marks format (Own class text.now ∷ [])) output.new) }
+        (with_markup format (Own class text.now ∷ [])) output.new) }
 {
     if text.is_empty() {
         return Ok(());
@@ -88,7 +88,8 @@ pub fn write_in_class<W: fmt::Write>(
     output.write_str(class_close(format, class))
 }
 
-/// Writes a part of the text: in a page with entities, elsewhere with symbols for control characters or raw.
+/// Writes a part without markup: with entities in HTML, unchanged in the format `Raw`, and with symbols for control
+/// characters otherwise.
 #[tactic(auto, using(crate::proofs::CallLemmas::tried_call))]
 fn write_shown<W: fmt::Write>(
     format: Format,

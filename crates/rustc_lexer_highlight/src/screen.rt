@@ -1,16 +1,17 @@
-//! Writes a text for a terminal, which would obey its control characters.
+//! Writes text for a terminal, which would obey control characters.
 ghost use Rattle.std.specs.Prelude.{◌≡◌, ◌∷◌, ◌++◌, ◌<◌, [], true, false, length, MatchOption, OnOk};
 ghost use Rattle.std.specs.Char.{encode_utf8};
 ghost use Rattle.std.specs.Fmt.{WritesInCalls};
 ghost use Rattle.std.specs.List.{list_all, list_any};
 ghost use Rattle.std.specs.Str.{IsUtf8, chars, encode_utf8_all};
 ghost use Rattle.memchr.specs.Find.{IsFirstByte};
-ghost use Rattle.rustc_lexer_highlight.specs.Screen.{at_line_end, is_replaceable, is_shown, may_begin_replaceable, seen, seen_char, symbol};
+ghost use Rattle.rustc_lexer_highlight.specs.Screen.{at_line_end, is_replaceable, is_shown, may_begin_replaceable};
+ghost use Rattle.rustc_lexer_highlight.specs.Screen.{seen, seen_char, symbol};
 
 use crate::class::Class;
 use std::fmt;
 
-/// Writes a text of a class with symbols for its control characters, except tabs and line ends.
+/// Writes a text of a class with symbols in place of control characters other than tabs and line endings.
 #[tactic(auto, using(crate::proofs::ScreenLemmas::all_shown, crate::proofs::ScreenLemmas::writes_irreplaceable, std::proofs::lemmas::Grind::common_steps))]
 pub fn write_seen<W: fmt::Write>(class: Class, text: &str, output: &mut W) -> fmt::Result
     ensures written { OnOk result (WritesInCalls W.write_str_gives output.old
@@ -26,8 +27,8 @@ pub fn write_seen<W: fmt::Write>(class: Class, text: &str, output: &mut W) -> fm
     output.write_str(rest)
 }
 
-/// Returns the first character that may be a control character other than a tab and a newline, between the text before
-/// it and the text after it. Returns `None` if there is no such character.
+/// Splits a text at the first character that may be a control character other than a tab and a newline: returns the
+/// text before it, the character and the text after it, or `None` if there is no such character.
 #[inline(always)]
 #[tactic(auto, using(crate::proofs::ScreenLemmas::may_cut, crate::proofs::ScreenLemmas::none_replaceable, std::proofs::lemmas::Grind::common_steps))]
 fn split_replaceable(text: &str) -> Option<(&str, char, &str)>
@@ -41,14 +42,14 @@ fn split_replaceable(text: &str) -> Option<(&str, char, &str)>
     Some((&text[..at], c, past))
 }
 
-/// Returns the offset of the first byte that may begin a control character other than a tab and a newline.
+/// Returns the offset of the first byte that can start a control character other than a tab and a newline.
 fn first_replaceable(text: &[u8]) -> Option<usize>
     ensures { IsFirstByte may_begin_replaceable text.now result }
 {
     text.iter().position(|byte| may_begin_replaceable(*byte))
 }
 
-/// Returns whether a byte may begin a control character other than a tab and a newline.
+/// Returns whether a byte can start a control character other than a tab and a newline.
 #[tactic(auto, using(crate::proofs::ScreenLemmas::byte_tests, std::proofs::lemmas::Grind::common_steps))]
 fn may_begin_replaceable(byte: u8) -> bool
     ensures { result ≡ may_begin_replaceable byte }
@@ -69,7 +70,7 @@ pub fn split_first(rest: &str) -> Option<(char, &str)>
     Some((first, chars.as_str()))
 }
 
-/// Returns a character as it is written if `rest` follows it in its fragment: itself or a symbol.
+/// Returns a character as it is displayed, if `rest` follows it in its part: unchanged or as a symbol.
 fn seen_char(class: Class, c: char, rest: &str) -> char
     ensures { result ≡ seen_char class c (chars rest.now) }
 {
@@ -81,7 +82,7 @@ fn seen_char(class: Class, c: char, rest: &str) -> char
     }
 }
 
-/// Returns whether a line ends before the rest of a fragment.
+/// Returns whether a line ends before the rest of a part.
 fn at_line_end(class: Class, rest: &str) -> bool
     ensures { result ≡ at_line_end class (chars rest.now) }
 {

@@ -1,4 +1,4 @@
-//! Errors in the text of a token that its kind does not show.
+//! Errors in the text of a token that its kind does not imply.
 ghost use Rattle.std.specs.Prelude.{◌≡◌, drop};
 ghost use Rattle.std.specs.List.{between, list_any};
 ghost use Rattle.std.specs.Str.{chars};
@@ -42,7 +42,7 @@ pub fn frontmatter_text_error(text: &str) -> Option<TokenError>
     None
 }
 
-/// Returns whether a text has a bare carriage return: one that a byte other than a newline follows.
+/// Returns whether a text contains a bare carriage return, which is followed by a byte other than a newline.
 #[tactic(auto, using(crate::proofs::TextErrorLemmas::after_return, crate::proofs::TextErrorLemmas::no_return, crate::proofs::TextErrorLemmas::rest_fits, std::proofs::lemmas::Grind::common_steps))]
 fn has_bare_return(bytes: &[u8]) -> bool
     requires fits { Fits bytes.now }
@@ -58,37 +58,37 @@ fn has_bare_return(bytes: &[u8]) -> bool
     false
 }
 
-/// Returns whether the first byte exists and is not a newline.
+/// Returns whether a text starts with a byte other than a newline.
 fn goes_on(bytes: &[u8]) -> bool
     ensures { result ≡ spec.goes_on bytes.now }
 {
     matches!(bytes, [byte, ..] if *byte != b'\n')
 }
 
-/// Returns the error of a text with a character that changes the text direction, or `None` if it has none.
+/// Returns the error of a text that contains a bidirectional control character, or `None` if it contains none.
 #[tactic(auto, using(crate::proofs::TextErrorLemmas::ascii_stays))]
 fn direction_error(text: &str) -> Option<TokenError>
     ensures { result ≡ spec.direction_error text.now }
 {
-    // Most texts are ASCII, which this test decides eight bytes at a time or more.
+    // Most texts are ASCII, and `is_ascii` reads at least eight bytes at a time.
     (!text.is_ascii() && has_turn(text)).then_some(TokenError::TextDirectionCodepoint)
 }
 
-/// Returns whether a text has a character that changes the text direction.
+/// Returns whether a text contains a bidirectional control character.
 fn has_turn(text: &str) -> bool
     ensures { result ≡ list_any spec.turns_direction (chars text.now) }
 {
     text.chars().any(turns_direction)
 }
 
-/// Returns whether a character changes the text direction.
+/// Returns whether a character is a bidirectional control character.
 fn turns_direction(c: char) -> bool
     ensures { result ≡ spec.turns_direction c }
 {
     matches!(c, '\u{202a}'..='\u{202e}' | '\u{2066}'..='\u{2069}')
 }
 
-/// The words that cannot be raw, as identifiers and as lifetimes.
+/// The raw identifiers and raw lifetimes that are not allowed.
 const NEVER_RAW: [&str; 10] = [
     "r#self", "r#Self", "r#super", "r#crate", "r#_", "'r#self", "'r#Self", "'r#super", "'r#crate",
     "'r#_",
@@ -140,7 +140,7 @@ fn digits_of(suffix_start: usize, text: &[u8]) -> &[u8]
     &text[end.min(2)..end]
 }
 
-/// Returns the error of digits of a base with only `these` digits, or `None` if there is none.
+/// Returns the error of the digits of a number whose base allows only `these` bytes, or `None` if there is none.
 fn digit_error(these: &[u8], digits: &[u8]) -> Option<TokenError>
     ensures { result ≡ spec.digit_error these.now digits.now }
 {

@@ -1,4 +1,4 @@
--- A character or a byte between single quotes, and the answers of the grammar by what the code reads.
+-- The value of a literal with single quotes, and the answers of the grammar, as the model computes them.
 use Rattle.std.proofs.Common.{◌≡◌, ℕ, List, [], Result, refl, sym, ◌∙◌, length, true, false, arith}
 use Rattle.std.specs.Str.{chars, IsUtf8}
 use Rattle.std.proofs.lemmas.{Str.{encodes-chars}, Grind.{common_steps}}
@@ -14,7 +14,7 @@ use Rattle.rustc_literal_escaper.specs.Meaning.{error_of, errors_in, is_raw, is_
 pub alone_whole : {U : Type 0} (meant : Result U EscapeError) → alone meant [] ≡ meant
 alone_whole meant = grind (arith, common_steps)
 
--- what the literal stands for, by its only element
+-- A literal with a single element has the value of that element.
 pub literal_is : {U : Type 0} (meaning : Element → Result U EscapeError) (s : List ℕ) (e : Element)
     → StartsWithSingle s e [] → meaning e ≡ literal meaning s
 literal_is meaning s e h = sym (literal-starts s h)
@@ -42,12 +42,12 @@ error-is meaning mode total s w4 = grind (arith, common_steps, only-error)
 pub errors_of-read : (mode : Mode) (text : List ℕ) → IsUtf8 text → errors_of mode text ≡ read_errors mode text
 errors_of-read mode text w2 = grind (arith, common_steps, error-is, encodes-chars)
 
--- the errors of a literal between single quotes
+-- The errors of a literal with single quotes.
 pub errors_of-single : (mode : Mode) (text : List ℕ) → IsUtf8 text → is_single mode ≡ true
     → errors_of mode text ≡ option_to_list (single_error (place (length text)) mode (chars text))
 errors_of-single mode text is single = errors_of-read mode text is ∙ rw single refl
 
--- and between double quotes
+-- The errors of a literal with double quotes.
 pub errors_of-items : (mode : Mode) (text : List ℕ) → is_single mode ≡ false
     → errors_of mode text ≡ errors_in mode (items_of (is_raw mode) text)
 errors_of-items mode text double = grind (arith, common_steps)

@@ -1,4 +1,4 @@
--- The digits between braces, one by one, and the tables of digits and of the escapes of one character.
+-- The digits between braces, read one by one, and the tables of digits and of short escapes.
 use Rattle.std.proofs.Common.{◌≡◌, ℕ, zero-add, add-zero, ◌+◌, ◌*◌, ◌^◌, ◌<◌, ◌≤◌, ◌==◌, ◌||◌, Bool, true, false}
 use Rattle.std.proofs.Common.{if◌then◌else◌, List, [], ◌∷◌, length, fold, filter, refl, sym, ap, ◌∙◌, subst, arith}
 use Rattle.std.proofs.Common.{nat_le, nat_lt, min, get_or}
@@ -13,7 +13,7 @@ use Rattle.rustc_literal_escaper.specs.{Grammar.{is_hex, is_digit_or_underscore}
 use Rattle.rustc_literal_escaper.specs.model.Escape.{closed_at_run, front_run, past_run, short}
 use Rattle.rustc_literal_escaper.specs.declared.escape.TheConstants.{DIGITS, SHORT}
 
--- one more digit has room in 24 bits
+-- Another digit fits in 24 bits.
 pub with_room : (v n : ℕ) → v < 16 ^ min n 6 → n < 6 → v < 16 ^ 5
 with_room v n h l = let k : 16 ^ min n 6 ≤ 16 ^ 5 =
     pow-le-pow_right {n = 16} (omega arith) {i = min n 6} {j = 5} (omega arith) in omega arith
@@ -21,7 +21,7 @@ with_room v n h l = let k : 16 ^ min n 6 ≤ 16 ^ 5 =
 abbrev pub with_digit : ℕ → ℕ → ℕ → ℕ
 with_digit v n d = if nat_lt n 6 then v * 16 + d else v
 
--- the number whose first `n` digits make `v`, and whose others are these
+-- Returns the number whose first `n` digits have the value `v`, and whose other digits are these.
 abbrev pub number_past : ℕ → ℕ → List ℕ → Element
 number_past v n digits =
     if nat_le (n + length digits) 6 then Unicode (fold (λ value digit. value * 16 + digit_value digit) v digits) else
@@ -32,11 +32,11 @@ closed_past h v n digits [] = (Diagnostic UnclosedUnicodeEscape, [])
 closed_past h v n digits (c ∷ s) =
     (if c == 125 then number_past v n (filter h digits) else Diagnostic InvalidCharInUnicodeEscape, s)
 
--- of any two classes: the same
+-- Like `left_at`, for any two classes.
 abbrev pub left_by : (ℕ → Bool) → (ℕ → Bool) → ℕ → ℕ → List ℕ → Element × List ℕ
 left_by p h v n s = closed_past h v n (front_run p s) (past_run p s)
 
--- what is read of what is left, past digits that made `v`
+-- Reads the rest of an escape after `n` digits with the value `v`.
 unfoldable pub left_at : ℕ → ℕ → List ℕ → Element × List ℕ
 left_at v n s = left_by is_digit_or_underscore is_hex v n s
 
@@ -78,18 +78,18 @@ unfolding left_at
 left_at-other v n c s a b e =
     by_other is_digit_or_underscore is_hex v n c s (ap (λ x. x || is_hex c) (ne_eqb c 95 a) ∙ e) (ne_eqb c 125 b)
 
--- what a digit of `to_digit` is, and what is none
+-- A character is a hexadecimal digit exactly if its value is less than 16.
 pub hex-yes : (c : ℕ) → digit_value c < 16 → is_hex c ≡ true
 hex-yes c l = grind (arith, nat_tests)
 
 pub hex-no : (c : ℕ) → (digit_value c < 16 → ⊥) → is_hex c ≡ false
 hex-no c l = grind (arith, nat_tests)
 
--- the first digit is read
+-- Reading the first digit.
 pub left_at-first : (c : ℕ) (s : List ℕ) → is_hex c ≡ true → left_at (digit_value c) 1 s ≡ closed_at_run (c ∷ s)
 left_at-first c s e = grind (arith, common_steps, nat_tests, left_at-digit 0 0 c s e, left_at-start (c ∷ s), zero-add)
 
--- past too many digits, one more changes nothing
+-- After too many digits, another digit changes nothing.
 closed-many : (v n : ℕ) (d : ℕ) (run rest : List ℕ) → 6 < n → closed_past is_hex (with_digit v n d) (n + 1) run rest ≡
     closed_past is_hex v n run rest
 closed-many v n d run [] many = refl
@@ -114,7 +114,7 @@ pub ruleset digit_lemmas = (
   hex-no,
 )
 
--- ---- the tables in ASCII; past it there are none
+-- ---- the tables, which cover ASCII
 
 pub short_table : (c : ℕ) (none : Element) → c < 128 → get_or SHORT c none ≡ short c
 short_table c none small = get_or-map-range_with_len short 0 128 c c none small (omega arith)

@@ -1,4 +1,4 @@
--- There are no more elements between quotes than bytes, and no more errors than elements.
+-- A literal has at most as many elements as bytes, and at most as many errors as elements.
 use Rattle.std.proofs.Common.{ℕ, ◌≤◌, Bool, if◌then◌else◌, List, [], ◌∷◌, length, max, Option, ap, arith, length-append}
 use Rattle.std.proofs.Math.Nat.{le-max_left, le-max_right}
 use Rattle.std.specs.{List.{list_any}, Option.{option_to_list}, Str.{chars, IsUtf8}}
@@ -11,7 +11,7 @@ use Rattle.rustc_literal_escaper.specs.Grammar.{AreItems, Error, IsElementBefore
 use Rattle.rustc_literal_escaper.specs.{Meaning.{errors_in}, laws.TheAnswers.{items-are}}
 use Rattle.rustc_literal_escaper.proofs.AnswerLemmas.{errors_of-read}
 
--- an element has at least one character
+-- An element has at least one character.
 pub some : {special next : List ℕ} {e : Element} {w : List ℕ} → IsElementBefore special next e w → 1 ≤ length w
 some w0 = grind (arith, common_steps)
 
@@ -47,7 +47,7 @@ errors-few mode (item ∷ items) = grind (arith, common_steps, errors-few mode i
 alone-few : (error : Option Error) → length (option_to_list error) ≤ 1
 alone-few error = grind (arith, common_steps)
 
--- between single quotes there is at most one error
+-- Between single quotes, there is at most one error.
 pub errors_of-few : (mode : Mode) (text : List ℕ) → IsUtf8 text → length (errors_of mode text) ≤ max 1 (length text)
 errors_of-few mode text is =
     grind (arith, common_steps, errors_of-read, alone-few, le-max_left, errors-few, items-few, le-max_right)

@@ -1,4 +1,4 @@
--- The elements of texts of plain characters.
+-- The elements of texts that consist of plain characters.
 use Rattle.std.proofs.Common.{◌≡◌, ℕ, Bool, true, List, [], ◌∷◌, length, map, ap, arith}
 use Rattle.std.specs.{List.{list_all}, Str.{chars}}
 use Rattle.std.proofs.lemmas.{Bool.{and_parts, not-true}, Grind.{common_steps}}
@@ -11,7 +11,7 @@ pub front_by-plain : (raw : Bool) (c : ℕ) (s : List ℕ) → is_plain raw c �
 unfolding front raw_front
 front_by-plain raw c s e = grind (arith, common_steps, not-true, and_parts)
 
--- it is an item
+-- A plain character is one item.
 pub items-plain : (raw : Bool) (total c : ℕ) (s : List ℕ) → is_plain raw c ≡ true
     → items_from (front_by raw) total (c ∷ s) ≡ item_at total (place total (c ∷ s)) (Plain c, s) ∷ items_from
     (front_by raw) total s

@@ -1,4 +1,4 @@
--- A run of bytes that pass a test, seen a vector at a time through the mask of those that fail it.
+-- A run of bytes that pass a test, searched one vector at a time by the mask of the bytes that fail it.
 use Rattle.std.proofs.Common.{◌≡◌, ℕ, zero, suc, leb, cond, eqb, ◌+◌, ◌*◌, ◌%◌, ◌^◌, ◌<◌, ◌≤◌, Bool, true, not, List}
 use Rattle.std.proofs.Common.{[], ◌∷◌, map, length, take, drop, refl, sym, ap, ap₂, ◌∙◌, arith, w8, Fits}
 use Rattle.std.specs.List.{list_all, prefix_len}
@@ -15,7 +15,7 @@ each_byte f p all [] fits = refl
 each_byte f p all (x ∷ xs) fits = ap₂ (λ a b. a ∷ b) (agree_below_at (λ y. top 7 (f y)) p 256 x all fits.0.fits)
     (each_byte f p all xs fits.1)
 
--- the mask of lanes that were computed by f is that of the test, where these agree at each byte
+-- If f and the test agree on each byte, the mask of the lanes of f is the mask of the test.
 pub masked : (f : ℕ → ℕ) (p : ℕ → Bool) (v z : List ℕ) → length v ≤ 64 → Each1 (Fits w8) v → z ≡ map f v
     → agree_below (λ x. top 7 (f x)) p 256 ≡ true
     → mask_l (map (top 7) z) % 2 ^ 64 ≡ mask_l (map p v)
@@ -23,7 +23,7 @@ masked f p v z short fits e all =
     ap (λ l. mask_l l % 2 ^ 64) (ap (map (top 7)) e ∙ each_byte f p all v fits)
     ∙ mask_l-mod (map p v) 64 (omega (arith, length-map v p))
 
--- `simd_ge` of a vector with a splat: the splat stands first
+-- `simd_ge` of a vector with a splat. The splat is the first argument.
 abbrev pub least : ℕ → ℕ → ℕ
 least a b = cond (leb a b) 255 0
 
@@ -72,7 +72,7 @@ module _ (q : ℕ → Bool) where
         length-chunk,
       )
 
-  -- the front of the run
+  -- A prefix of the run passes the test.
   pub run_front : (d : List ℕ) (n : ℕ) → n ≤ prefix_len q d → list_all q (take n d) ≡ true
   run_front d zero le = refl
   run_front [] (suc n) le = refl

@@ -1,4 +1,4 @@
--- The text before each item and after it is cut between characters, and the places of the items make up the text.
+-- The ranges of items: their ends are char boundaries, and together they rebuild the text.
 use Rattle.std.proofs.Common.{◌≡◌, ℕ, ◌+◌, ◌<◌, Bool, true, false, if◌then◌else◌, List, [], ◌∷◌, ◌++◌, length-append}
 use Rattle.std.proofs.Common.{append_assoc, refl, sym, ap, subst, ◌∙◌, arith, length, filter}
 use Rattle.std.specs.{Prelude.{IsCharBoundary}, Char.{is_whitespace, is_ascii}, List.{list_any, list_all}}
@@ -24,7 +24,7 @@ scalars-end : (front left : List ℕ) → all_scalars (front ++ left) ≡ true �
 scalars-end [] left e = e
 scalars-end (c ∷ front) left e = scalars-end front left (and_parts _ (all_scalars (front ++ left)) e).1
 
--- a character has at least one byte, and so has an element
+-- A character has at least one byte, and so does an element.
 bytes-some : (c : ℕ) (w : List ℕ) → 0 < bytes (c ∷ w)
 bytes-some c w = omega (arith, length-le-encodes (c ∷ w))
 
@@ -39,7 +39,7 @@ module _ (text : List ℕ) (is : IsUtf8 text) where
       IsCharBoundary-at_seam text (encode_utf8_all before) (encode_utf8_all s) cut
       (s, (scalars-end before s (ap all_scalars whole ∙ scalars-chars text is), refl))
 
-  -- the text from the offset `from` on is `s`
+  -- Holds if `s` is the rest of the text from the offset `from` on.
   record Stands (from : ℕ) (s : List ℕ) : Type 0 where
     before : List ℕ
     at : from ≡ bytes before
@@ -91,7 +91,7 @@ module _ (text : List ℕ) (is : IsUtf8 text) where
   pub are_placed : (raw : Bool) → ArePlaced text (items_of raw text)
   are_placed raw = placed (items-are raw text is) (record { before = []; at = refl; whole = refl })
 
--- ---- the text, put together again from the places of its items
+-- ---- the text is rebuilt from the ranges of its items
 
 -- ---- no element is a warning
 
@@ -107,16 +107,16 @@ element-tells w0 = grind (arith, common_steps, escape-tells)
 raw-tells : {e : Element} {c : ℕ} → IsRawElement e c → Tells e
 raw-tells w0 = grind (arith, common_steps)
 
--- ---- a line end that is skipped
+-- ---- skipped line endings
 
--- its characters are their bytes
+-- Its characters are ASCII, so they are its bytes.
 line-ascii : (space : List ℕ) → list_all is_passed_over space ≡ true → encode_utf8_all (92 ∷ 10 ∷ space) ≡
     92 ∷ 10 ∷ space
 line-ascii space all =
     encodes-IsAscii (92 ∷ 10 ∷ space)
     (is-ascii (92 ∷ 10 ∷ space) (all-weaker is_passed_over is_ascii (λ c e. grind (arith, nat_tests)) space all))
 
--- in front of what is made of some places it changes nothing
+-- A skipped line ending in front of a text that consists of some ranges adds no range.
 skip : (space : List ℕ) → list_all is_passed_over space ≡ true → (from : ℕ) (left : List ℕ) (places : List (Range ℕ))
     → IsMadeOf false (from + bytes (92 ∷ 10 ∷ space)) left places
     → IsMadeOf false from (92 ∷ 10 ∷ (space ++ left)) places
@@ -140,7 +140,7 @@ skip space e from left (r ∷ places) made = (
   made.2,
 )
 
--- its warnings have no places
+-- Its warnings have no ranges.
 if-none : (b : Bool) (i : Item) → is_unit i ≡ false → filter is_unit (if b then i ∷ [] else []) ≡ []
 if-none b i e = grind (arith, common_steps)
 
@@ -164,7 +164,7 @@ warnings-none from space next items =
 none : (raw : Bool) → AreLineEnds raw []
 none raw = grind (arith, common_steps)
 
--- an element, and what is made of the text after it
+-- An element adds its range in front of the ranges of the text after it.
 one-made : (raw : Bool) (from : ℕ) (e : Element) (w next : List ℕ) (items : List Item) → Tells e
     → IsMadeOf raw (from + bytes w) (encode_utf8_all next) (places_of items)
     → IsMadeOf raw from (encode_utf8_all (w ++ next)) (places_of (item from e w ∷ items))

@@ -1,4 +1,4 @@
--- What is written of a character or a byte is one element that stands for it.
+-- The output for a character or a byte is one element with that value.
 use Rattle.std.proofs.Common.{◌≡◌, ℕ, ◌+◌, ◌*◌, ◌/◌, ◌%◌, ◌<◌, ◌≤◌, ◌==◌, ◌&&◌, true, false, cond, List, [], ◌∷◌, ◌++◌}
 use Rattle.std.proofs.Common.{append_assoc, length, map, fold, Result, Ok, refl, sym, ap, subst, ◌∙◌, arith, nat_lt}
 use Rattle.std.specs.Char.{digit_char, digit_value, is_ascii, IsScalar}
@@ -27,7 +27,7 @@ digit-hex q = agree_below_at (λ d. is_hex (digit_char d)) (λ d. true) 16 (q % 
 digit-ascii : (q : ℕ) → is_ascii (digit_char (q % 16)) ≡ true
 digit-ascii q = agree_below_at (λ d. is_ascii (digit_char d)) (λ d. true) 16 (q % 16) refl (omega arith)
 
--- those of some numbers
+-- Returns the last hexadecimal digits of some numbers.
 abbrev word : List ℕ → List ℕ
 word qs = map (λ q. digit_char (q % 16)) qs
 
@@ -56,7 +56,7 @@ word-left v n (q ∷ qs) s few =
       word-left (v * 16 + q % 16) (n + 1) qs s (omega arith),
     )
 
--- between braces they are one number
+-- Between braces, these digits are one number.
 word-read : (q : ℕ) (qs s : List ℕ) → length qs ≤ 5 → braced (word (q ∷ qs) ++ 125 ∷ s) ≡
     (Unicode (value_past 0 (q ∷ qs)), s)
 word-read q qs s few =
@@ -69,7 +69,7 @@ word-read q qs s few =
 
 -- ---- one element
 
--- all of it is ASCII, and whatever follows it, it is an element that stands for `unit`
+-- Holds if the text is ASCII, and is one element with the value `unit`, whatever text follows it.
 pub record IsSpelled {U : Type 0} (meaning : Element → Result U EscapeError) (unit : U) (xs : List ℕ) : Type 0 where
   pub element : Element
   pub means : meaning element ≡ Ok unit
@@ -84,7 +84,7 @@ module _ {U : Type 0} (meaning : Element → Result U EscapeError) where
   unfolding front
   escaped e unit x t m ascii line read = grind (arith, common_steps)
 
-  -- a short escape, the character itself, or another
+  -- The output is a short escape, the character itself, or another escape.
   or-spelled : (unit : ℕ → U) (c : ℕ) (xs : List ℕ) → (c < 127 → meaning (Byte c) ≡ Ok (unit c))
       → (c < 127 → meaning (Plain c) ≡ Ok (unit c))
       → IsSpelled meaning (unit c) xs → IsSpelled meaning (unit c) (escape_or c xs)

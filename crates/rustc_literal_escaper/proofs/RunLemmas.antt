@@ -1,4 +1,4 @@
--- Runs of simple characters, passed over.
+-- Skipping runs of simple characters.
 use Rattle.std.proofs.Common.{◌≡◌, ℕ, ◌≤◌, ◌==◌, nat_lt, not, Bool, true, List, ◌++◌, length, take, drop, None, arith}
 use Rattle.std.proofs.Common.{sym, ap, ◌∙◌, [], ◌∷◌, refl}
 use Rattle.std.specs.{Char.{is_ascii}, List.{list_all, prefix_len}}
@@ -17,12 +17,12 @@ pub simple-parts : (raw : Bool) (c : ℕ) → is_simple raw c ≡ true → (nat_
     × (is_plain raw c ≡ true)
 simple-parts raw c e = grind (arith, common_steps, and_parts)
 
--- nothing is wrong with a simple character
+-- A simple character is plain and has no error.
 pub simple-fine : (mode : Mode) (raw : Bool) (c : ℕ) → is_simple raw c ≡ true → (is_plain raw c ≡ true)
     × (error_of mode (Plain c) ≡ None)
 simple-fine mode raw c e = grind (arith, common_steps, simple-parts, not-true)
 
--- simple characters are bytes, and what follows them begins with a character
+-- Simple characters are ASCII, so a run of them is a run of bytes.
 pub simple-ascii : (raw : Bool) (bs : List ℕ) → list_all (is_simple raw) bs ≡ true → IsAscii bs
 simple-ascii raw bs e = is-ascii bs (all-weaker (is_simple raw) is_ascii (λ c f. (simple-parts raw c f).0) bs e)
 
@@ -45,14 +45,14 @@ passes-simple raw bs n run =
 pub passes-none : (raw : Bool) (s : List ℕ) → Passes (is_simple raw) s s
 passes-none raw s = record { passed = []; all = refl; whole = refl }
 
--- so a text may be cut there
+-- The end of such a run is a char boundary.
 pub cut-simple : (raw : Bool) (bs : List ℕ) (n : ℕ) → IsUtf8 bs → n ≤ length bs → n ≤ prefix_len (is_simple raw) bs
     → IsCharBoundary bs n
 cut-simple raw bs n is within run =
     IsCharBoundary-from_take bs n is within
     (IsUtf8-from_ascii (take n bs) (simple-ascii raw (take n bs) (run_front (is_simple raw) bs n run)))
 
--- past them the errors are the same
+-- Skipping such a run does not change the errors.
 module _ (mode : Mode) (raw : Bool) (total : ℕ) where
   errors-past : (passed left : List ℕ) → list_all (is_simple raw) passed ≡ true
       → errors_in mode (items_from (front_by raw) total left) ≡

@@ -1,4 +1,4 @@
--- What takes items, one after another.
+-- Sinks, which consume items one by one.
 use Rattle.std.proofs.Common.{◌≡◌, ℕ, Bool, true, false, List, [], ◌∷◌, ◌++◌, map, true≢false, Option, Some, None}
 use Rattle.std.proofs.Common.{MatchOption, ◌<◌, length, if◌then◌else◌, refl, sym, ap, subst, ◌∙◌, arith, append_assoc}
 use Rattle.rustc_literal_escaper.specs.declared.element.Element.{Element, TheVariants.{Diagnostic}}
@@ -15,7 +15,7 @@ use Rattle.rustc_literal_escaper.specs.model.Elements.{begins_line, front_by, it
 use Rattle.rustc_literal_escaper.specs.model.Elements.{more_space, one, raw_element, raw_front, unescaped}
 use Rattle.rustc_literal_escaper.specs.laws.Elements.{items-cons, items-one, left-shorter, nothing}
 
--- what the first character begins
+-- The step that starts with the first character.
 pub raw_reads : (c : ℕ) (s : List ℕ) → raw_front c s ≡ one (raw_element c, s)
 unfolding raw_front
 raw_reads c s = refl
@@ -34,7 +34,7 @@ pub line_reads : (c : ℕ) (s t : List ℕ) → c ≡ 92 → s ≡ 10 ∷ t → 
 unfolding front
 line_reads c s t slash line = rw (slash, line) refl
 
--- the items of a line end, and those after it
+-- The items of a skipped line ending, and the items after it.
 pub items_line : (offset : List ℕ → ℕ) (start c : ℕ) (xs ys zs left : List ℕ) (newline : Bool) → xs ≡ c ∷ ys → c ≡ 92
     → ys ≡ 10 ∷ zs → start ≡ offset xs
     → newline ≡ list_any is_newline (front_run is_passed_over zs) → left ≡ past_run is_passed_over zs
@@ -52,16 +52,16 @@ items_line offset start c xs ys zs left newline is slash line begins lines past 
       append_assoc {A = Item},
     )
 
--- an offset in what has the same offsets
+-- Equal offset functions return equal offsets.
 pub at_same : {f h : List ℕ → ℕ} {n : ℕ} (xs : List ℕ) → n ≡ f xs → f ≡ h → n ≡ h xs
 at_same xs e same = e ∙ ap (λ (k : List ℕ → ℕ). k xs) same
 
--- what is left is less
+-- Each step shortens the text.
 pub less_left : (c : ℕ) (xs ys left : List ℕ) → xs ≡ c ∷ ys → (front c ys).left ≡ left → length left < length xs
 less_left c xs ys left is e = omega (arith, ap length is, ap length e, left-shorter false c ys)
 
 module _ {S : Type 0} (took : S → Item → Bool → S → Type 0) where
-  -- an item is taken, and then others, if it takes more
+  -- The sink consumes an item, and the items after it if it returns true.
   pub taken : (more : Bool) (s u t : S) (i : Item) (items left : List Item) → took s i more u
       → (more ≡ true → Runs took u items t left)
       → (more ≡ false → (u ≡ t) × (items ≡ left))
@@ -72,7 +72,7 @@ module _ {S : Type 0} (took : S → Item → Bool → S → Type 0) where
       subst (λ (v : S). Runs took s (i ∷ items) v left) e.0
       (subst (λ (is : List Item). Runs took s (i ∷ items) u is) e.1 (sinks.enough took_one))
 
-  -- a warning
+  -- The sink consumes a warning.
   pub warning_taken : (more : Bool) (s u : S) (offset : List ℕ → ℕ) (start end : ℕ) (found : List (Element × List ℕ))
       (ys : List ℕ) (e : Element)
       → found ≡ (e, ys) ∷ [] → end ≡ offset ys → took s (record { start = start; end = end }, e) more u
@@ -80,16 +80,16 @@ module _ {S : Type 0} (took : S → Item → Bool → S → Type 0) where
   warning_taken more s u offset start end found ys e is at took_one = λ t items left on enough.
       rw (is, ← at) (taken more s u t _ items left took_one on enough)
 
-  -- none
+  -- There is no warning.
   pub none_taken : (s : S) (found : List Item) → found ≡ [] → Takes took s found true s
   none_taken s found none = λ t items left on enough. rw none (on refl)
 
-  -- nothing is left
+  -- At the end of the text, there are no more items.
   pub at_end : (s : S) (raw : Bool) (offset : List ℕ → ℕ) (xs ys : List ℕ) → xs ≡ [] → ys ≡ []
       → Runs took s (items_by (front_by raw) offset xs) s (items_by (front_by raw) offset ys)
   at_end s raw offset xs ys a b = rw (a, b, nothing (front_by raw) offset) sinks.all
 
-  -- an element is taken
+  -- The sink consumes an element.
   module _ (raw : Bool) (offset : List ℕ → ℕ) (more : Bool) (s u : S) (start end : ℕ) (xs ys zs : List ℕ) (c : ℕ)
       (e : Element)
       (is : xs ≡ c ∷ ys) (reads : front_by raw c ys ≡ one (e, zs)) (begins : start ≡ offset xs) (ends : end ≡ offset zs)
@@ -109,7 +109,7 @@ module _ {S : Type 0} (took : S → Item → Bool → S → Type 0) where
         → Runs took s (items_by (front_by raw) offset xs) u (items_by (front_by raw) offset zs)
     one_enough off = one_taken u _ (λ on. absurd (true≢false (sym on ∙ off))) (λ e. (refl, refl))
 
-  -- the first of some items are taken, and no more
+  -- If the sink stops at one of the items `found`, it consumes no items after them.
   pub takes_enough : (on : Bool) (s u : S) (found items : List Item) → Takes took s found on u → on ≡ false
       → Runs took s (found ++ items) u items
   takes_enough on s u found items takes off =
@@ -120,10 +120,10 @@ module _ {S : Type 0} (took : S → Item → Bool → S → Type 0) where
   takes_more on s u t found items left takes e runs =
       takes t items left (λ also. runs) (λ off. absurd (true≢false (sym e ∙ off)))
 
--- ---- what some sinks have taken
+-- ---- the results of the sinks
 
 module _ {S P : Type 0} (took : S → Item → Bool → S → Type 0) (inner : S → P) where
-  -- one that takes each item
+  -- A sink that consumes all items.
   pub folds_items : (R : P → Item → P → Type 0)
       → ((s t : S) (i : Item) (more : Bool) → took s i more t → (more ≡ true) × R (inner s) i (inner t))
       → {s t : S} {items left : List Item} → Runs took s items t left → FoldsTo R (inner s) items (inner t)
@@ -131,7 +131,7 @@ module _ {S P : Type 0} (took : S → Item → Bool → S → Type 0) (inner : S
   folds_items R each (sinks.more {u} took_one runs) = (inner u, (each _ _ _ _ took_one).1, folds_items R each runs)
   folds_items R each (sinks.enough took_one) = absurd (true≢false (sym (each _ _ _ _ took_one).0))
 
-  -- one that takes the errors
+  -- A sink that consumes all items and keeps the errors.
   pub folds_errors : (mode_of : S → Mode) (R : P → Error → P → Type 0)
       → ((s t : S) (i : Item) (more : Bool) → took s i more t → (more ≡ true) × (mode_of t ≡ mode_of s)
       × MatchOption (error_of (mode_of s) i.1) (inner t ≡ inner s) (λ error. R (inner s) (i.0, error) (inner t)))
@@ -153,7 +153,7 @@ module _ {S P : Type 0} (took : S → Item → Bool → S → Type 0) (inner : S
   folds_errors mode_of R each (sinks.enough took_one) = absurd (true≢false (sym (each _ _ _ _ took_one).0))
 
 module _ {S : Type 0} (took : S → Item → Bool → S → Type 0) where
-  -- one that takes one item
+  -- A sink that stops after one item.
   pub takes_item : (found : S → Option Item)
       → ((s t : S) (i : Item) (more : Bool) → took s i more t → (more ≡ false) × (found t ≡ Some i))
       → {s t : S} {items left : List Item} → found s ≡ None → Runs took s items t left → TakesFirst items (found t) left
@@ -161,7 +161,7 @@ module _ {S : Type 0} (took : S → Item → Bool → S → Type 0) where
   takes_item found each none (sinks.more took_one runs) = absurd (true≢false (each _ _ _ _ took_one).0)
   takes_item found each none (sinks.enough took_one) = rw (each _ _ _ _ took_one).1 refl
 
-  -- one that takes one error
+  -- A sink that stops after the first error.
   pub takes_error : (mode_of : S → Mode) (found : S → Option Error)
       → ((s t : S) (i : Item) (more : Bool) → took s i more t
       → MatchOption (error_of (mode_of s) i.1) ((more ≡ true) × (t ≡ s))

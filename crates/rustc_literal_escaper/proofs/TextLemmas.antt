@@ -1,4 +1,4 @@
--- The characters of a text, one by one.
+-- Reading the characters of a text one by one.
 use Rattle.std.proofs.Common.{◌≡◌, ◌≤◌, ℕ, [], ◌∷◌, length, length-append, Option, Some, None, MatchOption, ap, ◌∙◌}
 use Rattle.std.proofs.Common.{arith}
 use Rattle.std.specs.{Char.{encode_utf8}, Str.{chars, IsUtf8, Iter.{chars_rest, chars_steps}}}

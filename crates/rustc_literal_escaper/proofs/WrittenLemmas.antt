@@ -1,4 +1,4 @@
--- What is written of characters and bytes, read between double quotes.
+-- The escaped output, read back between double quotes.
 use Rattle.std.proofs.Common.{Bool, ◌≡◌, ℕ, suc, ◌<◌, ◌==◌, true, false, List, [], ◌∷◌, ◌++◌, length, map, Result, Ok}
 use Rattle.std.proofs.Common.{refl, sym, ap, ◌∙◌, arith, get_or, length-append, ◌+◌, subst, take}
 use Rattle.std.specs.Char.{is_ascii, IsScalar, Escape.{escape_ascii, escape_default}}
@@ -16,7 +16,7 @@ use Rattle.rustc_literal_escaper.specs.Written.{Grows, StandsFor, written_bytes,
 use Rattle.rustc_literal_escaper.specs.laws.Elements.{items-cons, nothing}
 use Rattle.rustc_literal_escaper.proofs.RoundTripLemmas.{IsSpelled, byte-spelled, char-spelled}
 
--- what each element passes
+-- If all elements pass a test, they pass a weaker test.
 pub all-weaker : (p q : ℕ → Bool) → ((c : ℕ) → p c ≡ true → q c ≡ true) → (cs : List ℕ) → list_all p cs ≡ true
     → list_all q cs ≡ true
 all-weaker p q weaker [] e = refl
@@ -26,7 +26,7 @@ pub is-ascii : (xs : List ℕ) → list_all is_ascii xs ≡ true → IsAscii xs
 is-ascii xs e = IsAscii-from_reads xs (length xs) (omega arith)
     (λ k l. ltb-true (get_or xs k 0) 128 (and_at (list_all is_ascii) is_ascii refl (λ x ys. refl) xs k 0 l e))
 
--- ---- what is written of a list: all of it is ASCII, and it stands for what each was
+-- ---- the output for a list is ASCII, and has the values of the list
 
 module _ {U : Type 0} (meaning : Element → Result U EscapeError) (written : ℕ → List ℕ) (unit : ℕ → U) where
   abbrev pub AreSpelled : List ℕ → Type 0
@@ -53,7 +53,7 @@ module _ {U : Type 0} (meaning : Element → Result U EscapeError) (written : �
   pub stands_for : (cs : List ℕ) → AreSpelled cs → StandsFor meaning (flat_map written cs) (map unit cs)
   stands_for cs all = grind (arith, common_steps, chars-IsAscii, is-ascii, all-ascii, read-all)
 
--- a text
+-- The output for a text.
 text-spelled : (cs : List ℕ) → all_scalars cs ≡ true → AreSpelled char_of escape_default (λ c. c) cs
 text-spelled [] e = tt
 text-spelled (c ∷ cs) e = let p = and_parts _ (all_scalars cs) e in (char-spelled c p.0, text-spelled cs p.1)
@@ -66,7 +66,7 @@ text-comes_back text is =
     stands_for char_of escape_default (λ c. c) (chars text) (text-spelled (chars text) (scalars-chars text is))
     ∙ ap (map Ok) (map-id (chars text))
 
--- bytes, in a byte string and in a C string
+-- The output for bytes, in a byte string and in a C string.
 bytes-spelled : (bytes : List ℕ) → ((i : ℕ) → slice_index bytes i < 256)
     → AreSpelled byte_of escape_ascii (λ b. b) bytes
 bytes-spelled [] small = tt
@@ -93,9 +93,9 @@ pub units-come_back : (bytes : List ℕ) → ((i : ℕ) → slice_index bytes i 
     → StandsFor unit_of (written_bytes bytes) (map unit_of_byte bytes)
 units-come_back bytes small none = stands_for unit_of escape_ascii unit_of_byte bytes (units-spelled bytes small none)
 
--- ---- writing, piece by piece
+-- ---- appending piece by piece
 
--- of `all` that is to be appended to `old`, `left` is left
+-- Holds if `now` is `old` with a part of `all` appended, and `left` is the rest of `all`.
 pub record Writing (all old now left : List ℕ) : Type 0 where
   pub grown : Grows old now
   pub whole : now ++ left ≡ old ++ all
@@ -103,7 +103,7 @@ pub record Writing (all old now left : List ℕ) : Type 0 where
 pub writing-start : (all old : List ℕ) → Writing all old old all
 writing-start all old = record { grown = ([], sym (append-nil old)); whole = refl }
 
--- it may be cut off again
+-- The end of the old text is a char boundary of the new text, so the appended part can be removed.
 pub boundary : {Z : Type 0} (old new : String Z) → Grows (string_bytes old) (string_bytes new)
     → IsCharBoundary (string_bytes new) (length (string_bytes old))
 boundary old new g =

@@ -1,12 +1,10 @@
--- The grammar of the text between the quotes of a literal: its elements, and the units, errors and
--- warnings that they make. There is one rule for each form, and no rule says how a text is read.
--- docs/ESCAPES.md explains the rules in words, and Meaning.antt says what an element stands for in
--- each kind of literal.
+-- The grammar of the contents of a literal, the text between its quotes: its elements, and the units, errors and
+-- warnings that they produce. It has one rule for each form, and describes no algorithm. docs/ESCAPES.md explains the
+-- rules in words, and Meaning.antt defines the value of an element in each kind of literal.
 --
--- Names in capitals are productions of the Rust Reference. `w` is the text of an element, and
--- `next` is all of the text after it, which is [] at the end of the literal. The Reference has no
--- text that is wrong. Here its parts are elements too, and the text of an error ends with the
--- character that shows it, or with the literal.
+-- Names in capitals are productions of the Rust Reference. `w` is the text of an element, and `next` is all of the text
+-- after it, which is [] at the end of the literal. The Reference does not describe invalid literals. Here, they consist
+-- of elements too: the text of an error ends with the offending character, or at the end of the literal.
 use Rattle.std.specs.Prelude.{◌≡◌, ◌↔◌, ◌<◌, ◌≤◌, ℕ, ◌+◌, ◌*◌, ◌==◌, ◌||◌, Bool, true, false, if◌then◌else◌, List, []}
 use Rattle.std.specs.Prelude.{◌∷◌, ◌++◌, length, fold, filter, codes, Result, Ok, Err}
 use Rattle.std.specs.Char.{digit_value, is_digit, is_whitespace}
@@ -30,21 +28,21 @@ use Rattle.rustc_literal_escaper.specs.declared.error.EscapeError.TheVariants.{O
 use Rattle.rustc_literal_escaper.specs.declared.error.EscapeError.TheVariants.{UnskippedWhitespaceWarning}
 use Rattle.rustc_literal_escaper.specs.declared.error.EscapeError.TheVariants.{MultipleSkippedLinesWarning}
 
--- a text as a list of characters
+-- A text as a list of characters is a `Chars`.
 abbrev pub Chars : Type 0
 Chars = List ℕ
 
--- the length of these characters in bytes, in UTF-8
+-- Returns the length of the characters in bytes, in UTF-8.
 abbrev pub bytes : Chars → ℕ
 bytes w = length (encode_utf8_all w)
 
--- whether the character is in the list
+-- Whether the character is in the list.
 abbrev pub is_among : Chars → ℕ → Bool
 is_among ds c = list_any (λ d. c == d) ds
 
 -- ---- escapes
 
--- HEX_DIGIT
+-- Whether the character is a hexadecimal digit (HEX_DIGIT).
 abbrev pub is_hex : ℕ → Bool
 is_hex c = is_digit c 16
 
@@ -54,7 +52,7 @@ is_digit_or_underscore c = c == byte "_" || is_hex c
 abbrev pub hex_value : Chars → ℕ
 hex_value digits = fold (λ value digit. value * 16 + digit_value digit) 0 digits
 
--- digits, and underscores anywhere after the first: `1F_600`, `1__`, or nothing
+-- Holds if the text is empty, or is a digit followed by digits and underscores: `1F_600`, `1__`.
 pub data AreDigits : Chars → Type 0 where
   none : AreDigits []
   some : {d : ℕ} {w : Chars}
@@ -62,7 +60,7 @@ pub data AreDigits : Chars → Type 0 where
       → list_all is_digit_or_underscore w ≡ true
       → AreDigits (d ∷ w)
 
--- w is an escape without its backslash, if `next` follows it
+-- Holds if w is an escape without its backslash, when `next` follows it.
 pub data IsEscapeBefore (next : Chars) : Element → Chars → Type 0 where
   -- ASCII_ESCAPE, BYTE_ESCAPE: `\0`, `\t`, `\n`, `\r`, `\\`
   nul : IsEscapeBefore next (Byte 0) (codes "0")
@@ -84,7 +82,7 @@ pub data IsEscapeBefore (next : Chars) : Element → Chars → Type 0 where
       → length (filter is_hex (d ∷ w)) ≤ 6
       → IsEscapeBefore next (Unicode (hex_value (filter is_hex (d ∷ w))))
       (codes "u{" ++ d ∷ w ++ codes "}")
-  -- errors: a backslash at the end, and one before any other character
+  -- Errors: a backslash at the end, and a backslash before any other character.
   lone : next ≡ [] → IsEscapeBefore next (Diagnostic LoneSlash) []
   invalid : {c : ℕ}
       → is_among (codes "0tnr\\'\"xu") c ≡ false
@@ -127,7 +125,7 @@ pub data IsEscapeBefore (next : Chars) : Element → Chars → Type 0 where
 
 -- ---- elements
 
--- w is an element if `next` follows it, where the characters of `special` have to be escaped
+-- Holds if w is an element, when `next` follows it. The characters of `special` must be escaped.
 pub data IsElementBefore (special next : Chars) : Element → Chars → Type 0 where
   plain : {c : ℕ}
       → is_among (codes "\\\r" ++ special) c ≡ false
@@ -140,24 +138,24 @@ pub data IsElementBefore (special next : Chars) : Element → Chars → Type 0 w
       → IsElementBefore special next (Diagnostic EscapeOnlyChar) (c ∷ [])
   bare : IsElementBefore special next (Diagnostic BareCarriageReturn) (codes "\r")
 
--- the same in a raw string, where each character is an element
+-- Relates an element of a raw string to its character. Each character is an element.
 pub data IsRawElement : Element → ℕ → Type 0 where
   plain : {c : ℕ} → (c == byte "\r") ≡ false → IsRawElement (Plain c) c
   bare : IsRawElement (Diagnostic BareCarriageReturnInRawString) (byte "\r")
 
 -- ---- between single quotes
 
--- an error or a warning, and its range of bytes
+-- An `Error` is an error or a warning with its byte range.
 abbrev pub Error : Type 0
 Error = Range ℕ × EscapeError
 
--- the range of w, the front of a text
+-- Returns the range of w, if it is at the start of a text.
 abbrev pub front_range : Chars → Range ℕ
 front_range w = record { start = 0; end = bytes w }
 
--- what a text stands for: CHAR_LITERAL or BYTE_LITERAL without its quotes has one element, whose
--- meaning is its unit. Otherwise it has one error, that of its first element, or else that more
--- follows
+-- Relates the contents of a literal with single quotes to its value or its error. If the contents are one element with
+-- a value (CHAR_LITERAL or BYTE_LITERAL without the quotes), that is the value of the literal. Otherwise there is one
+-- error: there is no element, the first element has an error, or more text follows it.
 pub data IsSingle {U : Type 0} (meaning : Element → Result U EscapeError) : Chars → Result U Error
     → Type 0 where
   unit : {element : Element} {w : Chars} {u : U}
@@ -176,44 +174,44 @@ pub data IsSingle {U : Type 0} (meaning : Element → Result U EscapeError) : Ch
 
 -- ---- between double quotes
 
--- an element and its range of bytes
+-- An `Item` is an element with its byte range.
 abbrev pub Item : Type 0
 Item = Range ℕ × Element
 
--- the item of w, which begins at the offset `from`
+-- Returns the item of w, which starts at the offset `from`.
 abbrev pub item : ℕ → Element → Chars → Item
 item from element w = (record { start = from; end = from + bytes w }, element)
 
 abbrev pub is_newline : ℕ → Bool
 is_newline c = c == 10
 
--- the white space that STRING_CONTINUE skips: newlines, carriage returns, tabs and spaces
+-- Whether the character is whitespace that STRING_CONTINUE skips: a newline, carriage return, tab or space.
 abbrev pub is_passed_over : ℕ → Bool
 is_passed_over c = c == 10 || c == 13 || c == 9 || c == 32
 
--- the character is in the class; the end of the text is in none
+-- Whether the next character is in the class. This is `false` at the end of the text.
 abbrev pub next_is : (ℕ → Bool) → Chars → Bool
 next_is p [] = false
 next_is p (c ∷ s) = p c
 
--- a warning if the skipped white space has another newline. It covers everything that is skipped
+-- Returns a warning if the skipped whitespace contains another newline. The warning covers all of the skipped text.
 abbrev pub lines_warning : ℕ → Chars → List Item
 lines_warning from space =
     if list_any is_newline space then item from (Diagnostic MultipleSkippedLinesWarning)
     (codes "\\\n" ++ space) ∷ [] else []
 
--- a warning if other white space follows. It covers the first character of that too
+-- Returns a warning if other whitespace follows. The warning also covers the first character of that whitespace.
 abbrev pub space_warning : ℕ → Chars → Chars → List Item
 space_warning from space [] = []
 space_warning from space (c ∷ next) =
     if is_whitespace c then item from (Diagnostic UnskippedWhitespaceWarning)
     (codes "\\\n" ++ space ++ c ∷ []) ∷ [] else []
 
--- the items of a text that begins at the offset `from`. The text is STRING_LITERAL,
--- BYTE_STRING_LITERAL or C_STRING_LITERAL without its quotes, or that of a raw string
+-- Relates the contents of a string, which start at the offset `from`, to their items. The contents are STRING_LITERAL,
+-- BYTE_STRING_LITERAL or C_STRING_LITERAL without the quotes, or a raw string without its quotes.
 pub data AreItems : (raw : Bool) → (from : ℕ) → Chars → List Item → Type 0 where
   nothing : {raw : Bool} {from : ℕ} → AreItems raw from [] []
-  -- any element but a backslash before a newline
+  -- Any element except a backslash before a newline.
   element : {from : ℕ} {next : Chars} {element : Element} {w : Chars} {items : List Item}
       → IsElementBefore (codes "\"") next element w
       → (w ≡ codes "\\\n" → ⊥)
@@ -233,7 +231,7 @@ pub data AreItems : (raw : Bool) → (from : ℕ) → Chars → List Item → Ty
 
 -- ---- only one
 
--- if the premise holds, the answer is allowed and no other is
+-- An answer, with a proof that exactly this answer is allowed if the premise holds.
 pub record TheOnly {A : Type 0} (premise : Type 0) (Allows : A → Type 0) : Type 0 where
   pub answer : A
   pub only : premise → (other : A) → Allows other ↔ (other ≡ answer)

@@ -1,4 +1,4 @@
--- What is promised of the items of a text, and what an iterator over them does.
+-- The guarantees for the items of a text, and the contract of an iterator over them.
 use Rattle.std.specs.Prelude.{◌≡◌, ℕ, ◌<◌, ◌+◌, ◌==◌, ◌&&◌, not, Bool, true, false, List, [], ◌∷◌, ◌++◌, length, map}
 use Rattle.std.specs.Prelude.{filter, All, IsCharBoundary, Option, Some, None}
 use Rattle.std.specs.List.{list_all}
@@ -10,16 +10,16 @@ use Rattle.rustc_literal_escaper.specs.Answers.{items_of}
 use Rattle.rustc_literal_escaper.specs.Grammar.{Item, is_passed_over}
 use Rattle.rustc_literal_escaper.specs.Meaning.{is_fatal}
 
--- what `next` does if the iterator has this list of items left: it takes the first, or returns None
--- if there is none
+-- Holds if `next`, called when the iterator has this list of items left, returns the first item and leaves the rest, or
+-- returns `None` if there is no item.
 abbrev pub TakesFirst : {A : Type 0} → List A → Option A → List A → Type 0
 TakesFirst s None t = (s ≡ []) × (t ≡ [])
 TakesFirst s (Some item) t = s ≡ item ∷ t
 
 -- ---- plain text
 
--- the characters that stand for themselves: in a raw string all but a carriage return, otherwise
--- all but a backslash, a double quote and a carriage return
+-- Whether the character is plain: in a raw string, any character except a carriage return; otherwise, any character
+-- except a backslash, a double quote and a carriage return.
 abbrev pub is_plain : Bool → ℕ → Bool
 is_plain false c = not (c == byte "\\") && (not (c == byte "\"") && not (c == 13))
 is_plain true c = not (c == 13)
@@ -27,15 +27,15 @@ is_plain true c = not (c == 13)
 abbrev pub elements_in : List Item → List Element
 elements_in items = map (λ item. item.1) items
 
--- the elements of a text of such characters are these characters
+-- Holds if the elements of the text are its characters, provided that all of them are plain.
 abbrev pub StandsForItself : Bool → List ℕ → Type 0
 StandsForItself raw text =
     list_all (is_plain raw) (chars text) ≡ true
     → elements_in (items_of raw text) ≡ map Plain (chars text)
 
--- ---- places
+-- ---- ranges
 
--- the range of an item is not empty, and begins and ends between characters
+-- Holds if the range of an item is not empty, and both ends are char boundaries.
 pub record IsPlaced (text : List ℕ) (item : Item) : Type 0 where
   pub not_empty : item.0.start < item.0.end
   pub start : IsCharBoundary text item.0.start
@@ -46,21 +46,20 @@ ArePlaced text items = All (IsPlaced text) items
 
 -- ---- a text is rebuilt from the ranges of its items
 
--- skipped line ends, each of which is a backslash, a newline, and the white space that is skipped
--- after it
+-- Returns skipped line endings: for each list of whitespace, a backslash, a newline, and that whitespace.
 abbrev pub line_ends : List (List ℕ) → List ℕ
 line_ends [] = []
 line_ends (space ∷ spaces) = byte "\\" ∷ 10 ∷ (space ++ line_ends spaces)
 
--- any number of skipped line ends, also none; a raw string has none
+-- Holds if the bytes are any number of skipped line endings, possibly none. A raw string has none.
 abbrev pub AreLineEnds : Bool → List ℕ → Type 0
 AreLineEnds true bytes = bytes ≡ []
 AreLineEnds false bytes =
     (spaces : List (List ℕ)) × (list_all (list_all is_passed_over) spaces ≡ true)
     × (bytes ≡ line_ends spaces)
 
--- the rest of a text from the offset `from` on consists of skipped line ends, the bytes of this
--- range, and `rest`
+-- Holds if the rest of a text, from the offset `from` on, consists of skipped line endings, the bytes of this range,
+-- and `rest`.
 pub record IsNext (raw : Bool) (from : ℕ) (left : List ℕ) (place : Range ℕ) (rest : List ℕ) : Type 0
   where
     pub skipped : List ℕ
@@ -70,15 +69,14 @@ pub record IsNext (raw : Bool) (from : ℕ) (left : List ℕ) (place : Range ℕ
     pub end : place.end ≡ place.start + length covered
     pub whole : left ≡ skipped ++ (covered ++ rest)
 
--- the rest consists of the bytes of these ranges, in order, with nothing but skipped line ends
--- around them
+-- Holds if the rest of a text consists of the bytes of these ranges, in order, with only skipped line endings around
+-- them.
 abbrev pub IsMadeOf : Bool → ℕ → List ℕ → List (Range ℕ) → Type 0
 IsMadeOf raw from left [] = AreLineEnds raw left
 IsMadeOf raw from left (place ∷ places) =
     (rest : List ℕ) × IsNext raw from left place rest × IsMadeOf raw place.end rest places
 
--- whether an element is a warning: it reports a skipped line end, and is not part of what the text
--- stands for
+-- Whether the element is a warning. A warning reports a skipped line ending, and is not part of the value.
 abbrev pub is_warning : Element → Bool
 is_warning (Diagnostic error) = not (is_fatal error)
 is_warning element = false
@@ -89,6 +87,6 @@ is_unit item = not (is_warning item.1)
 abbrev pub places_of : List Item → List (Range ℕ)
 places_of items = map (λ item. item.0) (filter is_unit items)
 
--- a text consists of the ranges of its items that are not warnings, and of skipped line ends
+-- Holds if the text consists of the ranges of its items that are not warnings, and of skipped line endings.
 abbrev pub IsRebuilt : Bool → List ℕ → Type 0
 IsRebuilt raw text = IsMadeOf raw 0 text (places_of (items_of raw text))

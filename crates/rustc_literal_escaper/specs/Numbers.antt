@@ -1,4 +1,4 @@
--- The numbers of errors, for other languages and for tables, and the sentence about each.
+-- The numbers of errors, for the C ABI and for tables, and their messages.
 use Rattle.std.specs.Prelude.{ℕ, ◌-◌, List, [], get_or, map}
 use Rattle.rustc_literal_escaper.specs.declared.error.EscapeError.{EscapeError}
 use Rattle.rustc_literal_escaper.specs.declared.error.EscapeError.TheVariants.{ZeroChars, MoreThanOneChar, LoneSlash}
@@ -20,7 +20,7 @@ use Rattle.rustc_literal_escaper.specs.declared.error.EscapeError.TheVariants.{N
 use Rattle.rustc_literal_escaper.specs.declared.error.EscapeError.TheVariants.{MultipleSkippedLinesWarning}
 use Rattle.rustc_literal_escaper.specs.declared.error.TheConstants.{ERRORS}
 
--- errors are numbered in order, from 1 on. A number never changes: a new error gets a new one
+-- Returns the number of an error. Numbers start at 1 and never change: a new error gets a new number.
 abbrev pub error_number : EscapeError → ℕ
 error_number ZeroChars = 1
 error_number MoreThanOneChar = 2
@@ -46,6 +46,6 @@ error_number NulInCStr = 21
 error_number UnskippedWhitespaceWarning = 22
 error_number MultipleSkippedLinesWarning = 23
 
--- the sentence about an error
-abbrev pub error_sentence : EscapeError → List ℕ
-error_sentence error = get_or (map (λ words. words.now) ERRORS) (error_number error - 1) []
+-- Returns the message of an error.
+abbrev pub error_message : EscapeError → List ℕ
+error_message error = get_or (map (λ words. words.now) ERRORS) (error_number error - 1) []

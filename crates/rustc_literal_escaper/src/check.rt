@@ -20,7 +20,9 @@ use std::ops::Range;
 /// Calls `error_callback` with the byte range of each error and warning in a literal, and the error.
 ///
 /// `src` is the text between the quotes, and `mode` is the kind of the literal. The calls are in text order. Between
-/// single quotes there is at most one, and its range starts at 0.
+/// single quotes there is at most one error, and its range starts at 0.
+///
+/// # Examples
 ///
 /// ```
 /// use rustc_literal_escaper::{EscapeError, Mode, check_for_errors};
@@ -66,7 +68,7 @@ fn each_single_error<F: FnMut(Range<usize>, EscapeError)>(src: &str, mode: Mode,
 
 /// Calls `callback` with each error and warning in a string.
 ///
-/// It is inlined into each arm of its caller, where the mode is a constant.
+/// It is inlined into each arm of its caller, so that the mode is a constant there.
 #[inline(always)]
 fn each_error<F: FnMut(Range<usize>, EscapeError)>(src: &str, mode: Mode, callback: F)
     requires callable { F.IsAlwaysCallable callback }
@@ -87,7 +89,7 @@ pub(crate) fn is_raw(mode: Mode) -> bool
     matches!(mode, Mode::RawStr | Mode::RawByteStr | Mode::RawCStr)
 }
 
-/// A sink that calls back with the error or warning of each element, if it has one in a literal of this kind.
+/// A sink that passes the error or warning of each element, if it has one in a literal of this kind, to a callback.
 #[derive(Drop)]
 struct Errors<F> {
     mode: Mode,

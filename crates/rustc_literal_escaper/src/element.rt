@@ -6,17 +6,17 @@ use crate::error::EscapeError;
 use crate::mode::Mode;
 use crate::unit::{MixedUnit, NonZeroChar};
 
-/// An element of a literal, as it is written.
+/// An element of a literal, as it is written in the source.
 ///
 /// Strings, byte strings and C strings have the same elements, but the value of an element depends on the kind of the
 /// literal.
 #[derive(Clone, Copy, Debug, PartialEq, Eq)]
 pub enum Element {
-    /// A character that is not escaped.
+    /// An unescaped character.
     Plain(char),
     /// A byte, written as a short escape like `\n`, or with two digits like `\x41`.
     Byte(u8),
-    /// A number of at most six digits, like `\u{1F600}`. It is not always the number of a character.
+    /// A number of at most six digits, like `\u{1F600}`. It need not be a valid code point.
     Unicode(u32),
     /// An error in every kind of literal, or a warning.
     Diagnostic(EscapeError),
@@ -86,10 +86,10 @@ impl Element {
     }
 }
 
-/// Returns the character with this number.
+/// Returns the character with this code point.
 ///
-/// It stays a call, which gets only the number. When it is inlined, `rustc` compares the whole element, with the
-/// padding below the number. That changes no answer, but valgrind warns about it.
+/// It is not inlined, so that the call passes only the number. When it is inlined, `rustc` compares the whole element,
+/// including the padding below the number. That does not change the result, but valgrind warns about it.
 #[inline(never)]
 fn scalar(number: u32) -> Result<char, EscapeError>
     ensures { result ≡ scalar_of number }

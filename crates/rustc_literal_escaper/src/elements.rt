@@ -39,10 +39,10 @@ pub(crate) trait Sink {
         ensures took { took self.old (range, element) result self.new };
 }
 
-/// Passes the elements of a text to `sink` until it wants no more.
+/// Passes the elements of a text to `sink` until it returns `false`.
 ///
-/// A skipped line end can have two warnings. If the sink stops after the first, this returns the offset of the
-/// backslash, which the next call takes as `line` to continue with the second.
+/// A skipped line ending can have two warnings. If the sink stops after the first, this function returns the offset of
+/// the backslash. Pass that offset as `line` to the next call, which continues with the second warning.
 #[inline(always)]
 pub(crate) fn each<T: Text, S: Sink>(
     rest: &mut T,
@@ -66,7 +66,7 @@ pub(crate) fn each<T: Text, S: Sink>(
     each_escaped(rest, sink)
 }
 
-/// Does the work of [`each`] for a string that is not raw.
+/// Implements [`each`] for a string that is not raw.
 #[inline(always)]
 fn each_escaped<T: Text, S: Sink>(rest: &mut T, sink: &mut S) -> Option<usize>
     requires ready { S.ready sink.old }
@@ -103,7 +103,7 @@ fn each_escaped<T: Text, S: Sink>(rest: &mut T, sink: &mut S) -> Option<usize>
     }
 }
 
-/// Does the work of [`each`] for a raw string.
+/// Implements [`each`] for a raw string.
 #[inline(always)]
 fn each_raw<T: Text, S: Sink>(rest: &mut T, sink: &mut S)
     requires ready { S.ready sink.old }
@@ -123,7 +123,7 @@ fn each_raw<T: Text, S: Sink>(rest: &mut T, sink: &mut S)
     }
 }
 
-/// Passes the second warning of a skipped line end to `sink`, if the last call stopped before it. Returns whether
+/// Passes the second warning of a skipped line ending to `sink` if the last call stopped before it. Returns whether
 /// `sink` wants more.
 #[inline(always)]
 fn warn_of_line<T: Text, S: Sink>(rest: &T, line: Option<usize>, sink: &mut S) -> bool
@@ -190,7 +190,7 @@ fn skip_newline<T: Text>(rest: &mut T) -> bool
     newline
 }
 
-/// Skips the whitespace that a backslash at the end of a line skips. Returns whether it has a newline.
+/// Skips the whitespace that a backslash at the end of a line skips. Returns whether it contains a newline.
 #[inline(always)]
 #[tactic(auto, using(crate::proofs::PlaceLemmas::place_lemmas))]
 fn pass_over<T: Text>(rest: &mut T) -> bool
@@ -255,7 +255,7 @@ pub struct ElementsOf<T: Text> {
     rest: T,
     /// Whether the string is raw.
     raw: bool,
-    /// The backslash of the line end that was just skipped, if its second warning is still to come.
+    /// The offset of the backslash of the skipped line ending whose second warning has not been reported yet.
     line: Option<usize>,
 }
 

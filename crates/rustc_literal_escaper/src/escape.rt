@@ -75,8 +75,7 @@ pub(crate) fn short(c: char) -> Element
     if code < 128 { SHORT[code] } else { NONE }
 }
 
-/// The value of each hexadecimal digit in ASCII, and 16 for each other character. A table, since whether a digit or a
-/// letter comes next is hard to predict, too.
+/// The value of each ASCII character as a hexadecimal digit, or 16. A table costs less than a branch here too.
 static DIGITS: [u8; 128] = [
     16, 16, 16, 16, 16, 16, 16, 16, 16, 16, 16, 16, 16, 16, 16, 16, 16, 16, 16, 16, 16, 16, 16, 16,
     16, 16, 16, 16, 16, 16, 16, 16, 16, 16, 16, 16, 16, 16, 16, 16, 16, 16, 16, 16, 16, 16, 16, 16,
@@ -198,7 +197,7 @@ fn digits<T: Text>(first: u32, rest: &mut T) -> Element
     }
 }
 
-/// Returns the number with `count` digits. Its value is `value` unless it has too many digits.
+/// Returns the element of a number with `count` digits and this value, or an error if it has too many digits.
 fn number(value: u32, count: usize) -> Element
     ensures { result ≡ if nat_le count MOST_DIGITS then Element.Unicode value
         else Element.Diagnostic EscapeError.OverlongUnicodeEscape }
@@ -210,7 +209,7 @@ fn number(value: u32, count: usize) -> Element
     }
 }
 
-/// Returns the value of `count` digits and one more. It does not change once there are as many digits as allowed.
+/// Returns the value of `count` digits and one more. It stays the same after the maximum number of digits.
 fn with_digit(value: u32, count: usize, digit: u32) -> u32
     requires value { value < 16 ^ min count MOST_DIGITS }
     requires digit { digit < 16 }

@@ -16,9 +16,11 @@ use std::iter::Iterator;
 use std::marker::Model;
 use std::ops::Range;
 
-/// An iterator over the errors and warnings in a literal, each with its byte range.
+/// An iterator over the errors and warnings in a literal, with their byte ranges.
 ///
-/// Its items are the calls of [`check_for_errors`](crate::check_for_errors), in the same order.
+/// It returns the arguments of the calls that [`check_for_errors`](crate::check_for_errors) makes, in the same order.
+///
+/// # Examples
 ///
 /// ```ignore
 /// for (range, error) in EscapeErrors::new(r"a\q", Mode::Str) {
@@ -27,7 +29,7 @@ use std::ops::Range;
 /// ```
 #[derive(Drop)]
 pub struct EscapeErrors<'a> {
-    /// The error of a character or byte literal, until it is returned.
+    /// The error of a character or byte literal, until it has been returned.
     alone: Option<(Range<usize>, EscapeError)>,
     elements: Elements<'a>,
     mode: Mode,
@@ -45,8 +47,9 @@ impl<'a> Model for EscapeErrors<'a> {
 }
 
 impl<'a> EscapeErrors<'a> {
-    /// Returns an iterator over the errors and warnings in a literal of this kind. `src` is the text between the
-    /// quotes.
+    /// Returns an iterator over the errors and warnings in a literal of this kind.
+    ///
+    /// `src` is the text between the quotes.
     pub fn new(src: &'a str, mode: Mode) -> EscapeErrors<'a>
         ensures { result ≡ errors_of mode src.now }
     {

@@ -1,8 +1,8 @@
 //! Reads Rust literals: their values, escapes and errors.
 //!
-//! To the lexer, `"\q"` is one token. This crate reads the text between the quotes. It returns the value of a literal
-//! unit by unit, and reports each error with its byte range, without allocating. It also does the reverse, and
-//! writes texts and bytes as the contents of string literals.
+//! The lexer reads `"\q"` as one token. This crate reads the text between the quotes: it returns the value of a literal
+//! unit by unit, and reports each error with its byte range, without allocating. It also does the reverse, and writes
+//! texts and bytes as the contents of string literals.
 #![tactic(auto)]
 
 mod check;

@@ -1,4 +1,4 @@
-//! Skips simple characters at the start of a text, 32 bytes at a time. They are an error in no kind of string.
+//! Skips simple characters at the start of a text, 32 bytes at a time. They are valid in every kind of string.
 ghost use Rattle.std.specs.Prelude.{◌≡◌, ◌≤◌, true, false, length, map};
 ghost use Rattle.std.specs.List.{prefix_len};
 ghost use Rattle.std.specs.Simd.Lanes.{mask_l};
@@ -33,7 +33,7 @@ fn past_simple(rest: &str, raw: bool) -> &str
     &rest[end..]
 }
 
-/// Returns a number of simple bytes at the start. Searches 32 bytes at a time.
+/// Returns the length of a prefix of simple bytes. Searches 32 bytes at a time.
 #[inline(never)]
 #[tactic(auto, using(crate::proofs::LaneLemmas::run_through))]
 fn simple_end(bytes: &[u8], raw: bool) -> usize
@@ -51,7 +51,7 @@ fn simple_end(bytes: &[u8], raw: bool) -> usize
     end
 }
 
-/// Returns a mask. Bit k is set if lane k is not simple.
+/// Returns a mask: bit k is set if lane k is not simple.
 #[inline(always)]
 fn stops(v: u8x32, raw: bool) -> u64
     ensures { result ≡ mask_l (map (spec.is_stop raw) v) }
@@ -59,7 +59,7 @@ fn stops(v: u8x32, raw: bool) -> u64
     if raw { raw_stops(v) } else { escaped_stops(v) }
 }
 
-/// Returns a mask for a raw string. Bit k is set if lane k is U+0000, a carriage return or outside ASCII.
+/// Returns the mask for a raw string: bit k is set if lane k is 0, a carriage return or not ASCII.
 #[inline(always)]
 fn raw_stops(v: u8x32) -> u64
     ensures { result ≡ mask_l (map (spec.is_stop true) v) }
@@ -68,8 +68,7 @@ fn raw_stops(v: u8x32) -> u64
     (from_1.simd_ge(u8x32::splat(127)) | v.simd_eq(u8x32::splat(b'\r'))).to_bitmask()
 }
 
-/// Returns a mask for a string that may have escapes. Bit k is set if lane k is one of these, a backslash or a
-/// double quote.
+/// Returns the mask for a string that is not raw: bit k is set also if lane k is a backslash or a double quote.
 #[inline(always)]
 fn escaped_stops(v: u8x32) -> u64
     ensures { result ≡ mask_l (map (spec.is_stop false) v) }

@@ -14,13 +14,14 @@ use std::ops::Range;
 
 /// Calls `callback` with each character of a string, or an error or warning, and its byte range.
 ///
-/// `src` is the text between the quotes. The calls are in text order, and both ends of a range are character
-/// boundaries.
+/// `src` is the text between the quotes. The calls are in text order, and both ends of a range are char boundaries.
 ///
-/// A backslash at the end of a line has no value, so it has no call. Two calls can warn about the whitespace after it.
-/// Their ranges start at the backslash.
+/// A backslash at the end of a line adds nothing to the value, so there is no call with a character for it. There can
+/// be two calls with warnings about the whitespace after it. Their ranges start at the backslash.
 ///
-/// Rust Reference, [String literals](https://doc.rust-lang.org/reference/tokens.html#string-literals).
+/// See [String literals](https://doc.rust-lang.org/reference/tokens.html#string-literals) in the Rust Reference.
+///
+/// # Examples
 ///
 /// ```
 /// use rustc_literal_escaper::unescape_str;
@@ -39,9 +40,12 @@ pub fn unescape_str<F: FnMut(Range<usize>, Result<char, EscapeError>)>(src: &str
 
 /// Calls `callback` with each byte of a byte string, or an error or warning, and its byte range.
 ///
-/// It calls in the same way as [`unescape_str`].
+/// The calls are like the calls of [`unescape_str`].
 ///
-/// Rust Reference, [Byte string literals](https://doc.rust-lang.org/reference/tokens.html#byte-string-literals).
+/// See [Byte string literals](https://doc.rust-lang.org/reference/tokens.html#byte-string-literals) in the Rust
+/// Reference.
+///
+/// # Examples
 ///
 /// ```
 /// use rustc_literal_escaper::unescape_byte_str;
@@ -60,9 +64,9 @@ pub fn unescape_byte_str<F: FnMut(Range<usize>, Result<u8, EscapeError>)>(src: &
 
 /// Calls `callback` with each unit of a C string, or an error or warning, and its byte range.
 ///
-/// It calls in the same way as [`unescape_str`].
+/// The calls are like the calls of [`unescape_str`].
 ///
-/// Rust Reference, [C string literals](https://doc.rust-lang.org/reference/tokens.html#c-string-literals).
+/// See [C string literals](https://doc.rust-lang.org/reference/tokens.html#c-string-literals) in the Rust Reference.
 pub fn unescape_c_str<F: FnMut(Range<usize>, Result<MixedUnit, EscapeError>)>(
     src: &str,
     callback: F,
@@ -78,7 +82,10 @@ pub fn unescape_c_str<F: FnMut(Range<usize>, Result<MixedUnit, EscapeError>)>(
 ///
 /// A raw string has no escapes. Only a carriage return is an error.
 ///
-/// Rust Reference, [Raw string literals](https://doc.rust-lang.org/reference/tokens.html#raw-string-literals).
+/// See [Raw string literals](https://doc.rust-lang.org/reference/tokens.html#raw-string-literals) in the Rust
+/// Reference.
+///
+/// # Examples
 ///
 /// ```
 /// use rustc_literal_escaper::check_raw_str;
@@ -98,10 +105,12 @@ pub fn check_raw_str<F: FnMut(Range<usize>, Result<char, EscapeError>)>(src: &st
 
 /// Calls `callback` with each byte of a raw byte string, or an error, and its byte range.
 ///
-/// A carriage return or a character outside ASCII is an error.
+/// A carriage return or a non-ASCII character is an error.
 ///
-/// Rust Reference, [Raw byte string
-/// literals](https://doc.rust-lang.org/reference/tokens.html#raw-byte-string-literals).
+/// See [Raw byte string literals](https://doc.rust-lang.org/reference/tokens.html#raw-byte-string-literals) in the Rust
+/// Reference.
+///
+/// # Examples
 ///
 /// ```
 /// use rustc_literal_escaper::{EscapeError, check_raw_byte_str};
@@ -123,7 +132,8 @@ pub fn check_raw_byte_str<F: FnMut(Range<usize>, Result<u8, EscapeError>)>(src: 
 ///
 /// A carriage return or U+0000 is an error.
 ///
-/// Rust Reference, [Raw C string literals](https://doc.rust-lang.org/reference/tokens.html#raw-c-string-literals).
+/// See [Raw C string literals](https://doc.rust-lang.org/reference/tokens.html#raw-c-string-literals) in the Rust
+/// Reference.
 #[inline]
 pub fn check_raw_c_str<F: FnMut(Range<usize>, Result<NonZeroChar, EscapeError>)>(
     src: &str,
@@ -136,7 +146,7 @@ pub fn check_raw_c_str<F: FnMut(Range<usize>, Result<NonZeroChar, EscapeError>)>
     each_unit::<AsRawUnit, F>(src, true, callback);
 }
 
-/// The value of elements in one kind of string.
+/// The values of elements in one kind of string.
 pub(crate) trait Meaning {
     ghost use Rattle.std.specs.Prelude.{◌≡◌, Result};
     ghost use Rattle.rustc_literal_escaper.specs.declared.element.Element.{Element};
@@ -151,7 +161,7 @@ pub(crate) trait Meaning {
         ensures { result ≡ meaning element };
 }
 
-/// The value in strings: characters.
+/// The values in strings: characters.
 pub(crate) struct AsChar;
 
 impl Meaning for AsChar {
@@ -167,7 +177,7 @@ impl Meaning for AsChar {
     }
 }
 
-/// The value in byte strings and raw byte strings: bytes.
+/// The values in byte strings and raw byte strings: bytes.
 pub(crate) struct AsByte;
 
 impl Meaning for AsByte {
@@ -183,7 +193,7 @@ impl Meaning for AsByte {
     }
 }
 
-/// The value in C strings: characters and bytes.
+/// The values in C strings: characters and bytes.
 struct AsMixedUnit;
 
 impl Meaning for AsMixedUnit {
@@ -199,7 +209,7 @@ impl Meaning for AsMixedUnit {
     }
 }
 
-/// The value in raw C strings: characters other than U+0000.
+/// The values in raw C strings: characters other than U+0000.
 struct AsRawUnit;
 
 impl Meaning for AsRawUnit {
@@ -233,7 +243,7 @@ fn each_unit<M: Meaning, F: FnMut(Range<usize>, Result<M::Meant, EscapeError>)>(
     each(&mut Plain::new(src), raw, None, &mut units);
 }
 
-/// A sink that calls back with the value of each element.
+/// A sink that passes the value of each element to a callback.
 #[derive(Drop)]
 struct Units<M, F> {
     callback: F,

@@ -1,4 +1,4 @@
-//! How the characters of a text are read.
+//! Texts that are read character by character.
 ghost use Rattle.std.specs.Prelude.{◌≡◌, ◌≤◌, length};
 ghost use Rattle.std.specs.Str.{chars};
 
@@ -12,7 +12,7 @@ pub trait Text: Drop {
     /// The remaining characters.
     ghost left: { Self → List ℕ };
 
-    /// The byte offset at which these characters remain.
+    /// The byte offset at which only these characters are left.
     ghost offset_of: { Self → List ℕ → ℕ };
 
     /// Returns the next character and moves past it.
@@ -30,7 +30,7 @@ pub trait Text: Drop {
         ensures { result ≡ self.now };
 }
 
-/// A text whose characters are read as they are.
+/// A text whose characters are read without changes.
 #[derive(Drop)]
 pub struct Plain<'a> {
     /// The length of the whole text in bytes.

@@ -22,7 +22,7 @@ const ROWS: [Row; 28] = [
     ("printf 'fn a' | NO_COLOR=1 $P --color=always", "\x1b[35mfn\x1b[0m a", "", 0),
     (r"printf '// \033[0m\000' | $P", "// \u{241b}[0m\u{2400}", "", 0),
     (r"printf '// \033[0m' | $P --raw", "// \x1b[0m", "", 0),
-    ("printf '##a' | $P --edition 2024", "## [<- these marks are reserved for strings to come]a", "", 0),
+    ("printf '##a' | $P --edition 2024", "## [<- reserved syntax: guarded string]a", "", 0),
     ("printf '#\"a\"' | $P --edition 2021 --color always", "#\x1b[32m\"a\"\x1b[0m", "", 0),
     ("printf a | $P --html | tail -n 3", "a</pre>\n</body>\n</html>\n", "", 0),
     ("$P --version <&-", concat!("highlight ", env!("CARGO_PKG_VERSION"), "\n"), "", 0),

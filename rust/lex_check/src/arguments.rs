@@ -22,7 +22,7 @@ The exit status is 0 if no file has an error, 1 if there are errors, and 2 if th
 be checked.
 ";
 
-/// What the arguments ask for.
+/// The command that the arguments request.
 #[derive(Debug, PartialEq, Eq)]
 pub enum Command {
     Help,
@@ -33,7 +33,7 @@ pub enum Command {
     },
 }
 
-/// Parses the arguments after the program's name, or returns a message that says what is wrong with them.
+/// Parses the arguments after the program's name. The error is a message about an invalid argument.
 pub fn parse(mut words: impl Iterator<Item = OsString>) -> Result<Command, String> {
     let (mut edition, mut files) = (Edition::E2024, Vec::new());
     while let Some(word) = words.next() {
@@ -57,12 +57,12 @@ pub fn parse(mut words: impl Iterator<Item = OsString>) -> Result<Command, Strin
     Ok(Command::Check { edition, files })
 }
 
-/// Returns whether an argument looks like an option: a lone `-` is a file.
+/// Returns whether an argument looks like an option. A lone `-` is a file.
 fn is_option(word: &OsStr) -> bool {
     word != "-" && word.as_encoded_bytes().starts_with(b"-")
 }
 
-/// Parses the year of an edition, or returns a message with the valid years.
+/// Parses the year of an edition. The error is a message with the valid years.
 fn parse_edition(year: Option<&OsStr>) -> Result<Edition, String> {
     let Some(year) = year else {
         return Err(format!("--edition needs a year: {}", valid_years()));

@@ -5,9 +5,10 @@ use rustc_lexer_highlight::{
     Edition, EscapeErrorsInFile, TokenError, literal_contents, token_error,
 };
 
-/// Returns the errors and warnings of a file in order, each with its offset in bytes.
+/// Returns the errors and warnings of a file in order, each with its byte offset.
 ///
-/// The offset is that of the token, or in a literal the start of the range that has the error.
+/// The offset is the start of the token. For an error in the contents of a literal, it is the start of the range of the
+/// error.
 pub fn errors_of(text: &str, edition: Edition) -> impl Iterator<Item = (usize, TokenError)> {
     tokenize_document(text, edition)
         .pieces()
@@ -33,7 +34,7 @@ fn errors_of_piece(
     of_token.into_iter().chain(inside.into_iter().flatten())
 }
 
-/// Returns whether this is a warning: a file with it is valid.
+/// Returns whether this is a warning. A file with warnings is valid.
 pub fn is_warning(error: TokenError) -> bool {
     matches!(error, TokenError::InLiteral(error) if !error.is_fatal())
 }

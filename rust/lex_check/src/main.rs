@@ -15,7 +15,7 @@ use std::io::{self, BufWriter, ErrorKind, Read, Write};
 use std::process::ExitCode;
 use std::{env, fs};
 
-/// The exit status. Of several, the greatest wins.
+/// The exit status. If several apply, the greatest wins.
 #[derive(Clone, Copy, PartialEq, Eq, PartialOrd, Ord)]
 enum Status {
     NoErrors = 0,
@@ -37,7 +37,7 @@ fn main() -> ExitCode {
     };
     match written.and_then(|()| run.output.flush()) {
         Ok(()) => {}
-        // Nobody reads the output any more, as after `| head`.
+        // The reader has closed the pipe, for example `head`.
         Err(error) if error.kind() == ErrorKind::BrokenPipe => {}
         Err(error) => run.fail(format_args!("standard output: {error}")),
     }
@@ -98,7 +98,7 @@ impl<W: Write> Run<W> {
     }
 }
 
-/// Returns the text of a file, or of standard input for `-`, or a message that says why it cannot be checked.
+/// Returns the text of a file, or of standard input for `-`. The error is the reason why it cannot be checked.
 fn read(file: &OsStr) -> Result<String, String> {
     let mut bytes = Vec::new();
     let done = if file == "-" {

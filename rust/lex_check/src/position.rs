@@ -2,10 +2,10 @@
 
 use std::fmt;
 
-/// A position in a file, which moves from its start to its end.
+/// A position in a file, which moves from the start to the end.
 ///
-/// Lines and columns count like rustc's: from 1, columns in characters. A line ends after a newline, and a byte order
-/// mark at the start has no column.
+/// Lines and columns count like in rustc: from 1, with columns in characters. A line ends after a newline, and a byte
+/// order mark at the start of the file has no column.
 pub struct Position<'a> {
     /// The text after the position.
     rest: &'a str,
@@ -26,7 +26,7 @@ impl<'a> Position<'a> {
         }
     }
 
-    /// Moves forward to an offset in bytes.
+    /// Moves forward to a byte offset.
     pub fn advance_to(&mut self, offset: usize) {
         let (passed, rest) = self.rest.split_at(offset - self.offset);
         for c in passed.chars() {

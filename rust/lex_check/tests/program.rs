@@ -1,4 +1,4 @@
-//! The program as a process: what it prints about files, its messages and its status.
+//! The program as a process: its output for files, its messages and its exit status.
 
 mod common;
 
@@ -18,7 +18,7 @@ fn run_with_input(command: &mut Command, input: &[u8]) -> Output {
     child.wait_with_output().unwrap()
 }
 
-/// Checks the output for a file `a.rs` with this text, in a folder with this name, and the status.
+/// Checks the output and the exit status for a file `a.rs` with this text, in a folder with this name.
 fn check_text(name: &str, arguments: &[&str], text: &str, output: &str, status: i32) {
     let folder = empty_folder(name);
     fs::write(folder.join("a.rs"), text).unwrap();
@@ -36,30 +36,34 @@ fn files() {
         ("fn main() {}\n", "", 0),
         // Syntax is not checked.
         ("fn fn } 'a' 1.5\n", "", 0),
-        ("let x = 0x;", "a.rs:1:9: this number has no digits\n", 1),
-        ("/*\n*/ \"a", "a.rs:2:4: nothing closes this string\n", 1),
-        ("\t/* /* */\n", "a.rs:1:2: nothing closes this comment\n", 1),
+        ("let x = 0x;", "a.rs:1:9: number has no digits\n", 1),
+        (
+            "/*\n*/ \"a",
+            "a.rs:2:4: unterminated string: missing closing quote\n",
+            1,
+        ),
+        ("\t/* /* */\n", "a.rs:1:2: unterminated block comment\n", 1),
         (
             "¬\n  1e \u{1f642}é\n",
-            "a.rs:1:1: no token begins with this character\n\
-             a.rs:2:3: the exponent has no digits\n\
-             a.rs:2:6: this name holds an emoji\n",
+            "a.rs:1:1: unexpected character: no token starts with it\n\
+             a.rs:2:3: exponent has no digits\n\
+             a.rs:2:6: invalid identifier: contains an emoji\n",
             1,
         ),
         (
             "\"é\u{1f642}\\q\\w\n\\u{}\" '' 'ab'",
-            "a.rs:1:4: there is no such escape: a backslash itself is written twice\n\
-             a.rs:1:6: there is no such escape: a backslash itself is written twice\n\
-             a.rs:2:1: no digit is between these braces: \\u takes one to six\n\
-             a.rs:2:8: nothing is between these quotes: one character goes there\n\
-             a.rs:2:11: more than one character is between these quotes\n",
+            "a.rs:1:4: unknown escape: write a backslash as `\\\\`\n\
+             a.rs:1:6: unknown escape: write a backslash as `\\\\`\n\
+             a.rs:2:1: empty escape: `\\u` needs one to six hexadecimal digits\n\
+             a.rs:2:8: empty literal: expected one character\n\
+             a.rs:2:11: too many characters: expected one between single quotes\n",
             1,
         ),
         (
-            // The token has an error, and so has its contents.
+            // The token has an error, and so do its contents.
             "b\"\\u{41}\"_",
-            "a.rs:1:1: an underscore alone is no suffix\n\
-             a.rs:1:3: no byte is written like this: \\x writes one\n",
+            "a.rs:1:1: invalid literal suffix `_`\n\
+             a.rs:1:3: `\\u` in a byte or byte string: use `\\x`\n",
             1,
         ),
     ] {
@@ -69,10 +73,10 @@ fn files() {
 
 #[test]
 fn warnings() {
-    let lines = "a.rs:1:3: warning: more than one line end is skipped here\n";
+    let lines = "a.rs:1:3: warning: skipped blank line: an escaped newline skips it too\n";
     let space = "a.rs:1:3: warning: \
-        not all white space after this line end is skipped: spaces, tabs and line ends are\n";
-    let error = "a.rs:3:4: the exponent has no digits\n";
+        unskipped whitespace: an escaped newline skips only spaces, tabs and line endings\n";
+    let error = "a.rs:3:4: exponent has no digits\n";
     for (text, output, status) in [
         ("\"a\\\n\n b\"", lines.to_string(), 0),
         ("\"a\\\n \u{a0}b\"", space.to_string(), 0),
@@ -85,8 +89,8 @@ fn warnings() {
 
 #[test]
 fn starts_of_files() {
-    let empty = "this number has no digits\n";
-    let unclosed = "nothing closes this frontmatter: a line of as many dashes would\n";
+    let empty = "number has no digits\n";
+    let unclosed = "unclosed frontmatter: missing closing fence\n";
     for (text, output) in [
         ("\u{feff}0x", format!("a.rs:1:1: {empty}")),
         ("\u{feff}\n0x", format!("a.rs:2:1: {empty}")),
@@ -99,7 +103,7 @@ fn starts_of_files() {
         ("#!/bin/sh\n\n---\n", format!("a.rs:3:1: {unclosed}")),
         (
             "\u{feff}\u{feff}",
-            "a.rs:1:1: no token begins with this character\n".to_string(),
+            "a.rs:1:1: unexpected character: no token starts with it\n".to_string(),
         ),
     ] {
         check_text("starts_of_files", &[], text, &output, 1);
@@ -108,7 +112,7 @@ fn starts_of_files() {
 
 #[test]
 fn line_endings() {
-    let empty = "this number has no digits\n";
+    let empty = "number has no digits\n";
     for (text, output) in [
         ("\r\n\r\n 0x", format!("a.rs:3:2: {empty}")),
         // A bare carriage return is a character of its line.
@@ -116,22 +120,22 @@ fn line_endings() {
         ("\"\r\n\" 0x", format!("a.rs:2:3: {empty}")),
         (
             "\"a\r\nb\rc\" r\"\r\"",
-            "a.rs:2:2: a carriage return cannot stand here itself: it is written as \\r\n\
-             a.rs:2:8: a raw string cannot hold a carriage return\n"
+            "a.rs:2:2: bare CR in a literal: write it as `\\r`\n\
+             a.rs:2:8: bare CR in a raw string\n"
                 .to_string(),
         ),
     ] {
         check_text("line_endings", &[], text, &output, 1);
     }
-    let lines = "a.rs:1:3: warning: more than one line end is skipped here\n";
+    let lines = "a.rs:1:3: warning: skipped blank line: an escaped newline skips it too\n";
     check_text("line_endings", &[], "\"a\\\r\n\r\n b\"", lines, 0);
     check_text("line_endings", &[], "/// a\r\n\"a\r\nb\"\r\n", "", 0);
 }
 
 #[test]
 fn editions() {
-    let prefix = "a.rs:1:1: no literal has this prefix\n";
-    let guarded = "a.rs:1:1: these marks are reserved for strings to come\n";
+    let prefix = "a.rs:1:1: unknown prefix before a quote or `#`\n";
+    let guarded = "a.rs:1:1: reserved syntax: guarded string\n";
     for (arguments, text, output, status) in [
         (&[][..], "z\"a\"", prefix, 1),
         (&["--edition", "2021"], "z\"a\"", prefix, 1),
@@ -166,7 +170,7 @@ fn folder_of_files(name: &str) -> PathBuf {
 #[test]
 fn several_files() {
     let folder = folder_of_files("several");
-    let one = "one.rs:1:1: this number has no digits\n";
+    let one = "one.rs:1:1: number has no digits\n";
     for (arguments, output, status) in [
         (&["valid.rs", "valid.rs"][..], String::new(), 0),
         (&["valid.rs", "one.rs"], one.to_string(), 1),
@@ -184,7 +188,7 @@ fn several_files() {
         (&["one.rs", "--edition=2015"], one.to_string(), 1),
         (
             &["-", "one.rs"],
-            format!("<stdin>:1:2: this number has no digits\n{one}"),
+            format!("<stdin>:1:2: number has no digits\n{one}"),
             1,
         ),
     ] {
@@ -195,13 +199,13 @@ fn several_files() {
     }
 }
 
-/// The other files are checked all the same.
+/// The other files are still checked.
 #[test]
 fn files_that_cannot_be_checked() {
     let folder = folder_of_files("unreadable");
     for (file, reason) in [
         ("latin.rs", "invalid UTF-8 at byte offset 6\n"),
-        // The rest of these messages is the system's.
+        // The rest of these messages comes from the operating system.
         ("missing.rs", ""),
         ("below", ""),
     ] {
@@ -211,7 +215,7 @@ fn files_that_cannot_be_checked() {
         let start = format!("lex-check: {file}: {reason}");
         assert!(errors.starts_with(&start), "{errors}");
         assert_eq!(errors.lines().count(), 1, "{errors}");
-        let one = "one.rs:1:1: this number has no digits\n";
+        let one = "one.rs:1:1: number has no digits\n";
         assert_eq!(text_of(&ended.stdout), format!("{one}./{one}"));
         assert_eq!(ended.status.code(), Some(2), "{file}");
     }
@@ -282,7 +286,7 @@ fn help_and_version() {
     }
 }
 
-/// A closed pipe ends the program quietly, with the status so far. Any other failed write is reported.
+/// If the pipe is closed, the program ends quietly, with the exit status so far. Any other failed write is reported.
 #[cfg(target_os = "linux")]
 #[test]
 fn output_that_fails() {
@@ -320,7 +324,7 @@ fn output_that_fails() {
     }
 }
 
-/// Messages on standard error come between the lines of the files before and after.
+/// Messages on standard error are in order with the lines of the files before and after.
 #[cfg(target_os = "linux")]
 #[test]
 fn order_of_messages() {
@@ -329,7 +333,7 @@ fn order_of_messages() {
     shell.env("P", env!("CARGO_BIN_EXE_lex-check"));
     shell.args(["-c", "$P one.rs latin.rs one.rs 2>&1"]);
     let ended = shell.current_dir(&folder).output().unwrap();
-    let one = "one.rs:1:1: this number has no digits\n";
+    let one = "one.rs:1:1: number has no digits\n";
     let latin = "lex-check: latin.rs: invalid UTF-8 at byte offset 6\n";
     assert_eq!(text_of(&ended.stdout), format!("{one}{latin}{one}"));
 }

@@ -1,5 +1,5 @@
-//! rustc as judge: the same errors and warnings at the same lines and columns. Where rustc is missing, the tests are
-//! skipped.
+//! Compares with rustc: it reports the same errors and warnings at the same lines and columns. Without rustc, the tests
+//! are skipped.
 
 mod common;
 
@@ -8,7 +8,7 @@ use std::fs;
 use std::path::Path;
 use std::process::Command;
 
-/// The contents of one line, the columns of its errors, and those of rustc where they differ.
+/// The contents of a line, the columns of its errors, and the columns of rustc if they differ.
 #[rustfmt::skip]
 const LINES: [(&str, &[usize], &[usize]); 50] = [
     ("fn a() -> u8 { b'a' + 0x1f_u8 } 'a 'b' r#\"\"\"# c\"a\" br\"\\q\" 1.5e3 /* \r */", &[], &[]),
@@ -47,7 +47,7 @@ const LINES: [(&str, &[usize], &[usize]); 50] = [
     ("\r \"\\u{}\"", &[4], &[]),
     ("\0", &[1], &[]),
     ("\u{feff}", &[1], &[]),
-    // rustc points at the character that is wrong in an escape, which is its last one.
+    // rustc points at the offending character of an escape, which is the last one.
     ("\"\\q\" '\\q'", &[2, 7], &[3, 8]),
     ("\"é🙂\\q\\w\"", &[4, 6], &[5, 7]),
     ("\"\\x8z\"", &[2], &[5]),
@@ -67,7 +67,7 @@ const LINES: [(&str, &[usize], &[usize]); 50] = [
     ("1_u8 1.0_f32 \"a\"", &[], &[]),
 ];
 
-/// Document files, the positions of their errors and warnings, and those of rustc where they differ.
+/// Documents, the positions of their errors and warnings, and the positions of rustc if they differ.
 #[rustfmt::skip]
 const FILES: [(&str, &[&str], &[&str]); 35] = [
     ("const A: u8 = b'a';\n", &[], &[]),
@@ -119,7 +119,7 @@ fn has_rustc() -> bool {
     found
 }
 
-/// Returns `LINE:COLUMN` of each error, with the word `warning` after that of a warning, ordered by position.
+/// Returns `LINE:COLUMN` of each error, followed by the word `warning` for a warning, ordered by position.
 fn positions(output: &str, is_warning: fn(&str) -> bool) -> Vec<String> {
     let mut found: Vec<(usize, usize, &str)> = Vec::new();
     for line in output.lines() {
@@ -156,7 +156,7 @@ fn positions_of_rustc(folder: &Path, edition: &str) -> Vec<String> {
     })
 }
 
-/// Checks a file in a folder with this name: our positions, and those of rustc.
+/// Checks our positions and the positions of rustc for a file in a folder with this name.
 fn check(name: &str, text: &str, edition: &str, ours: &[String], of_rustc: &[String]) {
     let folder = empty_folder(name);
     fs::write(folder.join("a.rs"), text).unwrap();
@@ -176,7 +176,7 @@ fn check(name: &str, text: &str, edition: &str, ours: &[String], of_rustc: &[Str
     );
 }
 
-/// Checks whole files, and all lines as one file with three line endings.
+/// Checks documents, and all lines as one document: with LF, with CRLF, and with CRLF after a byte order mark.
 #[test]
 fn the_same_positions() {
     if !has_rustc() {
@@ -189,7 +189,7 @@ fn the_same_positions() {
         check("positions", text, "2024", &ours, &of_rustc);
     }
     for (mark, ending) in [("", "\n"), ("", "\r\n"), ("\u{feff}", "\r\n")] {
-        // Tokens need not be Rust between these parentheses.
+        // Between these parentheses, the tokens need not be valid Rust.
         let mut lines = vec![format!("{mark}pub const A: &str = stringify!(")];
         let (mut ours, mut of_rustc) = (Vec::new(), Vec::new());
         for (text, columns, columns_of_rustc) in LINES {

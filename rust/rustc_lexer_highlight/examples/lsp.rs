@@ -1,6 +1,8 @@
-//! The document of a language server: takes changes at UTF-16 positions, and answers with semantic tokens: all of them,
-//! the changes since the last answer, or the visible ones. `cargo run -p verified-rustc-lexer-highlight --example lsp -- FILE` prints
-//! all tokens, and the changes by each line of standard input: LINE CHARACTER LINE CHARACTER TEXT.
+//! A document of a language server. It applies changes at UTF-16 positions and answers requests for semantic tokens:
+//! all of them, the changes since the last answer, or the visible ones.
+//!
+//! `cargo run -p verified-rustc-lexer-highlight --example lsp -- FILE` prints all tokens. Then it reads changes from
+//! standard input, one per line, as LINE CHARACTER LINE CHARACTER TEXT, and prints how the tokens change.
 
 use rustc_lexer::{EditError, LexedDocument, Piece, Pieces, Relexed};
 use rustc_lexer_highlight::{Class, Edition, KeywordKind, class_of, keyword_kind};
@@ -9,14 +11,14 @@ use std::io::{self, Write};
 use std::ops::Range;
 use std::{env, fs};
 
-/// The types of tokens by number, and the modifiers by bit: a server announces them when it starts.
+/// The token types by number. A server announces them when it starts, with the modifiers by bit.
 pub const TYPES: [&str; 6] = ["comment", "keyword", "type", "string", "number", "lifetime"];
 pub const MODIFIERS: [&str; 1] = ["documentation"];
 
 /// A line, and an offset in it in UTF-16 units. Both count from 0.
 pub type Position = (usize, usize);
 
-/// Replaces `deleted` of the numbers that were sent last, from `start` on, with `data`.
+/// A change to the numbers that were sent last: replaces `deleted` of them, from the index `start` on, with `data`.
 #[derive(Debug, PartialEq, Eq)]
 pub struct Delta {
     pub start: usize,
@@ -29,9 +31,9 @@ pub struct Document {
     lexed: LexedDocument,
     /// The offset of each line, and the end of the last one.
     lines: Vec<usize>,
-    /// The number of numbers that were last sent for each token.
+    /// How many numbers were last sent for each token.
     counts: Vec<usize>,
-    /// Which of those tokens all changes since then have kept.
+    /// Which of these tokens all changes since then have kept.
     changes: Relexed,
 }
 
@@ -46,7 +48,7 @@ impl Document {
         })
     }
 
-    /// Replaces a range, or the whole text. Each of several changes has positions after the previous ones.
+    /// Replaces a range, or the whole text if `at` is `None`. Positions refer to the text after all previous changes.
     pub fn change(&mut self, at: Option<Range<Position>>, insert: &str) -> Result<(), EditError> {
         let relexed = match at.map(|at| self.offset(at.start)..self.offset(at.end)) {
             Some(range) => self.lexed.try_edit(range, insert)?,
@@ -57,15 +59,16 @@ impl Document {
         Ok(())
     }
 
-    /// Returns five numbers for each line of each highlighted token: its distance in lines from the previous one, its
-    /// distance in units from that one or from the start of its line, its length in units, its type, and its modifiers.
+    /// Returns five numbers for each line of each highlighted token: the distance in lines from the previous one, the
+    /// distance from the previous one on the same line or from the start of the line, the length, the type, and the
+    /// modifiers. Distances in a line and lengths are in UTF-16 units.
     pub fn full(&mut self) -> Vec<u32> {
         self.counts.clear();
         self.changes = Relexed::none(self.lexed.tokens().len());
         self.delta().data
     }
 
-    /// Returns the change from the numbers that were sent last to those of the current text.
+    /// Returns the change from the numbers that were sent last to the numbers of the current text.
     pub fn delta(&mut self) -> Delta {
         let (front, back) = (self.changes.kept_front, self.changes.kept_back);
         // Positions are relative to the previous token, so the first highlighted one at the back is sent again.
@@ -83,20 +86,20 @@ impl Document {
         delta
     }
 
-    /// Returns the position of the last highlighted part before a token.
+    /// Returns the offset of the last highlighted part before a token.
     fn place_before(&self, number: usize) -> Option<usize> {
         let shown = self.counts[..number].iter().rposition(|&count| count > 0)?;
         let last = self.lexed.pieces_by_index(shown..).next()?;
         Some(parts(last).last()?.start)
     }
 
-    /// Returns the numbers of all tokens with a part in the range, for example the visible lines.
+    /// Returns the numbers of all tokens with a part in the range, for example in the visible lines.
     pub fn viewport(&self, range: Range<Position>) -> Vec<u32> {
         let range = self.offset(range.start)..self.offset(range.end);
         self.encode(0, self.lexed.pieces_in_bytes(range)).0
     }
 
-    /// Returns the offset of a position, or the end of the line or of the text if it is after that.
+    /// Returns the offset of a position, or the end of its line or of the text if the position is after it.
     fn offset(&self, (line, character): Position) -> usize {
         let Some(&[start, stop]) = self.lines.windows(2).nth(line) else {
             return self.lexed.text().len();
@@ -110,7 +113,8 @@ impl Document {
         start + before.map(char::len_utf8).sum::<usize>()
     }
 
-    /// Returns the numbers of pieces, the first one relative to an offset, and how many numbers each piece has.
+    /// Returns the numbers of the pieces, the first one relative to the offset `last`, and how many numbers each piece
+    /// has.
     fn encode(&self, mut last: usize, pieces: Pieces<'_>) -> (Vec<u32>, Vec<usize>) {
         let units = |range: Range<usize>| self.lexed.text()[range].encode_utf16().count() as u32;
         let line_of = |at: usize| self.lines.partition_point(|&start| start <= at) - 1;
@@ -185,7 +189,7 @@ fn main() -> Result<(), Box<dyn Error>> {
     let ended = answer(Document::open(&text, Edition::NEWEST)?, io::stdout());
     let is_closed = |error: &io::Error| error.kind() == io::ErrorKind::BrokenPipe;
     match ended {
-        // as after `| head -1`
+        // The reader has closed the pipe, for example `head -1`.
         Err(error) if error.downcast_ref().is_some_and(is_closed) => Ok(()),
         ended => ended,
     }

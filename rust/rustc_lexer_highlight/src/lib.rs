@@ -70,8 +70,8 @@ fn fitting(text: &str) -> &str {
 
 /// Returns the error of a token with this kind and text, or `None` if it has none.
 ///
-/// If a token has two errors, one of them is returned. Errors at the end of a frontmatter depend on its text only, so
-/// the kind alone does not show whether a token is valid.
+/// If a token has two errors, one of them is returned. The kind alone does not show whether a token is valid: for
+/// example, an error at the end of a frontmatter is found only in its text.
 ///
 /// # Examples
 ///
@@ -84,7 +84,7 @@ fn fitting(text: &str) -> &str {
 /// assert_eq!(error, TokenError::UnclosedFrontmatter);
 /// assert_eq!(
 ///     error.to_string(),
-///     "nothing closes this frontmatter: a line of as many dashes would"
+///     "unclosed frontmatter: missing closing fence"
 /// );
 /// ```
 ///
@@ -97,13 +97,13 @@ pub fn token_error(kind: TokenKind, text: &str) -> Option<TokenError> {
     generated::token_error(kind, fitting(text))
 }
 
-/// Writes a whole file in an edition, each token between its marks.
+/// Writes a document in an edition with its tokens highlighted, and with a message at each malformed token.
 ///
-/// A shebang line is highlighted as a comment. The file can start with a frontmatter, and with a byte order mark, which is
-/// written as it is.
+/// A shebang line is highlighted as a comment. The document can start with a frontmatter, and with a byte order mark,
+/// which is written as it is.
 ///
-/// In HTML, U+0000 and carriage returns are written as entities. In the other formats except [`Format::Raw`], control
-/// characters other than tabs and line ends are written as symbols like `␛`, since a terminal would obey them.
+/// In HTML, U+0000 and carriage returns are written as entities. In the other formats except [`Format::Raw`], symbols
+/// such as `␛` replace control characters other than tabs and line endings, since a terminal would obey them.
 ///
 /// # Examples
 ///
@@ -136,10 +136,10 @@ pub fn write_highlighted<W: fmt::Write>(
     generated::write_highlighted(format, edition, fitting(text), output)
 }
 
-/// Writes the first `count` tokens of a text in an edition, or all tokens if it has fewer, each between its marks.
+/// Writes the first `count` tokens of a fragment in an edition with highlighting, or all tokens if it has fewer.
 ///
-/// The text is lexed as a fragment of a file: a frontmatter or a shebang line is lexed as other tokens. A token depends
-/// on nothing before it and on at most two characters after it, so this can write the visible fragment of a long text.
+/// A frontmatter or a shebang line is lexed as other tokens. A token depends on nothing before it and on at most two
+/// characters after it, so you can use this function to write the visible part of a long text.
 ///
 /// # Examples
 ///

@@ -1,4 +1,4 @@
-//! A call with a text that is too long panics at the caller's line, also in release builds, with the same message.
+//! A call with a text that is too long panics at the caller's line with the same message, also in release builds.
 #![cfg(target_pointer_width = "64")]
 
 #[macro_use]

@@ -1,5 +1,5 @@
-//! Literals in files with CRLF line endings, which rustc reads as newlines. Each row has the errors and warnings that
-//! rustc reports, with their ranges.
+//! Literals in files with CRLF line endings, which rustc reads as newlines. Each test case has the errors and warnings
+//! that rustc reports, with their ranges.
 
 use core::ops::Range;
 use rustc_lexer_highlight::EscapeErrorsInFile;

@@ -1,4 +1,4 @@
-//! The example of a language server: its answers equal those of a walk over the whole text.
+//! The language server example: its answers equal the numbers that a walk over the whole text computes.
 
 #[allow(dead_code)]
 #[path = "../examples/lsp.rs"]
@@ -23,7 +23,7 @@ fn full(text: &str) -> Vec<u32> {
     open(text).full()
 }
 
-/// The position after a character, given that character and the next one.
+/// Returns the position after a character, given that character and the next one.
 fn step((line, character): Position, c: char, next: Option<char>) -> Position {
     match c {
         '\n' => (line + 1, 0),
@@ -43,7 +43,7 @@ fn positions(text: &str, range: &Range<usize>) -> Range<Position> {
     position(text, range.start)..position(text, range.end)
 }
 
-/// The type and the modifiers of a token, by the names of types.
+/// Returns the name of the type and the modifiers of a token.
 fn paint(class: Class, word: Option<KeywordKind>) -> Option<(&'static str, u32)> {
     if let Some(KeywordKind::Strict | KeywordKind::Reserved) = word {
         return Some(("keyword", 0));
@@ -60,14 +60,14 @@ fn paint(class: Class, word: Option<KeywordKind>) -> Option<(&'static str, u32)>
     }
 }
 
-/// One line of a token: the token's bytes, the start of the line's part, its length, type and modifiers.
-type Fragment = (Range<usize>, Position, usize, &'static str, u32);
+/// One line of a token: the token's byte range, the position and length of the part on that line, its type and
+/// modifiers.
+type Part = (Range<usize>, Position, usize, &'static str, u32);
 
-/// The parts of all tokens, character by character.
-fn parts(text: &str) -> Vec<Fragment> {
+/// Returns the parts of all tokens, character by character.
+fn parts(text: &str) -> Vec<Part> {
     let tokens = tokenize_document(text, EDITION);
-    let (mut parts, mut start): (Vec<Fragment>, _) =
-        (Vec::new(), text.len() - tokens.as_str().len());
+    let (mut parts, mut start): (Vec<Part>, _) = (Vec::new(), text.len() - tokens.as_str().len());
     for token in tokens {
         let range = start..start + token.len as usize;
         start = range.end;
@@ -95,8 +95,8 @@ fn parts(text: &str) -> Vec<Fragment> {
     parts
 }
 
-/// The five numbers of each part, relative to the previous one.
-fn numbers(parts: &[Fragment]) -> Vec<u32> {
+/// Returns the five numbers of each part, relative to the previous one.
+fn numbers(parts: &[Part]) -> Vec<u32> {
     let (mut numbers, mut last) = (Vec::new(), (0, 0));
     for (_, (line, character), length, name, modifiers) in parts {
         let since = if *line == last.0 { last.1 } else { 0 };
@@ -118,16 +118,16 @@ fn apply(sent: &mut Vec<u32>, delta: Delta) {
 fn tokens_are_split_at_line_ends() {
     assert_eq!(full(""), []);
     assert_eq!(full("fn"), [0, 0, 2, 1, 0]);
-    // CRLF in a comment and after it, and a bare CR
+    // A CRLF in a comment and after it, and a bare CR.
     let lines = "/* a\r\n b */\r\n\r /// c\r\nfn 'a 1u8";
     #[rustfmt::skip]
     assert_eq!(full(lines), [
         0, 0, 4, 0, 0,  1, 0, 5, 0, 0,  2, 1, 5, 0, 1,
         1, 0, 2, 1, 0,  0, 3, 2, 5, 0,  0, 3, 3, 4, 0,
     ]);
-    // a line of a string can be empty, and plain names and symbols are not sent
+    // A line of a string can be empty. Plain names and symbols are not sent.
     assert_eq!(full("a + \"\n\nb\""), [0, 4, 1, 3, 0, 2, 0, 2, 3, 0]);
-    // a shebang line is no token, and a frontmatter is sent as a doc comment
+    // A shebang line is not a token, and a frontmatter is sent as a doc comment.
     #[rustfmt::skip]
     assert_eq!(full("#!/a\n---\nb\n---\nC"), [
         1, 0, 3, 0, 1,  1, 0, 1, 0, 1,  1, 0, 3, 0, 1,  1, 0, 1, 2, 0,

@@ -15,7 +15,7 @@ const STRICT: &str = "_ as break const continue crate else enum extern false fn 
 const RESERVED: &str =
     "abstract become box do final macro override priv typeof unsized virtual yield";
 
-/// Keywords of some editions, and words that are none: the kind in each of the four editions.
+/// Keywords of some editions, and words that are not keywords, with the kind in each of the four editions.
 #[rustfmt::skip]
 const WORDS: [(&str, [Option<KeywordKind>; 4]); 26] = [
     ("async", [None, Some(Strict), Some(Strict), Some(Strict)]),
@@ -124,7 +124,10 @@ fn classes() {
 #[test]
 fn traits() {
     let error: Box<dyn Error> = Box::new(TokenError::UnterminatedByte);
-    assert_eq!(error.to_string(), "nothing closes this byte");
+    assert_eq!(
+        error.to_string(),
+        "unterminated byte literal: missing closing quote"
+    );
     let seen = [1, 2, 1].map(|found| (TokenError::TooManyHashes { found }, Class::Text, Strict));
     assert_eq!(HashSet::from(seen).len(), 2);
 }

@@ -1,8 +1,8 @@
-//! What the literals of Rust stand for, with the names, types and signatures of the compiler's own
-//! `rustc_literal_escaper`.
+//! Reads the contents of Rust literals: their values, escapes and errors. The names, types and signatures are the same
+//! as in the compiler's own crate `rustc_literal_escaper`.
 //!
-//! To a lexer, `"\q"` is one token. The calls here take the text between the quotes of a literal. They return what it
-//! stands for, unit by unit, and its errors.
+//! A lexer reads `"\q"` as one token. Pass the text between the quotes of a literal to the functions here. They return
+//! its value unit by unit, and its errors.
 //!
 //! ```
 //! use rustc_literal_escaper::{unescape_str, EscapeError};
@@ -17,9 +17,9 @@
 //! assert_eq!(escape_errors, [(3..5, EscapeError::InvalidEscape)]);
 //! ```
 //!
-//! The modules below `generated` are generated from a proved source in Rattle, which is Rust with contracts, by deleting
-//! its contracts. The rest is written by hand. The repository's `docs/GENERATED.md` says what is claimed and what is
-//! trusted.
+//! The modules in `generated` are generated from a verified source in Rattle, which is Rust with contracts, by deleting
+//! the contracts. The rest is hand-written. `docs/GENERATED.md` in the repository lists the guarantees and the trusted
+//! computing base.
 
 #![no_std]
 #![cfg_attr(docsrs, feature(doc_cfg))]
@@ -38,9 +38,9 @@ extern crate std;
 
 /// The proved source without its contracts, generated from `crates/rustc_literal_escaper`.
 ///
-/// This is for packages that are generated in the same way, like `rustc_lexer_highlight`. It has types of its own for units of C
-/// strings, and may change with the source. All other callers use the calls at the crate's root.
-// Contracts alone use some of its imports and variables.
+/// Only for packages that are generated in the same way, like `rustc_lexer_highlight`. The module has its own types for
+/// the units of C strings, and it can change with the source. Other callers use the functions at the crate's root.
+// Only contracts use some of its imports and variables.
 #[allow(missing_docs, unused_imports, unused_variables, dead_code)]
 #[allow(
     clippy::missing_errors_doc,

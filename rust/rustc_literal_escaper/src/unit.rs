@@ -1,17 +1,17 @@
-//! The units of C strings, by `NonZero` of the standard library. The proved source has types of its own for it.
+//! The units of C strings, with `NonZero` of the standard library. The proved source has its own types instead.
 
 use crate::EscapeError;
 use crate::generated::{self, NonZeroChar};
 use core::num::NonZero;
 use core::ops::Range;
 
-/// A unit of a C string, which may have bytes that are part of no character.
+/// A unit of a C string: a character, or a byte that is not part of a character.
 #[derive(Clone, Copy, Debug, PartialEq, Eq, Hash)]
 pub enum MixedUnit {
-    /// A character, written as itself, as `\u{..}`, or as an escape for a byte below 128. It stands for its bytes in
-    /// UTF-8.
+    /// A character, written unescaped, as `\u{..}`, or as an escape for a byte below 128. In the C string, it is
+    /// encoded as UTF-8.
     Char(NonZero<char>),
-    /// A byte from 128 on, written as `\x80` to `\xff`. It stands for itself.
+    /// A byte of 128 or more, written as `\x80` to `\xff`.
     HighByte(NonZero<u8>),
 }
 
@@ -30,8 +30,11 @@ fn mixed(unit: generated::MixedUnit) -> MixedUnit {
     }
 }
 
-/// Calls `callback` with each unit that a C string stands for, or an error, and its range in bytes, in order, like
-/// [`unescape_str`](crate::unescape_str).
+/// Calls `callback` with each unit of a C string, or an error or warning, and its byte range.
+///
+/// The calls are in text order, like the calls of [`unescape_str`](crate::unescape_str).
+///
+/// # Examples
 ///
 /// ```
 /// use rustc_literal_escaper::{MixedUnit, unescape_c_str};
@@ -48,9 +51,11 @@ pub fn unescape_c_str(
     generated::unescape_c_str(src, |range, unit| callback(range, unit.map(mixed)));
 }
 
-/// Calls `callback` with each character of a raw C string, or an error, and its range in bytes, in order.
+/// Calls `callback` with each character of a raw C string, or an error, and its byte range.
 ///
-/// A carriage return and U+0000 are errors.
+/// The calls are in text order. A carriage return or U+0000 is an error.
+///
+/// # Examples
 ///
 /// ```
 /// use rustc_literal_escaper::{EscapeError, check_raw_c_str};

@@ -1,4 +1,4 @@
-//! Texts and bytes, escaped for the inside of double quotes. The original has no such calls.
+//! Escaping of texts and bytes for the inside of double quotes. The compiler's crate has no such functions.
 
 pub use crate::generated::EscapeCStrError;
 
@@ -13,7 +13,7 @@ use core::mem::take;
 impl fmt::Display for EscapeCStrError {
     fn fmt(&self, f: &mut fmt::Formatter<'_>) -> fmt::Result {
         f.write_str(match self {
-            EscapeCStrError::Nul => "a C string has no byte that is 0",
+            EscapeCStrError::Nul => "NUL in a C string: it would end the string",
             EscapeCStrError::Memory => "memory allocation failed",
         })
     }
@@ -21,7 +21,7 @@ impl fmt::Display for EscapeCStrError {
 
 impl Error for EscapeCStrError {}
 
-/// Lends a text to a call, and takes it back.
+/// Calls a function with the text as a `support::String`, without copying it.
 fn lent<T>(out: &mut String, call: impl FnOnce(&mut support::String) -> T) -> T {
     let mut held = support::String::from(take(out));
     let answer = call(&mut held);
@@ -29,10 +29,12 @@ fn lent<T>(out: &mut String, call: impl FnOnce(&mut support::String) -> T) -> T 
     answer
 }
 
-/// Appends `text` to `out`, escaped for the inside of a string in double quotes.
+/// Appends `text` to `out` as the contents of a string literal.
 ///
-/// Each character is written as by `char::escape_default`, so the output is ASCII, and
-/// [`unescape_str`](crate::unescape_str) reads the characters of `text` from it.
+/// Each character is escaped by `char::escape_default`, so the output is ASCII. [`unescape_str`](crate::unescape_str)
+/// reads the characters of `text` back from it.
+///
+/// # Examples
 ///
 /// ```
 /// let mut out = String::new();
@@ -42,15 +44,17 @@ fn lent<T>(out: &mut String, call: impl FnOnce(&mut support::String) -> T) -> T 
 ///
 /// # Errors
 ///
-/// Returns an error if an allocation fails. Then `out` is as it was.
+/// Returns `AllocError` if an allocation fails. Then `out` is unchanged.
 pub fn escape_str(text: &str, out: &mut String) -> Result<(), AllocError> {
     lent(out, |out| generated::escape_str(text, out))
 }
 
-/// Appends `bytes` to `out`, escaped for the inside of a byte string in double quotes.
+/// Appends `bytes` to `out` as the contents of a byte string literal.
 ///
-/// Each byte is written as by `u8::escape_ascii`, so the output is ASCII, and
-/// [`unescape_byte_str`](crate::unescape_byte_str) reads the bytes from it.
+/// Each byte is escaped by `u8::escape_ascii`, so the output is ASCII. [`unescape_byte_str`](crate::unescape_byte_str)
+/// reads the bytes back from it.
+///
+/// # Examples
 ///
 /// ```
 /// let mut out = String::new();
@@ -60,12 +64,16 @@ pub fn escape_str(text: &str, out: &mut String) -> Result<(), AllocError> {
 ///
 /// # Errors
 ///
-/// Returns an error if an allocation fails. Then `out` is as it was.
+/// Returns `AllocError` if an allocation fails. Then `out` is unchanged.
 pub fn escape_byte_str(bytes: &[u8], out: &mut String) -> Result<(), AllocError> {
     lent(out, |out| generated::escape_byte_str(bytes, out))
 }
 
-/// Appends `bytes` to `out`, escaped for the inside of a C string in double quotes.
+/// Appends `bytes` to `out` as the contents of a C string literal.
+///
+/// `bytes` does not include the NUL at the end.
+///
+/// # Examples
 ///
 /// ```
 /// use rustc_literal_escaper::{escape_c_str, EscapeCStrError};
@@ -78,7 +86,8 @@ pub fn escape_byte_str(bytes: &[u8], out: &mut String) -> Result<(), AllocError>
 ///
 /// # Errors
 ///
-/// Returns an error if a byte is 0, which no C string has, or if an allocation fails. Then `out` is as it was.
+/// Returns `Nul` if a byte is 0, which a C string cannot contain, and `Memory` if an allocation fails. Then `out` is
+/// unchanged.
 pub fn escape_c_str(bytes: &[u8], out: &mut String) -> Result<(), EscapeCStrError> {
     lent(out, |out| generated::escape_c_str(bytes, out))
 }

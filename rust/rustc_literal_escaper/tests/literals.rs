@@ -1,4 +1,5 @@
-//! The values and errors of literals: cases of the Reference and of `rustc_literal_escaper`'s tests.
+//! The values and errors of literals, with test cases from the Rust Reference and from the tests of
+//! `rustc_literal_escaper`.
 
 use core::num::NonZero;
 use rustc_literal_escaper::EscapeError::*;
@@ -20,7 +21,7 @@ macro_rules! units {
     }};
 }
 
-/// Returns the errors that the callback gets. The iterator returns the same and is fused.
+/// Returns the errors that the callback receives. The iterator returns the same errors and is fused.
 fn errors(text: &str, mode: Mode) -> Vec<(Range<usize>, EscapeError)> {
     let mut errors = Vec::new();
     check_for_errors(text, mode, |range, error| errors.push((range, error)));
@@ -33,7 +34,7 @@ fn errors(text: &str, mode: Mode) -> Vec<(Range<usize>, EscapeError)> {
     errors
 }
 
-/// The errors of a string are those among its units, in texts of up to four of these pieces.
+/// The errors of a string are the errors of its units, in texts of up to four of these pieces.
 #[test]
 fn errors_of_units() {
     let pieces = [
@@ -60,7 +61,7 @@ fn errors_of_units() {
     }
 }
 
-/// A bare CR after texts of many lengths is reported in each kind of string.
+/// A bare CR is reported in each kind of string, after texts of many lengths.
 #[test]
 fn a_bare_cr_anywhere() {
     for front in ["", "a", "é", "\\n", "\\né", "é\\n", "é\\\"ü"] {
@@ -78,7 +79,7 @@ fn a_bare_cr_anywhere() {
     }
 }
 
-/// Errors close together, before others far apart: each is reported with its range.
+/// Errors that are close together, and errors that are far apart after them. Each is reported with its range.
 #[test]
 fn many_errors() {
     for times in [1, 30, 85, 86, 600] {
@@ -95,7 +96,7 @@ fn many_errors() {
     }
 }
 
-/// Errors between single quotes, and where they end.
+/// Errors between single quotes, and the ends of their ranges.
 #[test]
 fn characters() {
     for (text, end, want) in [
@@ -189,7 +190,7 @@ const LITERALS: [Literal<'_>; 22] = [
     ]),
 ];
 
-/// The value or the error, which the callback gets too.
+/// Checks the value or the error, which the callback receives too.
 #[test]
 fn characters_and_bytes() {
     let in_both = WRONG_IN_BOTH.map(|(error, texts)| (Err(error), Err(error), texts));
@@ -247,7 +248,7 @@ fn strings() {
     assert_eq!(errors("a\r", Mode::RawStr), wanted);
 }
 
-/// Characters, and bytes that are not part of one. U+0000 is an error.
+/// Characters, and bytes that are not part of a character. U+0000 is an error.
 #[test]
 fn c_strings() {
     let char = |c| Ok(MixedUnit::Char(NonZero::new(c).unwrap()));
@@ -278,7 +279,7 @@ fn c_strings() {
     assert_eq!(errors(r"a\0", Mode::CStr), [(1..3, NulInCStr)]);
 }
 
-/// The elements of strings, by the callback and by the iterator.
+/// The elements of strings, from the callback and from the iterator.
 #[test]
 fn elements_of_strings() {
     let raw = Err(BareCarriageReturnInRawString);
@@ -337,7 +338,7 @@ fn values_of_strings() {
     assert_eq!(errors(r"a\qb\u{110000}", Mode::Str), wanted);
 }
 
-/// Literals with as many units as one batch, one fewer and one more.
+/// Literals with 127 to 129 units, and with 1,000.
 #[test]
 fn long_strings() {
     for count in [127, 128, 129, 1000] {
@@ -350,8 +351,7 @@ fn long_strings() {
     }
 }
 
-/// Escapes and errors anywhere among simple characters, which take a path of their own, once after more of them than a
-/// `u16` counts.
+/// Escapes and errors after up to 19 simple characters, and after 70,000.
 #[test]
 fn simple_characters_around() {
     for before in (0..20).chain([70_000]) {
@@ -364,7 +364,7 @@ fn simple_characters_around() {
             units
         };
         let same = |x: &str, units: Units<char>, unit| {
-            assert!(units == around(x, unit), "{x:?} behind {before}");
+            assert!(units == around(x, unit), "{x:?} after {before}");
         };
         let in_raw = Err(BareCarriageReturnInRawString);
         for (x, in_string, in_raw_string) in [
@@ -391,7 +391,7 @@ fn simple_characters_around() {
     }
 }
 
-/// Two warnings with one offset, anywhere in a batch: they are never separated.
+/// Two warnings that start at the same offset, after many units and after many warnings. Both are reported.
 #[test]
 fn warnings_of_long_strings() {
     for before in 0..100 {
@@ -402,12 +402,12 @@ fn warnings_of_long_strings() {
         want.push((at..at + 5, Err(UnskippedWhitespaceWarning)));
         want.push((at + 3..at + 5, Ok('\u{a0}')));
         want.extend((at + 5..at + 205).map(|at| (at..at + 1, Ok('b'))));
-        assert_eq!(units!(unescape_str, &text), want, "behind {before}");
+        assert_eq!(units!(unescape_str, &text), want, "after {before}");
     }
     for before in 0..2 {
         let text = r"\q".repeat(before) + &"\\\n\n\u{a0}".repeat(150);
         let count = errors(&text, Mode::Str).len();
-        assert_eq!(count, before + 300, "behind {before}");
+        assert_eq!(count, before + 300, "after {before}");
     }
 }
 
@@ -431,24 +431,21 @@ fn modes_and_units() {
     is_key::<(MixedUnit, Mode, EscapeError)>();
 }
 
-/// An error works with `?` and has a message. `rustc_lexer_highlight/tests/sentences.rs` has each message.
+/// An error works with `?` and has a message. `rustc_lexer_highlight/tests/messages.rs` covers every message.
 #[test]
 fn error_messages() {
     fn is_error<T: std::error::Error + Send + Sync + 'static>() {}
     is_error::<EscapeError>();
     for (error, sentence) in [
-        (
-            ZeroChars,
-            "nothing is between these quotes: one character goes there",
-        ),
+        (ZeroChars, "empty literal: expected one character"),
         (
             LoneSlash,
-            "nothing follows this backslash, which begins an escape",
+            "incomplete escape: missing character after the backslash",
         ),
-        (NulInCStr, "a C string cannot hold a NUL, which ends it"),
+        (NulInCStr, "NUL in a C string: it would end the string"),
         (
             MultipleSkippedLinesWarning,
-            "more than one line end is skipped here",
+            "skipped blank line: an escaped newline skips it too",
         ),
     ] {
         assert_eq!(error.to_string(), sentence);

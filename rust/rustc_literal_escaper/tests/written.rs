@@ -1,4 +1,4 @@
-//! Texts and bytes escaped between double quotes, next to the escapes of `std`, and with allocation failures.
+//! Escaped texts and bytes: compared with the escapes of `std`, and with allocation failures.
 #![cfg(feature = "alloc")]
 
 #[path = "../../rattle_support/tests/refusing/mod.rs"]
@@ -11,7 +11,7 @@ use rustc_literal_escaper::{
     escape_str, unescape_c_str, unescape_str,
 };
 
-/// Output is appended: each text after all others, and 70,000 characters and bytes at once.
+/// Output is appended: each text after the previous ones, and 70,000 characters and bytes at once.
 #[test]
 fn escapes_of_std() {
     let mut out = String::new();
@@ -48,7 +48,7 @@ fn escapes_of_std() {
     assert_eq!(units, 140_000);
 }
 
-/// Each is appended to a text.
+/// Each output is appended to a text.
 #[test]
 fn escapes_by_hand() {
     for (text, wanted) in [
@@ -87,7 +87,10 @@ fn errors_write_nothing() {
     assert_eq!(given(0, || escape_c_str(bytes, &mut out)), memory);
     assert_eq!(out, "front");
     for (error, said) in [
-        (EscapeCStrError::Nul, "a C string has no byte that is 0"),
+        (
+            EscapeCStrError::Nul,
+            "NUL in a C string: it would end the string",
+        ),
         (EscapeCStrError::Memory, "memory allocation failed"),
     ] {
         let error: Box<dyn std::error::Error + Send + Sync> = error.into();
@@ -107,7 +110,7 @@ fn reserved_capacity() {
     }
     assert_eq!(out, r"a\n\xffb".repeat(10));
     assert!(out.capacity() >= 1000);
-    // A text without escapes needs no more room than its bytes.
+    // A text without escapes needs only as much space as its bytes.
     let text = "a".repeat(100);
     let mut full = String::with_capacity(300);
     assert_eq!(given(0, || escape_str(&text, &mut full)), Ok(()));
@@ -117,7 +120,7 @@ fn reserved_capacity() {
     assert_eq!(full, text.repeat(3));
 }
 
-/// A character is one unit, whatever its bytes, and a byte below 128 is a character.
+/// A character is one unit, even if it has several bytes. A byte below 128 is a character.
 #[test]
 fn units_of_c_strings() {
     let char = |c| MixedUnit::Char(NonZero::new(c).unwrap());

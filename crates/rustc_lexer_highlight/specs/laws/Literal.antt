@@ -1,4 +1,4 @@
--- What stands between double quotes has one list of stretches.
+-- The contents of a string have exactly one list of stretches.
 use Rattle.std.proofs.Common.{◌≡◌, ℕ, ◌+◌, Bool, List, length, refl, sym, ap, subst, ◌∙◌, arith}
 use Rattle.rustc_lexer.specs.Classes.{bytes}
 use Rattle.rustc_literal_escaper.specs.Grammar.{AreItems, Item, TheOnly}
@@ -15,7 +15,7 @@ items-same : {raw : Bool} {s : List ℕ} {a b : List Item} → AreItems raw 0 s 
 items-same {s = s} is also = let size : 0 + bytes s ≡ bytes s = omega arith in
     sym (items-read is (bytes s) size) ∙ items-read also (bytes s) size
 
--- the stretches of pieces, by the items of the same text
+-- The stretches of pieces are the stretches that the model finds in the items of the same text.
 pub stretches-read : {mode : Mode} {raw : Bool} {s : List ℕ} {pieces : List Piece} {items : List Item}
     → ArePieces mode raw s pieces → AreItems raw 0 s items → (from close : ℕ) → from + bytes s ≡ close
     → stretches_from mode from from close items ≡ stretches_at from pieces

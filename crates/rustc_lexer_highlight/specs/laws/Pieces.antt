@@ -1,4 +1,4 @@
--- What stands between double quotes has pieces, and one list of stretches: that of its items.
+-- The contents of a string have pieces, and exactly one list of stretches: the one that the model finds in their items.
 use Rattle.std.proofs.Common.{◌≡◌, ℕ, ◌+◌, ◌<◌, ◌≤◌, Bool, true, false, if◌then◌else◌, List, [], ◌∷◌, ◌++◌, refl, sym}
 use Rattle.std.proofs.Common.{ap, subst, ◌∙◌, arith, append_assoc, append-nil, codes, Option, Some, None}
 use Rattle.std.specs.{Char.{is_whitespace}, List.{list_all, list_any}}
@@ -19,11 +19,12 @@ use Rattle.rustc_literal_escaper.specs.declared.mode.Mode.{Mode}
 use Rattle.rustc_lexer_highlight.specs.declared.literal.Look.{Look}
 use Rattle.rustc_lexer_highlight.specs.declared.literal.Look.TheVariants.{Escape, Wrong}
 use Rattle.rustc_lexer_highlight.specs.Literal as lit
-use Rattle.rustc_lexer_highlight.specs.Literal.{ArePieces, AreSkippedBefore, IsPieceBefore, Looks, Piece, Stretch, is_plain, skipped}
+use Rattle.rustc_lexer_highlight.specs.Literal.{ArePieces, AreSkippedBefore, IsPieceBefore, Looks, Piece, Stretch}
+use Rattle.rustc_lexer_highlight.specs.Literal.{is_plain, skipped}
 use Rattle.rustc_lexer_highlight.specs.Literal.{stretch, stretches_at}
 use Rattle.rustc_lexer_highlight.specs.model.Literal.{element_look, gap, look_by, stretches_from}
 
--- a skipped line end, with the space after it
+-- Returns a skipped line ending with the whitespace after it.
 abbrev line : Chars → Chars
 line space = codes "\\\n" ++ space
 
@@ -46,18 +47,18 @@ looks-some mode e (Some error) is = lit.wrong is
 looks-some mode (Plain c) None is = lit.plain is refl
 looks-some mode e None is = lit.escape is refl
 
--- ---- each text has pieces
+-- ---- every text has pieces
 
 module _ (mode : Mode) (raw : Bool) where
   abbrev pub HasPieces : Chars → Type 0
   HasPieces s = (pieces : List Piece) × ArePieces mode raw s pieces
 
--- also what follows a first character of white space
+-- Holds if the text has pieces, and also the text after its first character if that is whitespace.
 pub record HasBoth (mode : Mode) (raw : Bool) (s : Chars) : Type 0 where
   pub all : HasPieces mode raw s
   pub past : (c : ℕ) (t : Chars) → s ≡ c ∷ t → is_whitespace c ≡ true → HasPieces mode raw t
 
--- white space is no escape, so it is an element by itself
+-- An element that starts with whitespace is that one character.
 one-char : {special next : Chars} {e : Element} {w : Chars} → IsElementBefore special next e w → (c : ℕ) (t : Chars)
     → w ++ next ≡ c ∷ t → is_whitespace c ≡ true → next ≡ t
 one-char w0 c t w3 w4 = grind (arith, common_steps)
@@ -66,7 +67,7 @@ plain-space : (c : ℕ) → is_whitespace c ≡ true → is_passed_over c ≡ fa
 plain-space c white stays = grind (arith, common_steps, nat_tests)
 
 module _ (mode : Mode) where
-  -- a line end that has no warning, before some pieces
+  -- A text with pieces still has pieces if a line ending without a warning is put in front of it.
   skip : {s : Chars} {pieces : List Piece} → ArePieces mode false s pieces → (space : Chars)
       → list_all is_passed_over space ≡ true → list_any is_newline space ≡ false → next_is is_whitespace s ≡ false
       → HasPieces mode false (line space ++ s)
@@ -115,7 +116,7 @@ module _ (mode : Mode) where
         past = λ d t e white. subst (HasPieces mode true) (let same : next ≡ t = cc in same) rest.all;
       }
 
--- ---- and the stretches of any pieces are those of the items
+-- ---- the stretches of any pieces are found in the items
 
 module _ (mode : Mode) (begin close : ℕ) where
   abbrev pub found : ℕ → List Item → List Stretch
@@ -130,12 +131,12 @@ module _ (mode : Mode) (begin close : ℕ) where
   pub told : (at : ℕ) (i : Item) (items : List Item) → begin + i.0.start < at → found at (i ∷ items) ≡ found at items
   told at i items less = rw (lt-ltb (begin + i.0.start) at less) refl
 
-  -- a second warning
+  -- A second warning, which starts before `at`, adds no stretch.
   told-space : (at j : ℕ) (space next : Chars) (items : List Item) → begin + j < at
       → found at (space_warning j space next ++ items) ≡ found at items
   told-space at j space next items w5 = grind (arith, common_steps, told)
 
-  -- the items of a piece w at the offset j
+  -- Holds if a piece w at the offset j has items, and the model finds its stretch in them.
   record ReadsPiece (raw : Bool) (j : ℕ) (w next : Chars) (look : Option Look) (items : List Item) : Type 0 where
     all : List Item
     are : AreItems raw j (w ++ next) all
@@ -189,7 +190,7 @@ module _ (mode : Mode) (begin close : ℕ) where
             (told (begin + (j + bytes w)) character items (omega arith));
       }
 
-  -- line ends without a warning have no items
+  -- Line endings without a warning have no items.
   gap-read : {next : Chars} {raw : Bool} {g : Chars} → AreSkippedBefore next raw g → (i : ℕ) (items : List Item)
       → AreItems raw (i + bytes g) next items → AreItems raw i (g ++ next) items
   gap-read {next = next} {raw} lit.none i items are = subst (λ (n : ℕ). AreItems raw n next items) (omega arith) are

@@ -1,4 +1,4 @@
--- The items that are read between double quotes are those that the grammar has there.
+-- Between double quotes, the model reads exactly the items of the grammar.
 use Rattle.std.proofs.Common.{◌≡◌, ℕ, zero, suc, ◌+◌, ◌≤◌, ◌==◌, Bool, true, false, true≢false, if◌then◌else◌, List, []}
 use Rattle.std.proofs.Common.{◌∷◌, ◌++◌, length, length-append, append_assoc, map, refl, sym, ap, subst, ◌∙◌, arith}
 use Rattle.std.specs.{List.{list_all}, Str.{encode_utf8_all}}
@@ -24,7 +24,7 @@ use Rattle.rustc_literal_escaper.specs.model.Escape.{escape, front_run, past_run
 pub either : {A : Type 0} (P : A → Type 0) (b : Bool) (x y : A) → P x → P y → P (if b then x else y)
 either P b x y p q = grind (arith, common_steps)
 
--- ---- what is left is no longer than what there was
+-- ---- a step does not lengthen the text
 
 past_run-shorter : (p : ℕ → Bool) (s : List ℕ) → length (past_run p s) ≤ length s
 past_run-shorter p [] = omega arith
@@ -44,7 +44,7 @@ pub left-shorter : (raw : Bool) (c : ℕ) (s : List ℕ) → length (front_by ra
 unfolding front raw_front
 left-shorter raw c s = grind (arith, common_steps, nat_tests, either, past_backslash-shorter)
 
--- ---- so any number of steps that is large enough gives the same items
+-- ---- any sufficient number of steps gives the same items
 
 module _ (raw : Bool) (offset : List ℕ → ℕ) where
   abbrev at : ℕ → List ℕ → Front
@@ -63,41 +63,43 @@ module _ (raw : Bool) (offset : List ℕ → ℕ) where
   unfolding items_by
   items-cons c s = grind (arith, common_steps, left-shorter, enough)
 
-  -- one element
+  -- A step that reports one element.
   pub items-one : (c : ℕ) (s left : List ℕ) (e : Element) → at c s ≡ one (e, left)
       → items_by at offset (c ∷ s) ≡ item_by offset (offset (c ∷ s)) (e, left) ∷ items_by at offset left
   items-one c s left e is =
       items-cons c s ∙ ap (λ (f : Front). map (item_by offset (offset (c ∷ s))) f.found ++ items_by at offset f.left) is
 
--- no items are in nothing
+-- The empty text has no items.
 pub nothing : (at : ℕ → List ℕ → Front) (offset : List ℕ → ℕ) → items_by at offset [] ≡ []
 unfolding items_by
 nothing at offset = refl
 
--- ---- what the grammar has is read
+-- ---- the model reads the items of the grammar
 
--- the length of what is put together
+-- The length of a concatenation is the sum of the lengths.
 pub bytes-append : (w s : List ℕ) → bytes (w ++ s) ≡ bytes w + bytes s
 bytes-append w s = ap length (encodes-append w s) ∙ length-append (encode_utf8_all w) (encode_utf8_all s)
 
--- the item of the front of a text
+-- The item of an element at the start of a text.
 item-at : (total from : ℕ) (w next : List ℕ) (e : Element) → from + bytes (w ++ next) ≡ total
     → item_at total (place total (w ++ next)) (e, next) ≡ item from e w
 item-at total from w next e ends = let sizes = bytes-append w next in grind (arith, common_steps)
 
--- elements between double quotes
+-- An unescaped character between double quotes.
 unescaped-is : (c : ℕ) (s : List ℕ) → (c == 92) ≡ false → IsElementBefore (34 ∷ []) s (unescaped c) (c ∷ [])
 unescaped-is c s slash =
     cond_both (c == 34) (Diagnostic EscapeOnlyChar) _ (λ (e : Element). IsElementBefore (34 ∷ []) s e (c ∷ []))
     (λ a. g.unescaped (rw a refl)) (λ a.
-    cond_both (c == 13) (Diagnostic BareCarriageReturn) (Plain c) (λ (e : Element). IsElementBefore (34 ∷ []) s e (c ∷ []))
+    cond_both (c == 13) (Diagnostic BareCarriageReturn) (Plain c)
+    (λ (e : Element). IsElementBefore (34 ∷ []) s e (c ∷ []))
     (at-char (λ x. IsElementBefore (34 ∷ []) s (Diagnostic BareCarriageReturn) (x ∷ [])) c 13 g.bare)
     (λ b. g.plain (rw (slash, b, a) refl)))
 
 unescaped-plain : (c : ℕ) → is_among (92 ∷ 13 ∷ 34 ∷ []) c ≡ false → unescaped c ≡ Plain c
 unescaped-plain c out = grind (arith, common_steps, or_parts)
 
-unescaped-special : (c : ℕ) → is_among (34 ∷ []) c ≡ true → ((c == 92) ≡ false) × (unescaped c ≡ Diagnostic EscapeOnlyChar)
+unescaped-special : (c : ℕ) → is_among (34 ∷ []) c ≡ true
+    → ((c == 92) ≡ false) × (unescaped c ≡ Diagnostic EscapeOnlyChar)
 unescaped-special c among = grind (arith, common_steps, nat_tests)
 
 abbrev ReadsDouble : List ℕ → Element → List ℕ → Type 0
@@ -106,7 +108,7 @@ ReadsDouble = Reads (34 ∷ []) unescaped unescaped-plain unescaped-special refl
 double-reads : {next : List ℕ} {e : Element} {w : List ℕ} → IsElementBefore (34 ∷ []) next e w → ReadsDouble next e w
 double-reads = element-reads (34 ∷ []) unescaped unescaped-plain unescaped-special refl unescaped-is
 
--- a backslash that no newline follows is an element
+-- A backslash that is not before a newline starts an element.
 past_backslash-one : (v next : List ℕ) (e : Element) → escape (v ++ next) ≡ (e, next) → (v ≡ 10 ∷ [] → ⊥)
     → past_backslash (v ++ next) ≡ one (e, next)
 past_backslash-one v next e read other = by_text (v ++ next) refl
@@ -139,7 +141,7 @@ raw-reads : {e : Element} {c : ℕ} → IsRawElement e c → (next : List ℕ) �
 unfolding raw_front
 raw-reads is next = grind (arith, common_steps, nat_tests)
 
--- the warnings past a line end
+-- The warnings of a skipped line ending.
 lines-found : (total from : ℕ) (space next : List ℕ) → from + bytes (92 ∷ 10 ∷ space ++ next) ≡ total
     → map (item_at total (place total (92 ∷ 10 ∷ space ++ next))) (more_lines space next) ≡ lines_warning from space
 lines-found total from space next ends =
@@ -162,7 +164,7 @@ line-read : (space next : List ℕ) → list_all is_passed_over space ≡ true �
 unfolding front
 line-read space next all stops = let run = run-is is_passed_over space next all stops in grind (arith, common_steps)
 
--- where the text after w ends
+-- The end of the text after w.
 past-ends : (total from : ℕ) (w next : List ℕ) → from + bytes (w ++ next) ≡ total → from + bytes w + bytes next ≡ total
 past-ends total from w next ends = let sizes = bytes-append w next in omega arith
 
@@ -200,7 +202,7 @@ items-read (g.raw_element {from} {c} {next} {element = e} {items} is are) total 
       items-read are total (past-ends total from (c ∷ []) next ends),
     )
 
--- ---- each text has items
+-- ---- every text has items
 
 abbrev HasItems : Bool → ℕ → List ℕ → Type 0
 HasItems raw from s = (items : List Item) × AreItems raw from s items

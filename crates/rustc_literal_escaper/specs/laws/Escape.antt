@@ -1,4 +1,4 @@
--- The escape that is read after a backslash is the one that the grammar has there, and so is each element.
+-- The model reads exactly the escapes and the elements of the grammar.
 use Rattle.std.proofs.Common.{◌≡◌, ℕ, ◌==◌, ◌||◌, Bool, true, false, true≢false, List, [], ◌∷◌, ◌++◌, length, filter}
 use Rattle.std.proofs.Common.{nat_le, if◌then◌else◌, refl, sym, ap, subst, ◌∙◌, arith, append_assoc}
 use Rattle.std.specs.List.{list_all}
@@ -24,7 +24,7 @@ use Rattle.rustc_literal_escaper.specs.model.Escape.{past_run, short, unicode}
 
 -- ---- runs of characters
 
--- what is of a class, before what is not, is the longest front
+-- Characters of a class, before the end or a character outside of it, are the longest prefix in the class.
 pub run-is : (p : ℕ → Bool) (w s : List ℕ) → list_all p w ≡ true → next_is p s ≡ false → (front_run p (w ++ s) ≡ w)
     × (past_run p (w ++ s) ≡ s)
 run-is p [] [] all stops = (refl, refl)
@@ -45,13 +45,13 @@ run-stops p [] = refl
 run-stops p (c ∷ s) = cond_both (p c) (past_run p s) (c ∷ s) (λ (xs : List ℕ). next_is p xs ≡ false)
     (λ e. run-stops p s) (λ e. e)
 
--- ---- what the grammar has is read
+-- ---- the model reads the escapes of the grammar
 
 pub by_either : {A : Type 0} (b : Bool) → (b ≡ true → A) → (b ≡ false → A) → A
 by_either true t f = t refl
 by_either false t f = f refl
 
--- a digit is no other character
+-- A digit differs from every character that is not a digit.
 pub no-digit : (k c : ℕ) → is_hex k ≡ false → is_hex c ≡ true → (c == k) ≡ false
 no-digit k c none is = by_either (c == k) (λ e. absurd (true≢false (sym is ∙ (ap is_hex (eqb-true c k e) ∙ none))))
     (λ e. e)
@@ -59,7 +59,7 @@ no-digit k c none is = by_either (c == k) (λ e. absurd (true≢false (sym is �
 pub digit-runs : (c : ℕ) → is_hex c ≡ true → is_digit_or_underscore c ≡ true
 digit-runs c digit = ap (λ b. (c == 95) || b) digit ∙ or-true (c == 95)
 
--- digits before what is none
+-- Digits before the end or a character that is not a digit.
 digits-read : (d : ℕ) (w s : List ℕ) → is_hex d ≡ true → list_all is_digit_or_underscore w ≡ true
     → next_is is_digit_or_underscore s ≡ false → braced (d ∷ w ++ s) ≡ closed (d ∷ w) s
 digits-read d w s digit all stops =
@@ -103,9 +103,9 @@ escape-reads {next} (g.too_many (g.some {d} {w} digit all) many) =
     closed-read d 125 w next _ digit all refl (rw (lt-leb _ 6 many) refl)
 escape-reads is = refl
 
--- ---- what is read is in the grammar
+-- ---- the grammar has the escapes that the model reads
 
--- what is read of a text is its front
+-- Holds if the element that was read is an escape of the grammar, at the start of the text.
 abbrev pub IsFront : List ℕ → Element × List ℕ → Type 0
 IsFront s read = (w : List ℕ) × (s ≡ w ++ read.1) × IsEscapeBefore read.1 read.0 w
 
@@ -132,7 +132,8 @@ short-is c s x u =
 
 hex-is : (s : List ℕ) → IsFront (120 ∷ s) (hex s)
 hex-is [] = (120 ∷ [], refl, g.no_digits refl)
-hex-is (h ∷ []) = cond_both (is_hex h) (Diagnostic TooShortHexEscape) _ (λ (e : Element). IsFront (120 ∷ h ∷ []) (e, []))
+hex-is (h ∷ []) = cond_both (is_hex h) (Diagnostic TooShortHexEscape) _
+    (λ (e : Element). IsFront (120 ∷ h ∷ []) (e, []))
     (λ a. (120 ∷ h ∷ [], refl, g.one_digit refl a)) (λ a. (120 ∷ h ∷ [], refl, g.bad_first a))
 hex-is (h ∷ l ∷ s) = cond_both (is_hex h) _ (Diagnostic InvalidCharInHexEscape, l ∷ s) (IsFront (120 ∷ h ∷ l ∷ s))
     (λ a. cond_both (is_hex l) _ (Diagnostic InvalidCharInHexEscape) (λ (e : Element). IsFront (120 ∷ h ∷ l ∷ s) (e, s))
@@ -177,7 +178,8 @@ braced-is (c ∷ s) =
     cond_both (c == 125) (Diagnostic EmptyUnicodeEscape, s) _ (IsFront (117 ∷ 123 ∷ c ∷ s))
     (at-char (λ x. IsFront (117 ∷ 123 ∷ x ∷ s) (Diagnostic EmptyUnicodeEscape, s)) c 125
     (117 ∷ 123 ∷ 125 ∷ [], refl, g.empty)) (λ b.
-    cond_both (is_hex c) (closed_at_run (c ∷ s)) (Diagnostic InvalidCharInUnicodeEscape, s) (IsFront (117 ∷ 123 ∷ c ∷ s))
+    cond_both (is_hex c) (closed_at_run (c ∷ s)) (Diagnostic InvalidCharInUnicodeEscape, s)
+    (IsFront (117 ∷ 123 ∷ c ∷ s))
     (digits-are c s) (λ d.
     (117 ∷ 123 ∷ c ∷ [], refl, g.bad_digit c g.none (ap (λ x. x || is_hex c) a ∙ d) b))))
 
@@ -204,7 +206,7 @@ module _ (special : List ℕ) (unescaped : ℕ → Element)
   abbrev pub read_element : ℕ → List ℕ → Element × List ℕ
   read_element c s = if c == 92 then escape s else (unescaped c, s)
 
-  -- what the grammar has at the front of a text is read there
+  -- Holds if the model reads an element of the grammar at the start of a text.
   pub record Reads (next : List ℕ) (e : Element) (w : List ℕ) : Type 0 where
     pub first : ℕ
     pub others : List ℕ
@@ -225,7 +227,7 @@ module _ (special : List ℕ) (unescaped : ℕ → Element)
       record { first = c; others = []; whole = refl; read = rw m.0 (ap (λ x. (x, next)) m.1) }
   element-reads {next} g.bare = record { first = 13; others = []; whole = refl; read = ap (λ x. (x, next)) bare }
 
-  -- and what is read there is in the grammar
+  -- Holds if the grammar has the element that the model reads at the start of a text.
   pub record Has (c : ℕ) (s : List ℕ) (read : Element × List ℕ) : Type 0 where
     pub others : List ℕ
     pub whole : s ≡ others ++ read.1

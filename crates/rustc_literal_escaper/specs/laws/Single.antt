@@ -1,4 +1,4 @@
--- What is read between single quotes is what the grammar has there.
+-- Between single quotes, the model reads exactly the value or the error of the grammar.
 use Rattle.std.proofs.Common.{◌≡◌, ℕ, ◌==◌, true, false, List, [], ◌∷◌, ◌++◌, Result, Ok, Err, refl, sym, ap, subst}
 use Rattle.std.proofs.Common.{◌∙◌, arith, append_assoc}
 use Rattle.std.proofs.lemmas.{Bool.{cond_both, or_parts}, List.{append-nil}, Bool.Decides.{nat_tests}}
@@ -26,14 +26,16 @@ unescaped-is c s slash =
     (at-char (λ x. IsElementBefore special s (Diagnostic EscapeOnlyChar) (x ∷ [])) c 9 (g.unescaped refl)) (λ b.
     cond_both (c == 39) (Diagnostic EscapeOnlyChar) _ (λ (e : Element). IsElementBefore special s e (c ∷ []))
     (at-char (λ x. IsElementBefore special s (Diagnostic EscapeOnlyChar) (x ∷ [])) c 39 (g.unescaped refl)) (λ d.
-    cond_both (c == 13) (Diagnostic BareCarriageReturn) (Plain c) (λ (e : Element). IsElementBefore special s e (c ∷ []))
+    cond_both (c == 13) (Diagnostic BareCarriageReturn) (Plain c)
+    (λ (e : Element). IsElementBefore special s e (c ∷ []))
     (at-char (λ x. IsElementBefore special s (Diagnostic BareCarriageReturn) (x ∷ [])) c 13 g.bare) (λ e.
     g.plain (rw (slash, e, d, a, b) refl)))))
 
 unescaped-plain : (c : ℕ) → is_among (92 ∷ 13 ∷ special) c ≡ false → unescaped c ≡ Plain c
 unescaped-plain c out = grind (arith, common_steps, or_parts)
 
-unescaped-special : (c : ℕ) → is_among special c ≡ true → ((c == 92) ≡ false) × (unescaped c ≡ Diagnostic EscapeOnlyChar)
+unescaped-special : (c : ℕ) → is_among special c ≡ true
+    → ((c == 92) ≡ false) × (unescaped c ≡ Diagnostic EscapeOnlyChar)
 unescaped-special c among = grind (arith, common_steps, nat_tests)
 
 abbrev ReadsSingle : List ℕ → Element → List ℕ → Type 0
@@ -46,7 +48,7 @@ module _ {U : Type 0} (meaning : Element → Result U EscapeError) where
   abbrev read : List ℕ → Result U Error
   read s = read_single (bytes s) meaning s
 
-  -- by the first element and what is left
+  -- The result follows from the first element and the text after it.
   read-first : {next : List ℕ} {e : Element} {w : List ℕ} (meant : Result U EscapeError)
       → IsElementBefore special next e w → meaning e ≡ meant → read (w ++ next) ≡ only (bytes (w ++ next)) meant next
   read-first {next} {e} {w} meant is means = let r = single-reads is in grind (arith, common_steps, r.whole, r.read)
@@ -71,7 +73,7 @@ module _ {U : Type 0} (meaning : Element → Result U EscapeError) where
         error-at (w ++ c ∷ []) next MoreThanOneChar,
       )
 
-  -- each text stands for something
+  -- Every text has a value or an error.
   pub single-some : (s : List ℕ) → (r : Result U Error) × IsSingle meaning s r
   single-some [] = (_, g.nothing)
   single-some (c ∷ s) =

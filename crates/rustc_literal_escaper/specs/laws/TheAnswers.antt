@@ -1,4 +1,4 @@
--- How each answer of the grammar is found, and that it is the only one.
+-- How each answer of the grammar is computed, and that it is the only one.
 use Rattle.std.proofs.Common.{◌≡◌, ◌↔◌, ℕ, zero-add, ◌+◌, Bool, List, length, Result, refl, sym, ap, subst, ◌∙◌, arith}
 use Rattle.std.specs.Str.{chars, IsUtf8}
 use Rattle.std.proofs.lemmas.Str.{encodes-chars}
@@ -10,7 +10,7 @@ use Rattle.rustc_literal_escaper.specs.laws.Single.{single-read, single-some}
 use Rattle.rustc_literal_escaper.specs.model.Elements.{front_by, items_from}
 use Rattle.rustc_literal_escaper.specs.model.Single.{read_single}
 
--- what is read of whatever the grammar allows, where it allows something, is the only one
+-- If something is allowed, and every allowed value equals the answer, then exactly the answer is allowed.
 pub only-read : {A : Type 0} (Allows : A → Type 0) (answer : A) → ((other : A) → Allows other → answer ≡ other)
     → (some : A) → Allows some → (other : A) → Allows other ↔ (other ≡ answer)
 only-read Allows answer reads some is other =
@@ -34,6 +34,6 @@ the_items raw text = record {
       only-read (AreItems raw 0 (chars text)) _ (λ other are. items-read are (length text) ends) some.0 some.1;
 }
 
--- the grammar allows the answer
+-- The grammar allows the answer.
 pub items-are : (raw : Bool) (text : List ℕ) → IsUtf8 text → AreItems raw 0 (chars text) (the_items raw text).answer
 items-are raw text is = ((the_items raw text).only is (the_items raw text).answer).1 refl

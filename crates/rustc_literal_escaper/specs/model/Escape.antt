@@ -1,4 +1,4 @@
--- Reading an escape: the element that follows a backslash, and the text that is left after it.
+-- The model of reading an escape: the element after a backslash, and the rest of the text.
 use Rattle.std.specs.Prelude.{ℕ, ◌+◌, ◌*◌, ◌==◌, nat_le, Bool, if◌then◌else◌, List, [], ◌∷◌, length, filter}
 use Rattle.std.specs.{Char.{digit_value}, Str.{byte}}
 use Rattle.rustc_literal_escaper.specs.declared.element.Element.{Element}
@@ -14,7 +14,7 @@ use Rattle.rustc_literal_escaper.specs.declared.error.EscapeError.TheVariants.{L
 use Rattle.rustc_literal_escaper.specs.declared.error.EscapeError.TheVariants.{OverlongUnicodeEscape}
 use Rattle.rustc_literal_escaper.specs.Grammar.{hex_value, is_digit_or_underscore, is_hex}
 
--- the longest front of characters in a class, and what follows it
+-- `front_run` returns the longest prefix of characters in a class, and `past_run` returns the text after it.
 abbrev pub front_run : (ℕ → Bool) → List ℕ → List ℕ
 front_run p [] = []
 front_run p (c ∷ s) = if p c then c ∷ front_run p s else []
@@ -23,8 +23,7 @@ abbrev pub past_run : (ℕ → Bool) → List ℕ → List ℕ
 past_run p [] = []
 past_run p (c ∷ s) = if p c then past_run p s else c ∷ s
 
--- the escapes of one character: NUL, tab, newline and carriage return; quotes and the backslash
--- stand for themselves
+-- Returns the element of an escape of one character: NUL, tab, newline, carriage return, the quotes and the backslash.
 abbrev pub short : ℕ → Element
 short c =
     if c == byte "0" then Byte 0 else
@@ -36,7 +35,7 @@ short c =
     if c == byte "\\" then Byte c else
     Diagnostic InvalidEscape
 
--- `\x` and two hexadecimal digits
+-- Reads the text after `\x`: two hexadecimal digits.
 abbrev pub hex : List ℕ → Element × List ℕ
 hex [] = (Diagnostic TooShortHexEscape, [])
 hex (h ∷ []) = (if is_hex h then Diagnostic TooShortHexEscape else Diagnostic InvalidCharInHexEscape, [])
@@ -48,13 +47,13 @@ hex (h ∷ l ∷ s) =
     )
     else (Diagnostic InvalidCharInHexEscape, l ∷ s)
 
--- the number that these digits are; more than six are an error
+-- Returns the element of a number with these digits. More than six digits are an error.
 abbrev pub number : List ℕ → Element
 number digits =
     if nat_le (length digits) 6 then Unicode (hex_value digits) else Diagnostic OverlongUnicodeEscape
 
--- the escape by the digits that were read, and by what follows them: the closing brace, another
--- character, or nothing
+-- Returns the element of an escape whose digits have been read, by the text after them: the closing brace, another
+-- character, or nothing.
 abbrev pub closed : List ℕ → List ℕ → Element × List ℕ
 closed digits [] = (Diagnostic UnclosedUnicodeEscape, [])
 closed digits (c ∷ s) =
@@ -71,12 +70,12 @@ braced (c ∷ s) =
     if is_hex c then closed_at_run (c ∷ s) else
     (Diagnostic InvalidCharInUnicodeEscape, s)
 
--- the text after `\u`: a number of hexadecimal digits in braces
+-- Reads the text after `\u`: hexadecimal digits in braces.
 abbrev pub unicode : List ℕ → Element × List ℕ
 unicode [] = (Diagnostic NoBraceInUnicodeEscape, [])
 unicode (c ∷ s) = if c == byte "{" then braced s else (Diagnostic NoBraceInUnicodeEscape, s)
 
--- the text after a backslash
+-- Reads the text after a backslash.
 abbrev pub escape : List ℕ → Element × List ℕ
 escape [] = (Diagnostic LoneSlash, [])
 escape (c ∷ s) =

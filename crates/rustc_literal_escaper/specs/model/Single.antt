@@ -1,4 +1,4 @@
--- Reading the text between single quotes, and the errors of a literal.
+-- The model of reading a text between single quotes, and the errors of a literal.
 use Rattle.std.specs.Prelude.{◌≡◌, ℕ, ◌==◌, if◌then◌else◌, List, [], ◌∷◌, length, Option, Some, None, Result, Ok, Err}
 use Rattle.std.specs.{Option.{option_to_list}, Str.{byte, chars}}
 use Rattle.rustc_literal_escaper.specs.declared.element.Element.{Element}
@@ -12,8 +12,8 @@ use Rattle.rustc_literal_escaper.specs.Meaning.{error_of, errors_in, is_raw, is_
 use Rattle.rustc_literal_escaper.specs.model.Elements.{front_by, items_from, place}
 use Rattle.rustc_literal_escaper.specs.model.Escape.{escape}
 
--- an unescaped character. A newline, a tab, a single quote or a carriage return is an error, since
--- it has to be escaped
+-- Returns the element of an unescaped character. A newline, a tab, a single quote or a carriage return is an error,
+-- since it must be escaped.
 abbrev pub unescaped : ℕ → Element
 unescaped c =
     if c == 10 then Diagnostic EscapeOnlyChar else
@@ -22,17 +22,16 @@ unescaped c =
     if c == 13 then Diagnostic BareCarriageReturn else
     Plain c
 
--- the first element of a text that begins with the character `c`, and the text that is left after
--- it
+-- Returns the first element of a text that starts with the character `c`, and the text after it.
 abbrev pub single : ℕ → List ℕ → Element × List ℕ
 single c s = if c == byte "\\" then escape s else (unescaped c, s)
 
--- a list that is not empty begins with this element, and `left` is the text after it
+-- Holds if the text starts with this element, and `left` is the text after it.
 abbrev pub StartsWithSingle : List ℕ → Element → List ℕ → Type 0
 StartsWithSingle [] element left = ⊥
 StartsWithSingle (c ∷ s) element left = (element, left) ≡ single c s
 
--- the value, if there is one and no text is left, otherwise the error
+-- Returns the value if there is one and no text is left, and the error otherwise.
 abbrev pub alone : {U : Type 0} → Result U EscapeError → List ℕ → Result U EscapeError
 alone (Ok unit) [] = Ok unit
 alone (Ok unit) (c ∷ s) = Err MoreThanOneChar
@@ -42,8 +41,8 @@ abbrev pub literal : {U : Type 0} → (Element → Result U EscapeError) → Lis
 literal meaning [] = Err ZeroChars
 literal meaning (c ∷ s) = alone (meaning (single c s).0) (single c s).1
 
--- between single quotes there is at most one error. Its range begins at the start of the text, and
--- ends after the character that shows the error
+-- Returns an error between single quotes. There is at most one. Its range starts at the start of the text and ends
+-- after the offending character.
 abbrev pub error_to : (List ℕ → ℕ) → EscapeError → List ℕ → Option Error
 error_to offset error left = Some (record { start = 0; end = offset left }, error)
 
@@ -57,7 +56,7 @@ single_error offset mode [] = Some (record { start = 0; end = 0 }, ZeroChars)
 single_error offset mode (c ∷ s) =
     alone_error offset (error_of mode (single c s).0) (single c s).1
 
--- what the literal stands for, or its error and the range of that
+-- Returns the value of the literal, or its error with the range.
 abbrev pub only : {U : Type 0} → ℕ → Result U EscapeError → List ℕ → Result U Error
 only total (Err error) left = Err (record { start = 0; end = place total left }, error)
 only total (Ok unit) [] = Ok unit
@@ -68,7 +67,7 @@ abbrev pub read_single : {U : Type 0} → ℕ → (Element → Result U EscapeEr
 read_single total meaning [] = Err (record { start = 0; end = 0 }, ZeroChars)
 read_single total meaning (c ∷ s) = only total (meaning (single c s).0) (single c s).1
 
--- the errors and warnings of a literal of this kind
+-- Returns the errors and warnings of a literal of this kind.
 abbrev pub read_errors : Mode → List ℕ → List Error
 read_errors mode text =
     if is_single mode then option_to_list (single_error (place (length text)) mode (chars text))

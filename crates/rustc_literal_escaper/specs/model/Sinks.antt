@@ -2,8 +2,8 @@
 use Rattle.std.specs.Prelude.{◌≡◌, Bool, true, false, List, [], ◌∷◌, ◌++◌}
 use Rattle.rustc_literal_escaper.specs.Grammar.{Item}
 
--- consuming the first of these items changes the state from `s` to `t`, and `left` remain: all are
--- consumed, or the last one consumed is the first for which the consumer returns false
+-- Holds if consuming the first of these items changes the state from `s` to `t`, and `left` remain. Either all items
+-- are consumed, or the last one consumed is the first for which the consumer returns false.
 pub data Runs {S : Type 0} (took : S → Item → Bool → S → Type 0) : S → List Item → S → List Item
     → Type 0 where
   all : {s : S} → Runs took s [] s []
@@ -15,7 +15,7 @@ pub data Runs {S : Type 0} (took : S → Item → Bool → S → Type 0) : S →
       → took s item false t
       → Runs took s (item ∷ items) t items
 
--- the items `found` are consumed, or only the first of them, whatever items come after them
+-- Holds if the consumer consumes the items `found`, or stops at one of them, whatever items follow them.
 abbrev pub Takes : {S : Type 0} → (S → Item → Bool → S → Type 0) → S → List Item → Bool → S → Type 0
 Takes {S} took s found on u =
     (t : S) (items left : List Item)

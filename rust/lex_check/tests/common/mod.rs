@@ -1,10 +1,10 @@
-//! Runs the program on files of a test, in a folder of its own.
+//! Runs the program on the files of a test, in a folder of its own.
 
 use std::fs;
 use std::path::{Path, PathBuf};
 use std::process::Command;
 
-/// Returns an empty folder with this name, below Cargo's folder for the files of tests.
+/// Returns an empty folder with this name, in Cargo's folder for files of tests.
 pub fn empty_folder(name: &str) -> PathBuf {
     let folder = PathBuf::from(env!("CARGO_TARGET_TMPDIR")).join(name);
     if folder.exists() {
@@ -21,7 +21,7 @@ pub fn lex_check(folder: &Path, arguments: &[&str]) -> Command {
     command
 }
 
-/// Returns what a process has written, as text.
+/// Returns the output of a process as text.
 pub fn text_of(bytes: &[u8]) -> &str {
     std::str::from_utf8(bytes).unwrap()
 }

@@ -13,7 +13,7 @@ use memchr::{memchr, memrchr};
 use rustc_lexer::generated::{LiteralKind, TokenKind};
 use rustc_literal_escaper::generated::{Element, EscapeError, Mode};
 
-/// The mark of a stretch of a literal that is not plain.
+/// The look of a stretch of a literal that is not plain.
 #[derive(Clone, Copy, Debug, PartialEq, Eq)]
 pub enum Look {
     /// An escape.
@@ -83,7 +83,7 @@ fn between_quotes(mode: Mode, text: &str) -> Option<(usize, usize)> {
     }
 }
 
-/// Writes a terminated literal: its escapes in their class, its errors between their marks, and the rest as text.
+/// Writes a terminated literal: its escapes in their class, its errors with messages, and the rest as text.
 pub fn write_literal<W: fmt::Write>(
     format: Format,
     mode: Mode,
@@ -126,7 +126,7 @@ fn last_offset(byte: u8, text: &str) -> usize {
     memrchr(byte, text.as_bytes()).unwrap_or(0)
 }
 
-/// Returns the mark of the contents of a literal with single quotes, or `None` if they are plain.
+/// Returns the look of the contents of a literal with single quotes, or `None` if they are plain.
 fn single_look(mode: Mode, inside: &str) -> Option<Look> {
     match single_error(mode, inside) {
         Some(error) => Some(Look::Wrong(error)),
@@ -149,7 +149,7 @@ fn single_error(mode: Mode, inside: &str) -> Option<EscapeError> {
 struct Painter<'a> {
     format: Format,
     text: &'a str,
-    /// The text before this offset is written.
+    /// The text before this offset has been written.
     shown: usize,
     /// The text between `shown` and this offset is plain.
     at: usize,
@@ -189,7 +189,8 @@ impl<'a> Painter<'a> {
         self.write_rest(output)
     }
 
-    /// Marks the text up to `start` as an escape, if there is any: between two elements is only a skipped line end.
+    /// Marks the text up to `start`, if there is any, as an escape. Between two elements there can only be a skipped
+    /// line ending.
     fn mark_skipped<W: fmt::Write>(&mut self, start: usize, output: &mut W) -> fmt::Result {
         if self.at < start {
             self.mark(Some(Look::Escape), start, output)
@@ -198,7 +199,7 @@ impl<'a> Painter<'a> {
         }
     }
 
-    /// Writes the text up to `end` with a mark, or leaves it to be written as plain text if there is no mark.
+    /// Writes the text up to `end` with this look. If the look is `None`, the text is plain and is written later.
     fn mark<W: fmt::Write>(
         &mut self,
         look: Option<Look>,
@@ -227,7 +228,7 @@ impl<'a> Painter<'a> {
     }
 }
 
-/// Writes a stretch with its mark.
+/// Writes a stretch with the markup of its look.
 fn write_look<W: fmt::Write>(
     format: Format,
     look: Look,
@@ -246,7 +247,7 @@ fn write_look<W: fmt::Write>(
     }
 }
 
-/// Returns the mark of an element, or `None` if it is plain.
+/// Returns the look of an element, or `None` if it is plain.
 fn look_of(mode: Mode, element: Element) -> Option<Look> {
     match (element.error_in(mode), element) {
         (Some(error), _) => Some(Look::Wrong(error)),

@@ -6,18 +6,20 @@ use core::fmt;
 
 /// An error or warning in a literal. Its `Display` writes a message.
 ///
+/// # Examples
+///
 /// ```
 /// use rustc_literal_escaper::EscapeError;
 ///
 /// let error = EscapeError::LoneSlash;
 /// assert!(error.is_fatal() && !EscapeError::UnskippedWhitespaceWarning.is_fatal());
-/// assert_eq!(error.to_string(), "nothing follows this backslash, which begins an escape");
+/// assert_eq!(error.to_string(), "incomplete escape: missing character after the backslash");
 /// ```
 #[derive(Clone, Copy, Debug, PartialEq, Eq, Hash)]
 pub enum EscapeError {
     /// An empty character or byte literal: `''`.
     ZeroChars,
-    /// A character or byte literal with more than one unit in it: `'ab'`.
+    /// A character or byte literal with more than one unit: `'ab'`.
     MoreThanOneChar,
 
     /// A backslash at the end of the literal.
@@ -31,11 +33,11 @@ pub enum EscapeError {
     /// A character that must be escaped in this literal: a tab between single quotes.
     EscapeOnlyChar,
 
-    /// The literal ends before `\x` has its two digits: `\x1`.
+    /// The literal ends before the two digits of `\x`: `\x1`.
     TooShortHexEscape,
-    /// A character that is not a hexadecimal digit where `\x` needs one: `\xz`.
+    /// An invalid hexadecimal digit after `\x`: `\xz`.
     InvalidCharInHexEscape,
-    /// `\x80` or more in a character or a string.
+    /// `\x80` or more in a character literal or a string.
     OutOfRangeHexEscape,
 
     /// `\u` without an opening brace.
@@ -50,23 +52,23 @@ pub enum EscapeError {
     LeadingUnderscoreUnicodeEscape,
     /// More than six digits: `\u{10FFFF_FF}`.
     OverlongUnicodeEscape,
-    /// The number of a surrogate, which is not a character: `\u{DFFF}`.
+    /// A surrogate, which is not a character: `\u{DFFF}`.
     LoneSurrogateUnicodeEscape,
-    /// A number greater than that of any character: `\u{FFFFFF}`.
+    /// A number greater than the maximum code point: `\u{FFFFFF}`.
     OutOfRangeUnicodeEscape,
 
-    /// `\u` in a byte or a byte string.
+    /// `\u` in a byte literal or a byte string.
     UnicodeEscapeInByte,
-    /// A character outside ASCII in a byte or a byte string.
+    /// A non-ASCII character in a byte literal, a byte string or a raw byte string.
     NonAsciiCharInByte,
 
-    /// U+0000 in a C string, which it would end.
+    /// U+0000 or the byte 0 in a C string, which it would end.
     NulInCStr,
 
-    /// A warning: whitespace that is not skipped follows a skipped line end.
+    /// A warning: whitespace that is not skipped follows a skipped line ending.
     UnskippedWhitespaceWarning,
 
-    /// A warning: a backslash at the end of a line skips more than that one line end.
+    /// A warning: a backslash at the end of a line skips more than that line ending.
     MultipleSkippedLinesWarning,
 }
 
@@ -83,29 +85,29 @@ impl EscapeError {
 
 /// The message of each error, in the order of `EscapeError`.
 const ERRORS: [&str; 23] = [
-    "nothing is between these quotes: one character goes there",
-    "more than one character is between these quotes",
-    "nothing follows this backslash, which begins an escape",
-    "there is no such escape: a backslash itself is written twice",
-    "a carriage return cannot stand here itself: it is written as \\r",
-    "a raw string cannot hold a carriage return",
-    "this character cannot stand here itself: it is written as an escape",
-    "this escape ends too early: \\x takes two hexadecimal digits",
-    "this is no hexadecimal digit: \\x takes two of them",
-    "this escape is out of range: here \\x goes up to 7f",
-    "no brace follows here: \\u takes its digits in braces",
-    "this is neither a hexadecimal digit nor an underscore nor a closing brace",
-    "no digit is between these braces: \\u takes one to six",
-    "nothing closes this escape: a brace would",
-    "an underscore is the first here: \\u takes a digit first",
-    "too many digits are between these braces: \\u takes six at most",
-    "this is the number of a surrogate, which is no character",
-    "no character has so great a number: the greatest is 10ffff",
-    "no byte is written like this: \\x writes one",
-    "this character is not in ASCII, and so is no byte",
-    "a C string cannot hold a NUL, which ends it",
-    "not all white space after this line end is skipped: spaces, tabs and line ends are",
-    "more than one line end is skipped here",
+    "empty literal: expected one character",
+    "too many characters: expected one between single quotes",
+    "incomplete escape: missing character after the backslash",
+    "unknown escape: write a backslash as `\\\\`",
+    "bare CR in a literal: write it as `\\r`",
+    "bare CR in a raw string",
+    "unescaped character: write it as an escape",
+    "incomplete escape: `\\x` needs two hexadecimal digits",
+    "invalid character in an escape: `\\x` needs two hexadecimal digits",
+    "escape out of range: the maximum is `\\x7f`",
+    "invalid escape: expected `{` after `\\u`",
+    "invalid character in an escape: expected a hexadecimal digit, `_` or `}`",
+    "empty escape: `\\u` needs one to six hexadecimal digits",
+    "incomplete escape: missing `}`",
+    "leading `_` in an escape: expected a hexadecimal digit",
+    "too many digits in an escape: `\\u` allows at most six",
+    "invalid code point: surrogates are not characters",
+    "escape out of range: the maximum is `\\u{10ffff}`",
+    "`\\u` in a byte or byte string: use `\\x`",
+    "non-ASCII character in a byte or byte string",
+    "NUL in a C string: it would end the string",
+    "unskipped whitespace: an escaped newline skips only spaces, tabs and line endings",
+    "skipped blank line: an escaped newline skips it too",
 ];
 
 impl fmt::Display for EscapeError {

@@ -11,19 +11,22 @@ use crate::generated::text::Plain;
 use core::iter::Iterator;
 use core::ops::Range;
 
-/// An iterator over the errors and warnings in a literal, each with its byte range.
+/// An iterator over the errors and warnings in a literal, with their byte ranges.
 ///
-/// Its items are the calls of [`check_for_errors`](crate::check_for_errors), in the same order.
+/// It returns the arguments of the calls that [`check_for_errors`](crate::check_for_errors) makes, in the same order.
+///
+/// # Examples
 pub struct EscapeErrors<'a> {
-    /// The error of a character or byte literal, until it is returned.
+    /// The error of a character or byte literal, until it has been returned.
     alone: Option<(Range<usize>, EscapeError)>,
     elements: Elements<'a>,
     mode: Mode,
 }
 
 impl<'a> EscapeErrors<'a> {
-    /// Returns an iterator over the errors and warnings in a literal of this kind. `src` is the text between the
-    /// quotes.
+    /// Returns an iterator over the errors and warnings in a literal of this kind.
+    ///
+    /// `src` is the text between the quotes.
     pub fn new(src: &'a str, mode: Mode) -> EscapeErrors<'a> {
         if !mode.in_double_quotes() {
             return EscapeErrors {

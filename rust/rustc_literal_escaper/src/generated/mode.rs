@@ -3,19 +3,21 @@
 
 /// The kind of a literal. It decides how the text between the quotes is read.
 ///
+/// See [Literals](https://doc.rust-lang.org/reference/tokens.html#literals) in the Rust Reference.
+///
+/// # Examples
+///
 /// ```
 /// use rustc_literal_escaper::Mode;
 ///
 /// assert_eq!(Mode::RawByteStr.prefix_noraw(), "b");
 /// assert!(Mode::CStr.in_double_quotes() && !Mode::Byte.in_double_quotes());
 /// ```
-///
-/// Rust Reference, [Literals](https://doc.rust-lang.org/reference/tokens.html#literals).
 #[derive(Clone, Copy, Debug, PartialEq, Eq, Hash)]
 pub enum Mode {
-    /// A character, like `'a'`.
+    /// A character literal, like `'a'`.
     Char,
-    /// A byte, like `b'a'`.
+    /// A byte literal, like `b'a'`.
     Byte,
     /// A string, like `"hello"`.
     Str,
@@ -32,7 +34,7 @@ pub enum Mode {
 }
 
 impl Mode {
-    /// Returns whether a literal of this kind has double quotes: all have except characters and bytes.
+    /// Returns whether a literal of this kind has double quotes. Only character and byte literals do not.
     #[must_use]
     pub fn in_double_quotes(self) -> bool {
         !matches!(self, Mode::Char | Mode::Byte)

@@ -9,9 +9,13 @@ use crate::generated::strings::{AsByte, AsChar, Meaning};
 use crate::generated::text::{Plain, Text};
 use core::ops::Range;
 
-/// Returns the value of a character literal. `src` is the text between its quotes.
+/// Returns the value of a character literal.
 ///
-/// Rust Reference, [Character literals](https://doc.rust-lang.org/reference/tokens.html#character-literals).
+/// `src` is the text between its quotes.
+///
+/// See [Character literals](https://doc.rust-lang.org/reference/tokens.html#character-literals) in the Rust Reference.
+///
+/// # Examples
 ///
 /// ```
 /// use rustc_literal_escaper::{EscapeError, unescape_char};
@@ -22,15 +26,19 @@ use core::ops::Range;
 ///
 /// # Errors
 ///
-/// Returns the error if the literal is not valid.
+/// Returns the error of the literal if it is invalid.
 #[inline]
 pub fn unescape_char(src: &str) -> Result<char, EscapeError> {
     read::<AsChar>(src)
 }
 
-/// Returns the value of a byte literal. `src` is the text between its quotes.
+/// Returns the value of a byte literal.
 ///
-/// Rust Reference, [Byte literals](https://doc.rust-lang.org/reference/tokens.html#byte-literals).
+/// `src` is the text between its quotes.
+///
+/// See [Byte literals](https://doc.rust-lang.org/reference/tokens.html#byte-literals) in the Rust Reference.
+///
+/// # Examples
 ///
 /// ```
 /// use rustc_literal_escaper::{EscapeError, unescape_byte};
@@ -41,13 +49,13 @@ pub fn unescape_char(src: &str) -> Result<char, EscapeError> {
 ///
 /// # Errors
 ///
-/// Returns the error if the literal is not valid.
+/// Returns the error of the literal if it is invalid.
 #[inline]
 pub fn unescape_byte(src: &str) -> Result<u8, EscapeError> {
     read::<AsByte>(src)
 }
 
-/// Returns the value of the only element.
+/// Returns the value of a literal with single quotes.
 #[inline(always)]
 fn read<M: Meaning>(src: &str) -> Result<M::Meant, EscapeError> {
     let mut rest = Plain::new(src);
@@ -62,9 +70,9 @@ fn read<M: Meaning>(src: &str) -> Result<M::Meant, EscapeError> {
     }
 }
 
-/// Returns the error of a character or byte literal and its byte range, or `None` if it has no error.
+/// Returns the error of a character or byte literal with its byte range, or `None` if it has no error.
 ///
-/// The range runs from 0 through the offending character.
+/// The range starts at 0 and ends after the offending character.
 #[inline(always)]
 pub fn single_error<T: Text>(rest: &mut T, mode: Mode) -> Option<(Range<usize>, EscapeError)> {
     let Some(c) = rest.next_char() else {

@@ -57,12 +57,12 @@ impl NonZeroU8 {
     }
 }
 
-/// A unit of a C string: a character, or a byte that belongs to no character.
+/// A unit of a C string: a character, or a byte that is not part of a character.
 #[derive(Clone, Copy, Debug, PartialEq, Eq)]
 pub enum MixedUnit {
-    /// A character that is written as it is, as `\u{..}`, or as an escape for a byte below 128.
+    /// A character, written unescaped, as `\u{..}`, or as an escape for a byte below 128.
     ///
-    /// Its bytes are its UTF-8, like the two of `¥`.
+    /// In the C string, it is encoded as UTF-8: `¥` has two bytes.
     Char(NonZeroChar),
     /// A byte of 128 or more, written as `\x80` to `\xff`.
     HighByte(NonZeroU8),

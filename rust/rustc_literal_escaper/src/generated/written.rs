@@ -22,12 +22,14 @@ impl From<AllocError> for EscapeCStrError {
 
 /// Appends `text` to `out` as the contents of a string literal.
 ///
-/// Each character is written like `char::escape_default` writes it, so the output is ASCII. [`unescape_str`] reads
-/// the characters of `text` back from it.
+/// Each character is escaped by `char::escape_default`, so the output is ASCII. [`unescape_str`] reads the characters
+/// of `text` back from it.
 ///
 /// # Errors
 ///
-/// Returns `AllocError` if an allocation fails. Then `out` does not change.
+/// Returns `AllocError` if an allocation fails. Then `out` is unchanged.
+///
+/// # Examples
 ///
 /// [`unescape_str`]: crate::unescape_str
 pub fn escape_str(text: &str, out: &mut String) -> Result<(), AllocError> {
@@ -41,12 +43,12 @@ pub fn escape_str(text: &str, out: &mut String) -> Result<(), AllocError> {
 
 /// Appends `bytes` to `out` as the contents of a byte string literal.
 ///
-/// Each byte is written like `u8::escape_ascii` writes it, so the output is ASCII. [`unescape_byte_str`] reads the
-/// bytes back from it.
+/// Each byte is escaped by `u8::escape_ascii`, so the output is ASCII. [`unescape_byte_str`] reads the bytes back from
+/// it.
 ///
 /// # Errors
 ///
-/// Returns `AllocError` if an allocation fails. Then `out` does not change.
+/// Returns `AllocError` if an allocation fails. Then `out` is unchanged.
 ///
 /// [`unescape_byte_str`]: crate::unescape_byte_str
 pub fn escape_byte_str(bytes: &[u8], out: &mut String) -> Result<(), AllocError> {
@@ -60,12 +62,12 @@ pub fn escape_byte_str(bytes: &[u8], out: &mut String) -> Result<(), AllocError>
 
 /// Appends `bytes` to `out` as the contents of a C string literal.
 ///
-/// `bytes` does not include the NUL at the end. They are written like [`escape_byte_str`] writes them.
-/// [`unescape_c_str`] reads them back: a byte below 128 as a character, any other as `HighByte`.
+/// `bytes` does not include the NUL at the end. They are escaped like in [`escape_byte_str`]. [`unescape_c_str`] reads
+/// them back: a byte below 128 as a character, any other as `HighByte`.
 ///
 /// # Errors
 ///
-/// Returns `Nul` if a byte is 0, and `Memory` if an allocation fails. Then `out` does not change.
+/// Returns `Nul` if a byte is 0, and `Memory` if an allocation fails. Then `out` is unchanged.
 ///
 /// [`unescape_c_str`]: crate::unescape_c_str
 pub fn escape_c_str(bytes: &[u8], out: &mut String) -> Result<(), EscapeCStrError> {

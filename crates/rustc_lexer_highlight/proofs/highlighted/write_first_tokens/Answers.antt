@@ -3,7 +3,7 @@ use Rattle.rustc_lexer.specs.{declared.token.Token.{Token}, Tokens.{tokens_left}
 use Rattle.rustc_lexer_highlight.proofs.HighlightedLemmas.{past_piece, writes_token}
 use Rattle.rustc_lexer_highlight.proofs.highlighted.write_first_tokens.Goals as goal
 
--- the first of some tokens, and as many of the others as are left
+-- The first n tokens are the first token, and n - 1 of the rest.
 one_less : (n : ℕ) (all others : List Token) (token : Token) → 0 < n → all ≡ token ∷ others
     → take n all ≡ token ∷ take (n - 1) others
 one_less zero all others token some is = absurd (omega (arith, some))

@@ -2,7 +2,7 @@ use Rattle.std.proofs.Common.{◌≡◌, ℕ, ◌-◌, List, length, take, arith
 use Rattle.std.specs.Fmt.{WritesInCalls}
 use Rattle.rustc_lexer.specs.{Document.{tokens_start}, State.{State}, Tokens.{tokens_left}}
 use Rattle.rustc_lexer.proofs.lemmas.tokens.Places.{document_start}
-use Rattle.rustc_lexer_highlight.specs.{Highlighted.{marked_tokens, start_parts}, Part.{with_marks}}
+use Rattle.rustc_lexer_highlight.specs.{Highlighted.{marked_tokens, start_parts}, Part.{with_markup}}
 use Rattle.rustc_lexer_highlight.proofs.HighlightedLemmas.{past_piece, writes_past, writes_token}
 use Rattle.rustc_lexer_highlight.proofs.highlighted.write_highlighted.Goals as goal
 
@@ -42,7 +42,7 @@ loop-token-init g c =
       utf8 = c.as_str-rest.utf8;
       place = rest;
       left = λ w more. writes_past took c.args.format c.args.edition c.args.output.now c.write_start.new.output w text
-          (subst (λ (bs : List ℕ). WritesInCalls took c.args.output.now (with_marks c.args.format (start_parts bs))
+          (subst (λ (bs : List ℕ). WritesInCalls took c.args.output.now (with_markup c.args.format (start_parts bs))
           c.write_start.new.output)
           before c.in_ok-write_start.ensures)
           (subst (λ (s : State). WritesInCalls took c.write_start.new.output

@@ -2,7 +2,7 @@ use Rattle.std.proofs.Common.{◌≡◌, List, true, length}
 use Rattle.rustc_literal_escaper.specs.{Grammar.{Item}, model.{Elements.{front_by, items_by}, Sinks.{Runs}}}
 use Rattle.rustc_literal_escaper.proofs.elements.each_raw.Given as goal
 
--- what is still to be taken completes all that is taken
+-- Consuming the remaining items completes the run from the start.
 abbrev pub invariant-characters : goal.invariant-characters
 invariant-characters g l =
     g.S.Sink.ready l.sink

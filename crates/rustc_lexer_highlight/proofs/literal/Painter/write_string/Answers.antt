@@ -1,7 +1,8 @@
 use Rattle.std.proofs.Common.{ℕ, ◌+◌, ◌≤◌, List, Bool, IsCharBoundary, arith, rules, refl, ap, sym, subst, ◌∙◌}
 use Rattle.std.proofs.lemmas.Result.{on_ok_weaker}
 use Rattle.rustc_lexer_highlight.specs.LineEnds.{file_items}
-use Rattle.rustc_lexer_highlight.proofs.LiteralLemmas.{paints_end, paints_item, placed_all, placed_first, writes_all, writes_told}
+use Rattle.rustc_lexer_highlight.proofs.LiteralLemmas.{paints_end, paints_item, placed_all, placed_first, writes_all}
+use Rattle.rustc_lexer_highlight.proofs.LiteralLemmas.{writes_told}
 use Rattle.rustc_lexer_highlight.proofs.literal.Painter.write_string.Goals as goal
 
 pub loop-range-init : goal.loop-range-init

@@ -1,5 +1,4 @@
--- What is promised of the stretches of a string, by the errors that the escaper reports of what
--- stands between its quotes.
+-- The guarantees for the stretches of a string, in terms of the errors that the escaper reports for its contents.
 use Rattle.std.specs.Prelude.{◌≡◌, ◌+◌, ◌≤◌, ◌<◌, ◌&&◌, ◌⊎◌, not, ℕ, nat_le, nat_lt, Bool, true, false, List, [], ◌∷◌}
 use Rattle.std.specs.Prelude.{All}
 use Rattle.std.specs.List.{Contains, between, list_all, list_any}
@@ -15,13 +14,13 @@ use Rattle.rustc_lexer_highlight.specs.declared.literal.Look.{Look}
 use Rattle.rustc_lexer_highlight.specs.declared.literal.Look.TheVariants.{Escape, Wrong}
 use Rattle.rustc_lexer_highlight.specs.Literal.{Stretch, is_plain}
 
--- some stretches between two offsets: none is empty, and each ends before the next begins
+-- Holds if the stretches are between two offsets, are not empty, and are in order without overlaps.
 abbrev pub AreInOrder : ℕ → List Stretch → ℕ → Type 0
 AreInOrder at [] close = at ≤ close
 AreInOrder at (s ∷ ss) close =
     (at ≤ s.start) × (s.start < s.end) × AreInOrder s.end ss close
 
--- a stretch that is wrong has an error and its place, which count from the offset `begin`
+-- Holds if an invalid stretch has the error and the range of one of these errors, whose offsets count from `begin`.
 abbrev pub IsReported : ℕ → List Error → Stretch → Type 0
 IsReported begin errors s =
     (error : EscapeError)
@@ -33,29 +32,28 @@ abbrev pub is_wrong : Look → Bool
 is_wrong (Wrong error) = true
 is_wrong Escape = false
 
--- whether the offset is in a stretch that is wrong
+-- Whether the offset is in an invalid stretch.
 abbrev pub is_in : List Stretch → ℕ → Bool
 is_in ss place =
     list_any
     (λ (s : Stretch). is_wrong s.look && (nat_le s.start place && nat_lt place s.end)) ss
 
--- whether it is in a stretch that is an escape
+-- Whether the offset is in a stretch that is an escape.
 abbrev pub is_escaped : List Stretch → ℕ → Bool
 is_escaped ss place =
     list_any
     (λ (s : Stretch). not (is_wrong s.look) && (nat_le s.start place && nat_lt place s.end)) ss
 
--- an element begins in a stretch that is wrong, or else in one that is an escape exactly if it is
--- one
+-- Holds if the element starts in an invalid stretch, or starts in an escape exactly if it is not plain.
 abbrev pub IsShown : ℕ → List Stretch → Item → Type 0
 IsShown begin ss item =
     (is_in ss (begin + item.0.start) ≡ true)
     ⊎ (is_escaped ss (begin + item.0.start) ≡ not (is_plain item.1))
 
--- what stands from the offset `begin` to `close` of a string is highlighted as wrong where the escaper
--- reports an error, and nowhere else. An error that begins in the stretch of another one, before it
--- or at its place, has none of its own
-pub record IsMarked (mode : Mode) (begin close : ℕ) (text : Utf8) : Type 0 where
+-- Holds if the contents of a string, from the offset `begin` to `close`, are highlighted correctly: as invalid wherever
+-- the escaper reports an error, and nowhere else. An error that starts in the stretch of an earlier error, or at the
+-- same offset, has no stretch of its own.
+pub record IsHighlighted (mode : Mode) (begin close : ℕ) (text : Utf8) : Type 0 where
   pub order : AreInOrder begin (stretches_in mode begin close text) close
   pub wrong : All (IsReported begin (escape_errors_in_file mode (between begin close text)))
       (stretches_in mode begin close text)

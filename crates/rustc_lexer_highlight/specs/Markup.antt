@@ -1,18 +1,19 @@
--- The marks around a token.
+-- The markup around tokens: HTML tags, or escape sequences of a terminal.
 use Rattle.std.specs.Prelude.{ℕ, List, [], ◌∷◌, ◌++◌, codes}
 use Rattle.rustc_lexer_highlight.specs.declared.class.Class.{Class}
-use Rattle.rustc_lexer_highlight.specs.declared.class.Class.TheVariants.{Plain, Comment, Doc, Keyword, TypeName, Text, Escape, Number}
+use Rattle.rustc_lexer_highlight.specs.declared.class.Class.TheVariants.{Plain, Comment, Doc, Keyword, TypeName, Text}
+use Rattle.rustc_lexer_highlight.specs.declared.class.Class.TheVariants.{Escape, Number}
 use Rattle.rustc_lexer_highlight.specs.declared.class.Class.TheVariants.{Lifetime}
 use Rattle.rustc_lexer_highlight.specs.declared.errors.TokenError.{TokenError}
 use Rattle.rustc_lexer_highlight.specs.declared.format.Format.{Format}
 use Rattle.rustc_lexer_highlight.specs.declared.format.Format.TheVariants.{Html, Colours, NoColours, Raw}
-use Rattle.rustc_lexer_highlight.specs.TokenError.{sentence}
+use Rattle.rustc_lexer_highlight.specs.TokenError.{message}
 
--- an escape sequence, by the characters between its bracket and its last letter
+-- Returns the escape sequence that sets these attributes of the text on a terminal (SGR).
 abbrev pub sgr : List ℕ → List ℕ
 sgr attributes = 27 ∷ codes "[" ++ (attributes ++ codes "m")
 
--- the mark in front of text of a class. White space, symbols and other names have none
+-- Returns the opening markup of a class. Whitespace, symbols and plain names have none.
 abbrev pub class_open : Format → Class → List ℕ
 class_open format Plain = []
 class_open Html Comment = codes "<span class=\"comment\">"
@@ -41,19 +42,19 @@ class_close Colours class = sgr (codes "0")
 class_close NoColours class = []
 class_close Raw class = []
 
--- the mark before the first line of a token with an error. In a page it holds the sentence about
--- the error
+-- Returns the opening markup of an error, before the first line of the token. In HTML it contains the message.
 abbrev pub error_open : Format → TokenError → List ℕ
-error_open Html error = codes "<mark title=\"" ++ (sentence error ++ codes "\">")
+error_open Html error = codes "<mark title=\"" ++ (message error ++ codes "\">")
 error_open Colours error = sgr (codes "4;31")
 error_open NoColours error = []
 error_open Raw error = []
 
--- that sentence in brackets, so that no code runs into it
+-- Returns the message in brackets, which separate it from the code.
 abbrev pub bracketed : TokenError → List ℕ
-bracketed error = codes " [<- " ++ (sentence error ++ codes "]")
+bracketed error = codes " [<- " ++ (message error ++ codes "]")
 
--- the mark after that line. In a terminal it holds the sentence
+-- Returns the closing markup of an error, after the first line of the token. In all formats but HTML it contains the
+-- message.
 abbrev pub error_close : Format → TokenError → List ℕ
 error_close Html error = codes "</mark>"
 error_close Colours error = sgr (codes "0;31") ++ (bracketed error ++ sgr (codes "0"))

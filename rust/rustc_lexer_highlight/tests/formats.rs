@@ -1,4 +1,4 @@
-//! The hand-written calls: their output in each format and edition, and a writer that fails.
+//! The output in each format and edition, the contents of literals, and a writer that fails.
 
 use core::fmt;
 use rustc_lexer::{FrontmatterAllowed, tokenize};
@@ -26,9 +26,11 @@ fn whole(format: Format, edition: Edition, text: &str) -> String {
 #[test]
 fn formats() {
     let text = "let \u{b7}";
-    let page = "<span class=\"keyword\">let</span> <mark title=\"no token begins with this character\">\u{b7}</mark>";
-    let colours = "\x1b[35mlet\x1b[0m \x1b[4;31m\u{b7}\x1b[0;31m [<- no token begins with this character]\x1b[0m";
-    let plain = "let \u{b7} [<- no token begins with this character]";
+    let message = "unexpected character: no token starts with it";
+    let page =
+        format!("<span class=\"keyword\">let</span> <mark title=\"{message}\">\u{b7}</mark>");
+    let colours = format!("\x1b[35mlet\x1b[0m \x1b[4;31m\u{b7}\x1b[0;31m [<- {message}]\x1b[0m");
+    let plain = format!("let \u{b7} [<- {message}]");
     for (format, wanted) in [
         (Format::Html, page),
         (Format::Colours, colours),
@@ -114,14 +116,13 @@ fn the_first_tokens() {
         assert!(written == many[..count.min(70_000)], "{count} tokens");
     }
     assert!(whole(Format::Html, NEWEST, &many) == many);
-    let mark = "\u{feff} [<- no token begins with this character]";
+    let mark = "\u{feff} [<- unexpected character: no token starts with it]";
     assert_eq!(first(Format::NoColours, NEWEST, 1, "\u{feff}a"), mark);
 }
 
 #[test]
 fn editions() {
-    let lifetime =
-        "<mark title=\"no lifetime has this prefix\"><span class=\"lifetime\">'a</span></mark>#b";
+    let lifetime = "<mark title=\"unknown lifetime prefix before `#`\"><span class=\"lifetime\">'a</span></mark>#b";
     assert_eq!(first(Format::Html, Edition::E2021, 3, "'a#b"), lifetime);
     let older = "<span class=\"lifetime\">'a</span>#b";
     assert_eq!(first(Format::Html, Edition::E2018, 3, "'a#b"), older);
@@ -148,12 +149,12 @@ fn editions() {
 /// A carriage return before a newline is part of the line ending.
 #[test]
 fn literals_of_several_lines() {
-    let bare = "[<- a carriage return cannot stand here itself: it is written as \\r]";
-    let raw = "[<- a raw string cannot hold a carriage return]";
-    let lines = "[<- more than one line end is skipped here]";
-    let end = "[<- this character cannot stand here itself: it is written as an escape]";
-    let digit = "[<- this is no hexadecimal digit: \\x takes two of them]";
-    let byte = "[<- this character is not in ASCII, and so is no byte]";
+    let bare = "[<- bare CR in a literal: write it as `\\r`]";
+    let raw = "[<- bare CR in a raw string]";
+    let lines = "[<- skipped blank line: an escaped newline skips it too]";
+    let end = "[<- unescaped character: write it as an escape]";
+    let digit = "[<- invalid character in an escape: `\\x` needs two hexadecimal digits]";
+    let byte = "[<- non-ASCII character in a byte or byte string]";
     for (text, wanted) in [
         ("\"a\r\nb\"", "\"a\r\nb\"".to_owned()),
         ("\"a\\\r\n  b\"", "\"a\\\r\n  b\"".to_owned()),
@@ -180,7 +181,7 @@ fn literals_of_several_lines() {
     }
 }
 
-/// Only a whole text can start with a frontmatter: in a fragment its dashes are symbols.
+/// Only a document can start with a frontmatter. In a fragment, its dashes are symbols.
 #[test]
 fn only_a_document_has_a_frontmatter() {
     let text = "---\na\n---\nfn";
