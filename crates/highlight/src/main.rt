@@ -1,11 +1,11 @@
-//! Writes a Rust source in colours, for a terminal or as a web page.
+//! Writes Rust source in colours, for a terminal or as a web page.
 #![tactic(auto)]
 
 use highlight_run::program::{Start, program};
 use program_io::Watched;
-use std::env;
 use std::io::IsTerminal;
 use std::process::ExitCode;
+use std::{env, fs};
 
 fn main(rt: HostRuntime) -> ExitCode {
     let start = Start {
@@ -17,5 +17,14 @@ fn main(rt: HostRuntime) -> ExitCode {
     let mut input = Watched::new(rt.stdin());
     let mut output = Watched::new(rt.stdout());
     let mut errors = Watched::new(rt.stderr());
-    ExitCode::from(program(rt.alloc(), start, &mut input, &mut output, &mut errors))
+    let open_file = |name: &str| fs::open(&rt, name);
+    let status = program(
+        rt.alloc(),
+        start,
+        &mut input,
+        &open_file,
+        &mut output,
+        &mut errors,
+    );
+    ExitCode::from(status)
 }

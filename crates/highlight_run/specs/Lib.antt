@@ -1,4 +1,6 @@
+pub mod Inputs
 pub mod Job
 pub mod Page
 pub mod Program
 pub mod Texts
+pub mod Words

@@ -1,23 +1,29 @@
 -- What the program comes to, by its arguments and the bytes that it reads.
-use Rattle.std.specs.Prelude.{ℕ, ◌≡◌, ◌≢◌, ◌==◌, Bool, true, false, not, ◌&&◌, List, ◌++◌, codes, drop, map, Option}
-use Rattle.std.specs.Prelude.{Some, None, Result, Ok, Err, length, string_bytes}
+use Rattle.std.specs.Prelude.{ℕ, ◌≡◌, ◌≢◌, ◌==◌, Bool, true, false, not, ◌&&◌, List, [], codes, drop, map, Option, Some}
+use Rattle.std.specs.Prelude.{None, Result, Ok, Err, length, string_bytes, ◌↔◌, IfOk, IsErrOf, IsTrue}
 use Rattle.std.specs.Global.{Global}
+use Rattle.std.specs.List.{FoldsTo}
 use Rattle.std.specs.Str.{bytes_eq}
 use Rattle.std.specs.Vec.Iter.{into_iter_items}
 use Rattle.std.specs.declared.env.VarError.{VarError}
 use Rattle.std.specs.declared.env.VarError.TheVariants.{NotPresent, NotUnicode, OutOfMemory}
+use Rattle.std.specs.declared.io.Error.{Error}
 use Rattle.std.specs.declared.io.ErrorKind.{ErrorKind}
 use Rattle.std.specs.declared.io.ErrorKind.TheVariants.{InvalidData}
 use Rattle.std.specs.declared.string.String.{String}
 use Rattle.std.specs.declared.vec.IntoIter.{IntoIter}
-use Rattle.program_io.specs.Run.{Makes, Writes}
+use Rattle.program_io.specs.Fault.{fault_line, IsReported}
+use Rattle.program_io.specs.Run.{Writes}
+use Rattle.program_io.specs.Watch.{has_failed, is_closed, Watch}
 use Rattle.program_io.specs.declared.fault.Fault.{Fault}
-use Rattle.program_io.specs.declared.fault.Fault.TheVariants.{Arguments, Memory}
+use Rattle.program_io.specs.declared.fault.Fault.TheVariants.{Arguments, Memory, Write}
 use Rattle.highlight_run.specs.declared.job.Job.{Job}
 use Rattle.highlight_run.specs.declared.job.Job.TheVariants.{Show, Help, Version}
-use Rattle.highlight_run.specs.declared.program.TheConstants.{HELP, TAKEN, VERSION}
+use Rattle.highlight_run.specs.declared.program.TheConstants.{HELP, VERSION}
+use Rattle.highlight_run.specs.declared.words.Next.TheVariants.{Any}
+use Rattle.highlight_run.specs.Inputs.{ShowsNext, Streams}
 use Rattle.highlight_run.specs.Job.{job_of}
-use Rattle.highlight_run.specs.Page.{printed}
+use Rattle.highlight_run.specs.Words.{files_of, or_input}
 
 -- no value, or an empty one
 abbrev pub is_unset : Result (String Global) VarError → Option Bool
@@ -43,39 +49,71 @@ abbrev pub colours_of : Result (String Global) VarError → Result (String Globa
     → Option Bool
 colours_of no_color term is_terminal = colours_on (is_unset no_color) (is_dumb term) is_terminal
 
--- what a job comes to
-abbrev pub Does : Option (List ℕ) → Option (List ℕ) → Option (List ℕ) → Job
-    → Result (Unit {0}) Fault → Type 0
-Does known old new Help result = Writes HELP.now old new result
-Does known old new Version result = Writes VERSION.now old new result
-Does known old new (Show format edition) result = Makes (printed format edition) known old new result
+-- the words after the program's name
+abbrev pub words_of : Result (IntoIter (String Global) Global) ErrorKind → List (List ℕ)
+words_of (Ok args) = map string_bytes (drop 1 (into_iter_items args))
+words_of (Err error) = []
 
--- the line about a word that is refused: it names the word, and lists what is taken
-abbrev pub refusal : List ℕ → List ℕ
-refusal word = codes "cannot take '" ++ (word ++ TAKEN.now)
-
-abbrev pub or_refusal : Result Job (List ℕ) → Result Job (List ℕ)
-or_refusal (Ok job) = Ok job
-or_refusal (Err word) = Err (refusal word)
-
--- what the words ask for, or the line that refuses them; none where memory for them, or for a
+-- what the words ask for, or the message that rejects them; none where memory for them, or for a
 -- value that colours hang on, was refused
 abbrev pub asked : Result (IntoIter (String Global) Global) ErrorKind → Option Bool
     → Option (Result Job (List ℕ))
-asked (Ok args) (Some colours) =
-    Some (or_refusal (job_of (map string_bytes (drop 1 (into_iter_items args))) colours))
+asked (Ok args) (Some colours) = Some (job_of (words_of (Ok args)) colours)
 asked (Err InvalidData) (Some colours) = Some (Err (codes "an argument is not UTF-8"))
 asked args colours = None
 
--- the outcome of what is asked for: that of the job, or a line that says what is refused
-abbrev pub DoesAsked : Option (List ℕ) → Option (List ℕ) → Option (List ℕ) → List ℕ
-    → Result Job (List ℕ) → Result (Unit {0}) Fault → Type 0
-DoesAsked known old new said (Ok job) result = Does known old new job result
-DoesAsked known old new said (Err line) result = (result ≡ Err Arguments) × (said ≡ line)
+-- the job that is done by what is asked for, or why none is; a message says what is rejected.
+-- Unless an allocation failed, it is the job that is asked for
+abbrev pub IsJob : Result Job (List ℕ) → List ℕ → Result Job Fault → Type 0
+IsJob (Ok job) message chosen = chosen ≡ Ok job
+IsJob (Err line) message chosen = (chosen ≡ Err Arguments) × (message ≡ line)
 
--- a run by what is asked for: unless an allocation failed, it does that
-abbrev pub Ran : Option (Result Job (List ℕ)) → Option (List ℕ) → Option (List ℕ)
-    → Option (List ℕ) → List ℕ → Result (Unit {0}) Fault → Type 0
-Ran None known old new said result = result ≡ Err Memory
-Ran (Some asked) known old new said result =
-    result ≢ Err Memory → DoesAsked known old new said asked result
+abbrev pub IsChosen : Option (Result Job (List ℕ)) → List ℕ → Result Job Fault → Type 0
+IsChosen None message chosen = chosen ≡ Err Memory
+IsChosen (Some asked) message chosen = chosen ≢ Err Memory → IsJob asked message chosen
+
+-- a text of the program was written, and the outcome was reported. The known bytes of the output
+-- and of the errors grew from `old` to `new`, and from `said` to `told`
+abbrev pub Printed : {W E : Type 0} → List ℕ → Watch W → Option (List ℕ) → Option (List ℕ) → Watch E
+    → Option (List ℕ) → Option (List ℕ) → ℕ → Type 0
+Printed text output old new errors said told exit =
+    (outcome : Result (Unit {0}) Fault) × Writes text old new outcome
+    × (IsErrOf outcome Write ↔ IsTrue (has_failed output)) × IfOk outcome (λ _. output.flushed ≡ true)
+    × IsReported (fault_line (codes "highlight: ") []) outcome (is_closed output) exit
+    (has_failed errors ≡ false) errors.flushed said told
+
+-- the bytes that are known of a standard input, a file, the output and the errors, and what a name
+-- can be opened as
+module _ {R S W E : Type 0} (unread : R → Option (List ℕ)) (unread_file : S → Option (List ℕ))
+    (written : W → Option (List ℕ)) (said : E → Option (List ℕ))
+    (Opens : List ℕ → Result S Error → Type 0) where
+  -- a text was printed, and nothing was read
+  abbrev pub Prints : List ℕ → Streams R W E → Streams R W E → ℕ → Type 0
+  Prints text s s' exit =
+      (s'.input ≡ s.input) × Printed text s'.output (written s.output.inner)
+      (written s'.output.inner) s'.errors (said s.errors.inner) (said s'.errors.inner) exit
+
+  -- a fault was reported, and nothing was read or written
+  abbrev pub Stops : List ℕ → Fault → Streams R W E → Streams R W E → ℕ → Type 0
+  Stops message fault s s' exit =
+      (s'.input ≡ s.input) × (s'.output ≡ s.output)
+      × IsReported (fault_line (codes "highlight: ") message) (Err fault) false exit
+      (has_failed s'.errors ≡ false) s'.errors.flushed (said s.errors.inner) (said s'.errors.inner)
+
+  -- what the program does for a job: it prints a text, or shows the inputs that the words name
+  abbrev pub Does : List (List ℕ) → List ℕ → Result Job Fault → Streams R W E → Streams R W E → ℕ
+      → Type 0
+  Does words message (Ok Help) s s' exit = Prints HELP.now s s' exit
+  Does words message (Ok Version) s s' exit = Prints VERSION.now s s' exit
+  Does words message (Ok (Show view)) s s' exit =
+      FoldsTo (ShowsNext unread unread_file written said Opens view)
+      (record { streams = s; status = 0 }) (or_input (files_of Any words))
+      (record { streams = s'; status = exit })
+  Does words message (Err fault) s s' exit = Stops message fault s s' exit
+
+  -- a whole run, by the words and by what is asked for
+  abbrev pub Ran : List (List ℕ) → Option (Result Job (List ℕ)) → Streams R W E → Streams R W E → ℕ
+      → Type 0
+  Ran words asked s s' exit =
+      (chosen : Result Job Fault) × (message : List ℕ) × IsChosen asked message chosen
+      × Does words message chosen s s' exit

@@ -18,10 +18,10 @@ pub record IsFrame (head foot : List ℕ) : Type 0 where
 -- the arguments that job_of takes
 abbrev pub argument_words : List (List ℕ)
 argument_words =
-    codes "--help, -h" ∷ codes "--version, -V" ∷ codes "--html" ∷ codes "--raw"
-    ∷ codes "--edition YEAR" ∷ codes "2015, 2018, 2021 or 2024"
-    ∷ codes "--color always" ∷ codes "--color never" ∷ codes "--color auto"
-    ∷ codes "--color=never" ∷ []
+    codes "[FILE].." ∷ codes "-h, --help" ∷ codes "-V, --version" ∷ codes "--html" ∷ codes "--raw"
+    ∷ codes "--edition YEAR" ∷ codes "2015, 2018, 2021 or 2024" ∷ codes "--edition=2021"
+    ∷ codes "--color WHEN" ∷ codes "auto, always or never" ∷ codes "--color=never"
+    ∷ codes "FILE is -" ∷ codes "  -- " ∷ []
 
 abbrev pub NamesArguments : List ℕ → Type 0
 NamesArguments usage = list_all (λ word. has word usage) argument_words ≡ true

@@ -1,11 +1,13 @@
-//! The program `highlight`: writes a Rust source in colours, for a terminal or as a web page. It
-//! reads and writes whatever ends it is given.
+//! The program `highlight`: writes Rust source in colours, for a terminal or as a web page. It
+//! reads and writes whatever readers and writers it is given.
 #![tactic(auto)]
 
+mod inputs;
 mod job;
 mod page;
 pub mod program;
 pub mod run;
+mod words;
 
-pub use job::{Job, read_job};
+pub use job::{Job, Rejection, View, read_job};
 pub use program_io::Fault;

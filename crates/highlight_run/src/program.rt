@@ -1,34 +1,39 @@
-//! The whole program, for any reader and writers.
-ghost use Rattle.std.specs.Prelude.{◌≡◌, [], false, List, ℕ, codes, string_bytes, Result};
-ghost use Rattle.program_io.specs.Fault.{fault_line, IsReported};
-ghost use Rattle.program_io.specs.Run.{Leaves};
-ghost use Rattle.program_io.specs.Watch.{has_failed, is_closed};
-ghost use Rattle.program_io.specs.declared.fault.Fault.{Fault as TheFault};
+//! The whole program, for any readers and writers.
+ghost use Rattle.std.specs.Prelude.{◌≡◌, [], false, Err, IfErr, IfOk, Ok, map, string_bytes};
+ghost use Rattle.std.specs.Fn.{FnReturnsAt};
+ghost use Rattle.program_io.specs.Watch.{has_failed};
 ghost use Rattle.highlight_run.specs.Page.{foot, head};
-ghost use Rattle.highlight_run.specs.Program.{asked, colours_of, is_dumb, is_unset, Ran};
+ghost use Rattle.highlight_run.specs.Program.{asked, colours_of, is_dumb, is_unset, words_of, IsChosen, Printed, Ran};
 ghost use Rattle.highlight_run.specs.Texts.{IsFrame, NamesArguments};
 ghost use Rattle.highlight_run.specs.declared.program.TheConstants.{HELP};
 ghost use Rattle.rustc_lexer_highlight.specs.declared.format.Format.TheVariants.{Html};
 
+use crate::inputs::show_inputs;
 use crate::job::{Job, read_job};
-use crate::run::run;
 use program_io::{Fault, Watched, past_name, put, report};
 use std::alloc::Global;
 use std::env::{Args, VarError};
+use std::io;
 use std::io::{ErrorKind, Read, Write};
 
-/// The usage.
-const HELP: &str = "highlight < FILE           writes a Rust source in the colours of a terminal
-highlight --html < FILE    writes it as a page
-highlight --raw < FILE     writes it with its control characters, which a terminal obeys, and with no colours
-highlight --help, -h       writes these lines
-highlight --version, -V    writes the version
-With --edition YEAR the source is read as Rust of 2015, 2018, 2021 or 2024.
-With --color always there are colours, with --color never there are none, and with --color auto there are colours
-where the output is a terminal, NO_COLOR is not set, or empty, and TERM is not dumb. That is so too where --color is
-not given. --color=never and its like are taken, too.
-Options stand in any order, each once, and --html or --raw alone. A page has its own colours, whatever --color says.
-A token with a fault is underlined in its first line, with a sentence behind it that says what is wrong.
+/// The help.
+const HELP: &str = "Usage: highlight [OPTIONS] [FILE]..
+
+Writes Rust source in colours, for a terminal or as a web page. If there is no FILE, or FILE is -, the source is read
+from standard input.
+
+Options:
+  --html           write a web page, of at most one FILE
+  --raw            write control characters, which a terminal obeys, unchanged, and no colours
+  --edition YEAR   lex the source as Rust 2015, 2018, 2021 or 2024 (default: 2024)
+  --color WHEN     write colours auto, always or never (default: auto, which means on a terminal, unless NO_COLOR has a
+                   value or TERM is dumb)
+  -h, --help       print this help
+  -V, --version    print the version
+  --               end the options: what follows is a FILE
+
+YEAR and WHEN can also follow a =, as in --edition=2021 and --color=never.
+An error in a token is underlined, and a message follows its first line.
 ";
 
 /// The version, which is that of the package for Cargo.
@@ -48,56 +53,70 @@ pub struct Start {
     pub is_terminal: bool,
 }
 
-/// Runs the program: reads arguments and input, writes the output, reports an error, and returns
-/// the exit status. If nobody reads the output any more, it ends quietly, with status 0.
-pub fn program<R: Read, W: Write, E: Write>(
+/// Runs the program: reads the arguments and the inputs, writes the output, reports errors, and
+/// returns the exit status, which is that of the first input that failed. `open_file` opens a file.
+///
+/// If nobody reads the output any more, it ends quietly, with status 0.
+pub fn program<R: Read, S: Read + Drop, F: Fn(&str) -> io::Result<S>, W: Write, E: Write>(
     alloc: Global,
     start: Start,
     input: &mut Watched<R>,
+    open_file: &F,
     output: &mut Watched<W>,
     errors: &mut Watched<E>,
 ) -> u8
     requires reads { has_failed input.old ≡ false }
+    requires opens { F.IsAlwaysCallable open_file.now }
     requires writes { has_failed output.old ≡ false }
-    ensures ended { (outcome : Result (Unit {0}) TheFault) × (refusal : List ℕ)
-        × Ran (asked start.args (colours_of start.no_color start.term start.is_terminal))
-        (R.remaining input.old.inner) (W.contents output.old.inner)
-        (W.contents output.new.inner) refusal outcome
-        × Leaves input.new output.new (W.contents output.old.inner)
-        (W.contents output.new.inner) outcome
-        × IsReported (fault_line (codes "highlight: ") refusal) outcome (is_closed output.new)
-        result (has_failed errors.new ≡ false) errors.new.flushed (E.contents errors.old.inner)
-        (E.contents errors.new.inner) }
+    ensures ended { Ran R.remaining S.remaining W.contents E.contents
+        (λ name answer. FnReturnsAt F.Fn open_file.now name answer) (words_of start.args)
+        (asked start.args (colours_of start.no_color start.term start.is_terminal))
+        (record { input = input.old; output = output.old; errors = errors.old })
+        (record { input = input.new; output = output.new; errors = errors.new }) result }
     ensures page { IsFrame (head Html) (foot Html) }
     ensures usage { NamesArguments HELP.now }
 {
-    let mut refusal = String::new(alloc);
-    let outcome = show(alloc, start, input, output, &mut refusal);
-    report(
-        "highlight: ",
-        refusal.as_str(),
-        &outcome,
-        output.closed(),
-        errors,
-    )
+    let mut message = String::new(alloc);
+    match read_start(alloc, start, &mut message) {
+        Ok((Job::Show(view), words)) => {
+            let words = words.as_slice();
+            show_inputs(alloc, view, words, input, open_file, output, errors)
+        }
+        Ok((Job::Help, _)) => print(HELP, output, errors),
+        Ok((Job::Version, _)) => print(VERSION, output, errors),
+        Err(fault) => report(NAME, message.as_str(), &Err(fault), false, errors),
+    }
 }
 
-/// Reads the arguments and does what they ask for. If they are refused, `refusal` says why.
-fn show<R: Read, W: Write>(
+/// The start of each line that is reported.
+const NAME: &str = "highlight: ";
+
+/// Writes a text of the program, and reports how that ends. Returns the exit status.
+fn print<W: Write, E: Write>(text: &str, output: &mut Watched<W>, errors: &mut Watched<E>) -> u8
+    requires writes { has_failed output.old ≡ false }
+    ensures { Printed text.now output.new (W.contents output.old.inner)
+        (W.contents output.new.inner) errors.new (E.contents errors.old.inner)
+        (E.contents errors.new.inner) result }
+{
+    let outcome = put(output, text);
+    report(NAME, "", &outcome, output.closed(), errors)
+}
+
+/// Reads the arguments. Returns the job that they ask for, and the arguments. If they are rejected,
+/// `message` says why.
+fn read_start(
     alloc: Global,
     start: Start,
-    input: &mut Watched<R>,
-    output: &mut Watched<W>,
-    refusal: &mut String,
-) -> Result<(), Fault>
-    requires reads { has_failed input.old ≡ false }
-    requires writes { has_failed output.old ≡ false }
-    requires empty { string_bytes refusal.old ≡ [] }
-    ensures leaves { Leaves input.new output.new (W.contents output.old.inner)
-        (W.contents output.new.inner) result }
-    ensures ran { Ran (asked start.args (colours_of start.no_color start.term start.is_terminal))
-        (R.remaining input.old.inner) (W.contents output.old.inner)
-        (W.contents output.new.inner) (string_bytes refusal.new) result }
+    message: &mut String,
+) -> Result<(Job, Vec<String>), Fault>
+    requires empty { string_bytes message.old ≡ [] }
+    ensures chosen { IfOk result (λ p.
+        IsChosen (asked start.args (colours_of start.no_color start.term start.is_terminal))
+        (string_bytes message.new) (Ok p.0)) }
+    ensures words { IfOk result (λ p. map string_bytes p.1.items ≡ words_of start.args) }
+    ensures fault { IfErr result (λ fault.
+        IsChosen (asked start.args (colours_of start.no_color start.term start.is_terminal))
+        (string_bytes message.new) (Err fault)) }
 {
     let Start {
         args,
@@ -109,27 +128,21 @@ fn show<R: Read, W: Write>(
     let words = match args {
         Ok(args) => past_name(alloc, args)?,
         Err(ErrorKind::InvalidData) => {
-            refusal.push_str("an argument is not UTF-8")?;
+            message.push_str("an argument is not UTF-8")?;
             return Err(Fault::Arguments);
         }
         Err(_) => return Err(Fault::Memory),
     };
     match read_job(words.as_slice(), colours) {
-        Ok(Job::Show { format, edition }) => run(alloc, format, edition, input, output),
-        Ok(Job::Help) => put(output, HELP),
-        Ok(Job::Version) => put(output, VERSION),
-        Err(word) => {
-            refusal.push_str("cannot take '")?;
-            refusal.push_str(word)?;
-            refusal.push_str(TAKEN)?;
+        Ok(job) => Ok((job, words)),
+        Err(why) => {
+            message.push_str(why.before)?;
+            message.push_str(why.word)?;
+            message.push_str(why.after)?;
             Err(Fault::Arguments)
         }
     }
 }
-
-/// What is said behind a word that is refused.
-const TAKEN: &str = "'; it takes a source on standard input, as < FILE does, --html or --raw, \
-    --edition 2015, 2018, 2021 or 2024, --color auto, always or never, --help, --version";
 
 /// Returns whether to write colours if no argument says so, by the values of `NO_COLOR` and `TERM`.
 /// `None` means that memory for a value was refused.

@@ -7,16 +7,8 @@ mod processes;
 
 use processes::{Row, check_builds, check_rows};
 
-/// The end of the message for an invalid argument.
-macro_rules! usage {
-    () => {
-        "it takes a source on standard input, as < FILE does, --html or --raw, --edition 2015, 2018, 2021 or 2024, \
-        --color auto, always or never, --help, --version"
-    };
-}
-
 #[rustfmt::skip]
-const ROWS: [Row; 28] = [
+const ROWS: [Row; 34] = [
     ("printf 'fn a' | $P", "fn a", "", 0),
     ("printf 'fn a' | $P --color always", "\x1b[35mfn\x1b[0m a", "", 0),
     ("printf 'fn a' | NO_COLOR=1 $P --color=always", "\x1b[35mfn\x1b[0m a", "", 0),
@@ -26,7 +18,7 @@ const ROWS: [Row; 28] = [
     ("printf '#\"a\"' | $P --edition 2021 --color always", "#\x1b[32m\"a\"\x1b[0m", "", 0),
     ("printf a | $P --html | tail -n 3", "a</pre>\n</body>\n</html>\n", "", 0),
     ("$P --version <&-", concat!("highlight ", env!("CARGO_PKG_VERSION"), "\n"), "", 0),
-    ("$P -h <&- | head -n 1", "highlight < FILE           writes a Rust source in the colours of a terminal\n", "", 0),
+    ("$P -h <&- | head -n 1", "Usage: highlight [OPTIONS] [FILE]..\n", "", 0),
     ("head -c 131073 /dev/zero | tr '\\0' x | $P | wc -c", "131073\n", "", 0),
     // whether the output is a terminal decides
     (r#"printf 'fn a' > t; TERM=xterm script -qec "$P < t" /dev/null < /dev/null"#, "\x1b[35mfn\x1b[0m a", "", 0),
@@ -34,8 +26,15 @@ const ROWS: [Row; 28] = [
     (r#"TERM=xterm NO_COLOR=1 script -qec "$P < t" /dev/null < /dev/null"#, "fn a", "", 0),
     (r#"TERM=dumb script -qec "$P < t" /dev/null < /dev/null"#, "fn a", "", 0),
     (r#"TERM=xterm script -qec "$P < t > o" /dev/null < /dev/null; cat o"#, "fn a", "", 0),
-    ("$P x <&-", "", concat!("cannot take 'x'; ", usage!()), 2),
-    ("$P --color=auto --color auto <&-", "", concat!("cannot take '--color'; ", usage!()), 2),
+    // files, each of which is a document
+    (r"printf '\357\273\277#!x\r\n---\r\n---\r\nfn\r\n' > u; $P u t <&-", "\u{feff}#!x\r\n---\r\n---\r\nfn\r\nfn a", "", 0),
+    ("printf '##a' > ./--raw; $P --edition=2018 -- --raw <&-", "##a", "", 0),
+    ("printf b | $P t - t", "fn abfn a", "", 0),
+    ("$P t none t <&-", "fn afn a", "cannot open none: not found", 7),
+    ("$P / <&-", "", "/: read failed", 7),
+    ("$P --html t u <&-", "", "--html takes at most one file", 2),
+    ("$P --colour <&-", "", "unknown option '--colour'", 2),
+    ("$P --color=auto --color auto <&-", "", "'--color' repeats or contradicts an earlier option", 2),
     (r#"$P "$(printf '\377')" < /dev/null"#, "", "an argument is not UTF-8", 2),
     (r"printf '\377' | $P", "", "input is not UTF-8", 3),
     ("$P < /", "", "read failed", 7),
@@ -43,7 +42,7 @@ const ROWS: [Row; 28] = [
     ("printf a | $P >&-", "", "write failed", 7),
     ("$P --help >&-", "", "write failed", 7),
     ("printf a | $P > /dev/full", "", "write failed", 7),
-    ("$P x 2>&-", "", "", 2),
+    ("$P -x 2>&-", "", "", 2),
     ("(ulimit -v 24000; head -c 40000000 /dev/zero | $P)", "", "no memory", 6),
     // the reader of the pipe has ended by then
     ("mkfifo f; : < f & exec 3> f; wait; rm f; printf a | $P >&3", "", "", 0),

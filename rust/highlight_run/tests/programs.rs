@@ -3,20 +3,20 @@
 #[path = "../../program_io/tests/failing/mod.rs"]
 mod failing;
 
-use failing::{BYTES, Program, WHOLE, words_of};
+use failing::{BYTES, Program, Reader, Turn, WHOLE, words_of};
 use highlight_run::program::{Start, program};
 use highlight_run::run::run;
-use highlight_run::{Job, read_job};
+use highlight_run::{Job, View, read_job};
 use rattle_std::alloc::Global;
 use rattle_std::env::VarError::{self, NotPresent, NotUnicode, OutOfMemory};
-use rattle_std::io::ErrorKind;
+use rattle_std::io::{Error, ErrorKind, Result as IoResult};
 use rattle_std::prelude::String;
 use rustc_lexer::Edition::{self, E2015, E2018, E2021, E2024};
 use rustc_lexer_highlight::Format::{self, Colours, Html, NoColours, Raw};
 
 /// Arguments with bars between them, whether the output can show colours, and the format and the edition that they
 /// select.
-const SHOWN: [(&str, bool, Format, Edition); 25] = [
+const SHOWN: [(&str, bool, Format, Edition); 38] = [
     ("", true, Colours, E2024),
     ("", false, NoColours, E2024),
     ("--html", false, Html, E2024),
@@ -42,43 +42,99 @@ const SHOWN: [(&str, bool, Format, Edition); 25] = [
     ("--raw", false, Raw, E2024),
     ("--raw", true, Raw, E2024),
     ("--color=always|--raw|--edition|2018", true, Raw, E2018),
+    ("--edition=2015", true, Colours, E2015),
+    ("--edition=2018|--color=never", true, NoColours, E2018),
+    ("--html|--edition=2021", false, Html, E2021),
+    // Files are not options, and nothing after `--` is one.
+    ("main.rs", true, Colours, E2024),
+    ("a|b|c", false, NoColours, E2024),
+    ("", true, Colours, E2024),
+    ("-", true, Colours, E2024),
+    ("a|--raw|b|--edition|2018|c", true, Raw, E2018),
+    ("--html|a", true, Html, E2024),
+    ("--html|--", true, Html, E2024),
+    ("--html|--|--raw", true, Html, E2024),
+    ("--edition|2018|--|--edition|2027", false, NoColours, E2018),
+    ("--|--", true, Colours, E2024),
 ];
 
-/// Rejected arguments, and the argument that the message names.
-const REFUSED: [(&str, &str); 27] = [
-    ("html", "html"),
-    ("x|--html", "x"),
-    ("--html|--html", "--html"),
-    ("--html|--help", "--help"),
-    ("--help|--html", "--help"),
-    ("-h|-h", "-h"),
-    ("--color", "--color"),
-    ("--color|Always", "Always"),
-    ("--color=Always", "--color=Always"),
-    ("--color=", "--color="),
-    ("--color|--html", "--html"),
-    ("--color|auto|--color|auto", "--color"),
-    ("--color=auto|--color|never", "--color"),
-    ("--color|auto|--color=never", "--color=never"),
-    ("--edition", "--edition"),
-    ("--edition|2027", "2027"),
-    ("--edition|2018 ", "2018 "),
-    ("--edition=2018", "--edition=2018"),
-    ("--edition|--html|2018", "--html"),
-    ("--edition|2018|--edition|2018", "--edition"),
-    ("--edition|2018|--version", "--version"),
-    ("--html=yes", "--html=yes"),
-    ("--raw|--html", "--html"),
-    ("--html|--raw", "--raw"),
-    ("--raw|--raw", "--raw"),
-    ("main.rs|--raw", "main.rs"),
-    ("-", "-"),
+/// Arguments that are rejected, and the message. `REPEATED` follows one that ends in a quote.
+const REJECTED: [(&str, &str); 33] = [
+    ("--html|--html", "'--html'"),
+    ("--raw|--html", "'--html'"),
+    ("--html|--raw", "'--raw'"),
+    ("--raw|--raw", "'--raw'"),
+    ("--color|auto|--color|auto", "'--color'"),
+    ("--color=auto|--color|never", "'--color'"),
+    ("--color|auto|--color=never", "'--color'"),
+    ("--edition|2018|--edition|2018", "'--edition'"),
+    ("--edition|2018|a|--edition=2021", "'--edition'"),
+    (
+        "--html|--help",
+        "'--help' cannot be combined with other arguments",
+    ),
+    (
+        "--help|a",
+        "'--help' cannot be combined with other arguments",
+    ),
+    ("-h|-h", "'-h' cannot be combined with other arguments"),
+    (
+        "--edition|2018|--version",
+        "'--version' cannot be combined with other arguments",
+    ),
+    ("a|-V", "'-V' cannot be combined with other arguments"),
+    ("--color", "'--color' needs a value"),
+    ("--edition", "'--edition' needs a value"),
+    ("a|--edition", "'--edition' needs a value"),
+    ("--colour", "unknown option '--colour'"),
+    ("--html=yes", "unknown option '--html=yes'"),
+    ("-x", "unknown option '-x'"),
+    ("---", "unknown option '---'"),
+    ("a|-|--Html", "unknown option '--Html'"),
+    (
+        "--color|Always",
+        "invalid value 'Always' for --color (auto, always or never)",
+    ),
+    (
+        "--color=Always",
+        "invalid value 'Always' for --color (auto, always or never)",
+    ),
+    (
+        "--color=",
+        "invalid value '' for --color (auto, always or never)",
+    ),
+    (
+        "--color|--html",
+        "invalid value '--html' for --color (auto, always or never)",
+    ),
+    (
+        "--edition|2027",
+        "invalid value '2027' for --edition (2015, 2018, 2021 or 2024)",
+    ),
+    (
+        "--edition|2018 ",
+        "invalid value '2018 ' for --edition (2015, 2018, 2021 or 2024)",
+    ),
+    (
+        "--edition=2019",
+        "invalid value '2019' for --edition (2015, 2018, 2021 or 2024)",
+    ),
+    (
+        "--edition|--|2018",
+        "invalid value '--' for --edition (2015, 2018, 2021 or 2024)",
+    ),
+    ("--html|a|b", "--html takes at most one file"),
+    ("a|--html|-", "--html takes at most one file"),
+    ("--html|--|--raw|--raw", "--html takes at most one file"),
 ];
+
+/// The end of the message for an option that is given twice.
+const REPEATED: &str = " repeats or contradicts an earlier option";
 
 #[test]
 fn jobs() {
     for (line, colours, format, edition) in SHOWN {
-        let job = Job::Show { format, edition };
+        let job = Job::Show(View { format, edition });
         assert_eq!(read_job(&words_of(line), colours), Ok(job), "{line}");
     }
     for (line, job) in [
@@ -89,8 +145,16 @@ fn jobs() {
     ] {
         assert_eq!(read_job(&words_of(line), true), Ok(job), "{line}");
     }
-    for (line, word) in REFUSED {
-        assert_eq!(read_job(&words_of(line), true), Err(word), "{line}");
+    for (line, message) in REJECTED {
+        let words = words_of(line);
+        let why = read_job(&words, true).unwrap_err();
+        let end = if message.ends_with('\'') && message.starts_with('\'') {
+            REPEATED
+        } else {
+            ""
+        };
+        let line_of = [why.before, why.word, why.after].concat();
+        assert_eq!(line_of, format!("{message}{end}"), "{line}");
     }
 }
 
@@ -113,8 +177,126 @@ fn run_program(process: Process, input: &[u8]) -> (u8, Vec<u8>, Vec<u8>) {
     };
     let (mut output, mut errors) = (WHOLE.writer(), WHOLE.writer());
     let input = &mut WHOLE.reader(input);
-    let status = program(Global, start, input, &mut output, &mut errors);
+    let status = program(Global, start, input, &open_file, &mut output, &mut errors);
     (status, output.into_inner().bytes, errors.into_inner().bytes)
+}
+
+/// Files by name. One fails at its second read.
+fn open_file(name: &str) -> IoResult<Reader<'static>> {
+    let script = match name {
+        "broken" => BYTES.but_at(1, Turn::Fails(ErrorKind::Other)),
+        _ => BYTES,
+    };
+    let bytes: &[u8] = match name {
+        "a" | "--html" => b"fn a",
+        "b" => b"\xef\xbb\xbf#!/bin/x\r\n---\r\n---\r\nfn b\r\n",
+        "broken" => b"fn",
+        "bad" => b"a\xff",
+        "empty" => b"",
+        "secret" => return Err(Error::from(ErrorKind::PermissionDenied)),
+        "odd" => return Err(Error::from(ErrorKind::Other)),
+        _ => return Err(Error::from(ErrorKind::NotFound)),
+    };
+    Ok(script.reader(bytes).into_inner())
+}
+
+/// Arguments after the program's name, an input, and the status, the output and the errors.
+#[rustfmt::skip]
+const FILES: [(&str, &[u8], u8, &str, &str); 17] = [
+    ("a", b"\xff", 0, "fn a", ""),
+    ("-", b"fn", 0, "fn", ""),
+    ("--", b"fn", 0, "fn", ""),
+    ("a|b|a", b"\xff", 0, "fn a\u{feff}#!/bin/x\r\n---\r\n---\r\nfn b\r\nfn a", ""),
+    ("b|--color=always", b"", 0, "\u{feff}\x1b[90m#!/bin/x\x1b[0m\r\n\x1b[36m---\r\n---\r\x1b[0m\n\
+        \x1b[35mfn\x1b[0m b\r\n", ""),
+    ("a|-|a", b"#!x", 0, "fn a#!xfn a", ""),
+    ("-|-", b"fn", 0, "fn", ""),
+    ("empty|empty", b"\xff", 0, "", ""),
+    ("--|--html", b"\xff", 0, "fn a", ""),
+    ("a|--|--html|--", b"\xff", 7, "fn afn a", "highlight: cannot open --: not found\n"),
+    ("a|none|a", b"", 7, "fn afn a", "highlight: cannot open none: not found\n"),
+    ("secret|bad|a", b"", 7, "fn a",
+        "highlight: cannot open secret: permission denied\nhighlight: bad: input is not UTF-8\n"),
+    ("a|bad|odd", b"", 3, "fn a", "highlight: bad: input is not UTF-8\nhighlight: cannot open odd\n"),
+    ("broken|a", b"", 7, "fn a", "highlight: broken: read failed\n"),
+    ("-|a|-", b"\xff", 3, "fn a", "highlight: input is not UTF-8\n"),
+    ("--html|a|b", b"", 2, "", "highlight: --html takes at most one file\n"),
+    ("a|--edition=1999", b"", 2, "",
+        "highlight: invalid value '1999' for --edition (2015, 2018, 2021 or 2024)\n"),
+];
+
+/// Each file is a document of its own. If one fails, the others are still written, and the status is that of the first
+/// that failed.
+#[test]
+fn files() {
+    for (line, input, status, output, message) in FILES {
+        let words: &'static str = format!("highlight|{line}").leak();
+        let process = (Ok(words), Err(NotPresent), Err(NotPresent), false);
+        let wanted = (status, output.into(), message.into());
+        assert_eq!(run_program(process, input), wanted, "{line}");
+    }
+}
+
+/// No file is opened once the output has failed.
+#[test]
+fn a_failed_output_ends_the_run() {
+    for (kind, status, message) in [
+        (ErrorKind::BrokenPipe, 0, ""),
+        (ErrorKind::Other, 7, "highlight: a: write failed\n"),
+    ] {
+        let start = Start {
+            args: Ok(words_of("highlight|a|b|a").into_iter()),
+            no_color: Err(NotPresent),
+            term: Err(NotPresent),
+            is_terminal: false,
+        };
+        let opened = std::cell::Cell::new(0);
+        let open_file = |name: &str| {
+            opened.set(opened.get() + 1);
+            open_file(name)
+        };
+        let mut output = BYTES.but_at(2, Turn::Fails(kind)).writer();
+        let (mut input, mut errors) = (WHOLE.reader(b""), WHOLE.writer());
+        let ended = program(
+            Global,
+            start,
+            &mut input,
+            &open_file,
+            &mut output,
+            &mut errors,
+        );
+        let errors = errors.into_inner().bytes;
+        assert_eq!((ended, errors), (status, message.into()), "{kind:?}");
+        assert_eq!(
+            (opened.get(), output.into_inner().bytes),
+            (1, b"fn".to_vec())
+        );
+    }
+}
+
+/// Standard input that has failed is not read again.
+#[test]
+fn a_failed_input_is_not_read_again() {
+    let start = Start {
+        args: Ok(words_of("highlight|-|a|-").into_iter()),
+        no_color: Err(NotPresent),
+        term: Err(NotPresent),
+        is_terminal: false,
+    };
+    let mut input = BYTES.but_at(0, Turn::Fails(ErrorKind::Other)).reader(b"fn");
+    let (mut output, mut errors) = (WHOLE.writer(), WHOLE.writer());
+    let status = program(
+        Global,
+        start,
+        &mut input,
+        &open_file,
+        &mut output,
+        &mut errors,
+    );
+    assert_eq!((status, input.into_inner().calls), (7, 1));
+    assert_eq!(output.into_inner().bytes, b"fn a");
+    let line = b"highlight: read failed\n";
+    assert_eq!(errors.into_inner().bytes, [&line[..], line].concat());
 }
 
 /// Whether `fn` is written in colours.
@@ -151,7 +333,11 @@ fn help_and_version() {
     for word in ["highlight|--help", "highlight|-h"] {
         let asked = (Ok(word), Err(NotPresent), Err(NotPresent), true);
         let (status, usage, errors) = run_program(asked, b"\xff");
-        assert!(status == 0 && usage.starts_with(b"highlight < FILE ") && errors.is_empty());
+        assert!(
+            status == 0
+                && usage.starts_with(b"Usage: highlight [OPTIONS] [FILE]..\n")
+                && errors.is_empty()
+        );
     }
     let version = concat!("highlight ", env!("CARGO_PKG_VERSION"), "\n");
     for word in ["highlight|--version", "highlight|-V"] {
@@ -179,11 +365,7 @@ fn runs() {
     assert!(page.starts_with("<!DOCTYPE html>\n") && page.ends_with(end));
 }
 
-/// The end of the message for an invalid argument.
-const TAKEN: &str = "it takes a source on standard input, as < FILE does, --html or --raw, \
-    --edition 2015, 2018, 2021 or 2024, --color auto, always or never, --help, --version";
-
-/// A process, its input, its status and its message. `TAKEN` follows a message that ends in `; `.
+/// A process, its input, its status and its message.
 #[rustfmt::skip]
 const STOPPED: [(Process, &[u8], u8, &str); 8] = [
     ((Ok("highlight"), Err(NotPresent), Err(NotPresent), true), b"\xff", 3, "input is not UTF-8"),
@@ -191,17 +373,16 @@ const STOPPED: [(Process, &[u8], u8, &str); 8] = [
     ((Ok("highlight"), Err(NotPresent), Err(OutOfMemory), true), b"fn", 6, "no memory"),
     ((Err(ErrorKind::OutOfMemory), Err(NotPresent), Err(NotPresent), true), b"fn", 6, "no memory"),
     ((Err(ErrorKind::InvalidData), Err(NotPresent), Err(NotPresent), true), b"fn", 2, "an argument is not UTF-8"),
-    ((Ok("highlight|x"), Err(NotPresent), Err(NotPresent), true), b"fn", 2, "cannot take 'x'; "),
-    ((Ok("highlight|--edition|2027"), Err(NotPresent), Err(NotPresent), true), b"fn", 2, "cannot take '2027'; "),
-    ((Ok("highlight|"), Err(NotPresent), Err(NotPresent), true), b"fn", 2, "cannot take ''; "),
+    ((Ok("highlight|x"), Err(NotPresent), Err(NotPresent), true), b"fn", 7, "cannot open x: not found"),
+    ((Ok("highlight|--edition|2027"), Err(NotPresent), Err(NotPresent), true), b"fn", 2, "invalid value '2027' for --edition (2015, 2018, 2021 or 2024)"),
+    ((Ok("highlight|"), Err(NotPresent), Err(NotPresent), true), b"fn", 7, "cannot open : not found"),
 ];
 
 /// A program that stops prints only its message.
 #[test]
 fn errors_and_statuses() {
     for (process, input, status, message) in STOPPED {
-        let taken = if message.ends_with("; ") { TAKEN } else { "" };
-        let line = format!("highlight: {message}{taken}\n");
+        let line = format!("highlight: {message}\n");
         let wanted = (status, vec![], line.into());
         assert_eq!(run_program(process, input), wanted, "{message}");
     }
@@ -218,7 +399,7 @@ fn failing_streams() {
                 term: Err(NotPresent),
                 is_terminal: true,
             };
-            program(Global, start, input, output, errors)
+            program(Global, start, input, &open_file, output, errors)
         },
         text: b"fn a",
         output: b"\x1b[35mfn\x1b[0m a",

@@ -4,10 +4,12 @@
 //! Lists and texts come from `rattle_support`, and their methods return an error if an allocation fails. If an
 //! allocation of Rust's own `std` fails, the process aborts. These allocations happen at the start, before any input is
 //! read: in [`env::args`], in [`env::var`], and for the buffers of the standard streams, which are never used.
+//! [`fs::open`] allocates for a long name.
 
 #![deny(missing_docs, unsafe_code)]
 
 pub mod env;
+pub mod fs;
 pub mod io;
 pub mod rt;
 

@@ -112,3 +112,23 @@ fn closed_streams() {
     let value = rattle_std::env::var(&rt, NAME);
     assert!(matches!(value, Err(rattle_std::env::VarError::NotUnicode)));
 }
+
+/// A file, one that does not exist, and a folder, next to those of `std`.
+#[test]
+fn files() {
+    use rattle_std::io::{ErrorKind, Read};
+    let rt = rt::start();
+    let mut file = rattle_std::fs::open(&rt, "Cargo.toml").unwrap();
+    let wanted = std::fs::read("Cargo.toml").unwrap();
+    let mut room = vec![0; wanted.len()];
+    let (front, back) = room.split_at_mut(9);
+    assert_eq!(Read::read(&mut file, front).unwrap(), front.len());
+    assert_eq!(Read::read(&mut file, back).unwrap(), back.len());
+    assert_eq!(Read::read(&mut file, &mut [0]).unwrap(), 0);
+    assert_eq!(room, wanted);
+    let error = rattle_std::fs::open(&rt, "a file that does not exist").unwrap_err();
+    assert_eq!(error.kind(), ErrorKind::NotFound);
+    // A folder cannot be opened, or cannot be read.
+    let folder = rattle_std::fs::open(&rt, "src");
+    assert!(folder.is_err() || folder.is_ok_and(|mut it| Read::read(&mut it, &mut [0]).is_err()));
+}

@@ -1,10 +1,6 @@
+use Rattle.std.proofs.Common.{refl, Err}
 use Rattle.highlight_run.proofs.program.program.Goals as goal
 
 pub returns-clause-ended : goal.returns-clause-ended
-returns-clause-ended g c = (
-  c.show-outcome.result,
-  _,
-  c.show-outcome.ensures.ran,
-  c.show-outcome.ensures.leaves,
-  rw (← c.closed.ensures, ← c.as_str.ensures.value) c.report.ensures,
-)
+returns-clause-ended g c =
+    (Err c.in-Err.fault, _, c.in-Err.ensures.fault, (refl, refl, rw (← c.as_str.ensures.value) c.report.ensures))
