@@ -506,13 +506,14 @@ static void check_messages(void) {
     check_message("r\"a", "unterminated raw string: missing closing quote");
     check_message("br#\"a", "unterminated raw string: expected a closing quote and 1 `#`");
     check_message("r##\"abc\"#", "unterminated raw string: expected 2 `#` after the closing quote, found 1 at byte 8");
-    check_message("---\n----", XX);
+    check_message("---\n----", "frontmatter opens with 3 dashes but closes with 4");
 
     /* a buffer with spare room, an empty text and null */
     memset(bytes, 0xAA, sizeof bytes);
     CHECK(rustc_lexer_token_error_message(text, 2, &number, bytes, sizeof bytes, &written) == RUSTC_LEXER_OK);
     CHECK(written == 20 && memcmp(bytes, "number has no digits\xaa", 21) == 0);
-    CHECK(rustc_lexer_token_error_message(NULL, 0, &number, NULL, 0, &written) == RUSTC_LEXER_SMALL_BUFFER && written == 0);
+    CHECK(rustc_lexer_token_error_message(NULL, 0, &number, NULL, 0, &written) == RUSTC_LEXER_SMALL_BUFFER);
+    CHECK(written == 0);
     CHECK(rustc_lexer_token_error_message(NULL, 0, &unknown, NULL, 0, &written) == RUSTC_LEXER_OK && written == 0);
 
     /* if the text is invalid, the buffer is unchanged */

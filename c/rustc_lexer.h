@@ -570,15 +570,15 @@ uint32_t rustc_lexer_class(const uint8_t *text, size_t len, const struct rustc_l
 uint32_t rustc_lexer_token_error(const uint8_t *text, size_t len, const struct rustc_lexer_token *token,
                                  uint32_t *number);
 
-/* Writes the message of the error that rustc_lexer_token_error finds into the buffer, such as "this number has no digits",
- * and the number of bytes into `written`, which is 0 if there is no error. The message is UTF-8 without a terminating
- * zero; the rest of the buffer is unchanged. 256 bytes are enough for every message. For an error between the quotes of
- * a literal, call rustc_lexer_literal_error_message.
+/* Writes the message of a token's error into the buffer, such as "number has no digits", and the number of its bytes
+ * into `written`, which is 0 if there is no error. The arguments are those of rustc_lexer_token_error. The message is
+ * UTF-8 without a terminating zero; the rest of the buffer is unchanged. 256 bytes are enough for every message. For an
+ * error between the quotes of a literal, call rustc_lexer_literal_error_message.
  *
  * If the status is RUSTC_LEXER_SMALL_BUFFER, the contents of the buffer are unspecified: call again with a larger
  * one. If it is any other status except 0, the buffer is unchanged. In both cases `written` is 0. */
 uint32_t rustc_lexer_token_error_message(const uint8_t *text, size_t len, const struct rustc_lexer_token *token,
-                                   uint8_t *buffer, size_t buffer_len, size_t *written);
+                                         uint8_t *buffer, size_t buffer_len, size_t *written);
 
 /* Writes the first `count` tokens of the text, or all if it has fewer, with highlighting into the buffer, and the
  * number of bytes into `written`. The highlighting shows the class of each token, a message if it is malformed, and

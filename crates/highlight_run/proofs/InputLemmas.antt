@@ -1,4 +1,4 @@
--- What is reported about an input that could not be opened, and inputs that are shown one after another.
+-- Lemmas about the message for a file that could not be opened, and about showing several inputs.
 use Rattle.std.proofs.Common.{◌≡◌, ◌||◌, ℕ, false, true, List, [], ◌∷◌, Option, Result, Ok, Err, arith, codes, length, refl}
 use Rattle.std.proofs.Common.{subst, sym, take_all}
 use Rattle.std.proofs.lemmas.Grind.{common_steps}
@@ -32,7 +32,7 @@ unopened_told before errors line old new (Err fault) failed flushed ok err = rec
   heard = λ sound. absurd (grind (arith, common_steps));
 }
 
--- ---- inputs that are shown one after another
+-- ---- several inputs
 
 module _ {P A : Type 0} (R : P → A → P → Type 0) where
   pub fold_step : (s j last : P) (x : A) (xs rest : List A) → xs ≡ x ∷ rest → R s x j → FoldsTo R j rest last

@@ -1,4 +1,4 @@
--- The options that words write, by the first of them.
+-- Lemmas about reading the options word by word.
 use Rattle.std.proofs.Common.{◌≡◌, ◌≤◌, ◌-◌, ℕ, false, List, [], ◌∷◌, Some, None, Result, Ok, Err, String, Global, ap}
 use Rattle.std.proofs.Common.{arith, codes, drop, get_or, length, map, refl, string_bytes, sym, take, take_all, ◌∙◌}
 use Rattle.std.proofs.lemmas.Grind.{common_steps}
@@ -26,7 +26,7 @@ module _ (options : Options) (word : List ℕ) (words : List (List ℕ)) where
         → options_of options None (word ∷ words) ≡ Err message
     word_rejected message e = first_is ∙ ap (and_on (λ o. options_of o None words)) e
 
--- the words of a slice, by its first item
+-- A nonempty list is its first item followed by the rest.
 split-first : {A : Type 0} (items : List A) (first : A) → 1 ≤ length items → first ≡ get_or items 0 first
     → items ≡ first ∷ take (length items - 1) (drop 1 items)
 split-first [] first some is = absurd (grind (arith, common_steps))

@@ -1,4 +1,4 @@
--- The rest of a word that starts with a text.
+-- `strip` agrees with the contract of `str::strip_prefix`.
 use Rattle.std.proofs.Common.{◌≡◌, ◌≢◌, ℕ, List, [], ◌∷◌, ◌++◌, Option, Some, None, refl, sym, ap, ◌∙◌, arith}
 use Rattle.std.specs.Prelude.{if◌then◌else◌, nat_eq}
 use Rattle.std.proofs.lemmas.Grind.{common_steps}

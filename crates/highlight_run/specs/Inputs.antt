@@ -1,4 +1,4 @@
--- What is written for the inputs, one after another.
+-- The output, the messages and the exit status for several inputs.
 use Rattle.std.specs.Prelude.{ℕ, ◌≡◌, ◌==◌, Bool, true, false, if◌then◌else◌, List, [], ◌∷◌, ◌++◌, codes, Option, Result}
 use Rattle.std.specs.Prelude.{Ok, Err}
 use Rattle.std.specs.IoError.{error_kind}
@@ -14,41 +14,42 @@ use Rattle.highlight_run.specs.Page.{printed}
 use Rattle.highlight_run.specs.Words.{is_input}
 use Rattle.highlight_run.specs.declared.job.View.{View}
 
--- the start of a line about an input: it names the program and, if there is memory for that and
--- the input is a file, the file
+-- A line about an input starts with the program's name and, if the input is a file, the file's name. With `false`,
+-- which means that an allocation failed, the file's name is left out.
 abbrev pub line_start : Bool → List ℕ → List ℕ
 line_start false name = codes "highlight: "
 line_start true name =
     if is_input name then codes "highlight: " else codes "highlight: " ++ (name ++ codes ": ")
 
--- why a file could not be opened, and the end of the line that says so
+-- This text ends the line about a file that could not be opened. It contains the reason if the file was not found or
+-- permission was denied.
 abbrev pub reason : ErrorKind → List ℕ
 reason NotFound = codes ": not found\n"
 reason PermissionDenied = codes ": permission denied\n"
 reason kind = codes "\n"
 
--- the line about a file that could not be opened
+-- This line reports a file that could not be opened.
 abbrev pub unopened : List ℕ → ErrorKind → List ℕ
 unopened name kind = codes "highlight: cannot open " ++ (name ++ reason kind)
 
--- the exit status of several inputs: that of the first that failed
+-- The exit status of several inputs is the first one other than 0.
 abbrev pub first_status : ℕ → ℕ → ℕ
 first_status before exit = if before == 0 then exit else before
 
--- the streams of the program
+-- The program reads standard input, and writes to the output and the errors.
 pub record Streams (R W E : Type 0) : Type 0 where
   pub input : Watch R
   pub output : Watch W
   pub errors : Watch E
 
--- the streams after some inputs, and the exit status so far
+-- The state after some inputs consists of the streams and the exit status so far.
 pub record State (R W E : Type 0) : Type 0 where
   pub streams : Streams R W E
   pub status : ℕ
 
--- an input was shown: its text, with its markup, was written as far as the streams let it be, and
--- the outcome was reported. The known bytes of the output and of the errors grew from `old` to
--- `new`, and from `said` to `told`
+-- Holds if an input was shown and the outcome was reported. The whole output for its text was written, or a prefix of
+-- it if the output failed; after any other fault, nothing was written. The known bytes of the output grew from `old` to
+-- `new`, and the known bytes of the errors from `said` to `told`.
 abbrev pub Shown : {R W E : Type 0} → View → List ℕ → Option (List ℕ) → Watch R → Watch W
     → Option (List ℕ) → Option (List ℕ) → Watch E → Option (List ℕ) → Option (List ℕ) → ℕ → Type 0
 Shown view name known input output old new errors said told exit =
@@ -58,19 +59,19 @@ Shown view name known input output old new errors said told exit =
     × IsReported (fault_line (line_start named name) []) outcome (is_closed output) exit
     (has_failed errors ≡ false) errors.flushed said told
 
--- a file could not be opened, and that was reported like a failed read
+-- Holds if it was reported that a file could not be opened, with the exit status of a failed read.
 abbrev pub Unopened : {E : Type 0} → List ℕ → ErrorKind → Watch E → Option (List ℕ)
     → Option (List ℕ) → ℕ → Type 0
 Unopened name kind errors said told exit =
     IsReported (λ _. unopened name kind) (Err Read) false exit (has_failed errors ≡ false)
     errors.flushed said told
 
--- the bytes that are known of a standard input, a file, the output and the errors, and what a name
--- can be opened as
+-- The first four parameters return the known bytes of standard input and of a file (unread), and of the output and the
+-- errors (written). `Opens` holds for a name and a result of opening it.
 module _ {R S W E : Type 0} (unread : R → Option (List ℕ)) (unread_file : S → Option (List ℕ))
     (written : W → Option (List ℕ)) (said : E → Option (List ℕ))
     (Opens : List ℕ → Result S Error → Type 0) (view : View) where
-  -- a file was shown, or could not be opened
+  -- Holds if a file was shown, or it was reported that it could not be opened.
   abbrev pub ShowsFile : Streams R W E → List ℕ → Result S Error → Streams R W E → ℕ → Type 0
   ShowsFile s name (Ok file) s' exit =
       (input : Watch S) × Shown view name (unread_file file) input s'.output
@@ -80,7 +81,8 @@ module _ {R S W E : Type 0} (unread : R → Option (List ℕ)) (unread_file : S 
       (s'.output ≡ s.output) × Unopened name (error_kind error) s'.errors (said s.errors.inner)
       (said s'.errors.inner) exit
 
-  -- an input was shown: standard input, or a file
+  -- Holds if an input was handled. With `true`, standard input was shown. With `false`, the file with this name was
+  -- opened and shown, or it was reported that it could not be opened.
   abbrev pub ShowsInput : Bool → Streams R W E → List ℕ → Streams R W E → ℕ → Type 0
   ShowsInput true s name s' exit =
       Shown view name (unread s.input.inner) s'.input s'.output (written s.output.inner)
@@ -89,12 +91,13 @@ module _ {R S W E : Type 0} (unread : R → Option (List ℕ)) (unread_file : S 
       (s'.input ≡ s.input) × (answer : Result S Error) × Opens name answer
       × ShowsFile s name answer s' exit
 
-  -- the next input was shown, unless the output has failed
+  -- Holds if the next input was handled, or if the output had failed (`true`) and nothing changed.
   abbrev pub ShowsUnless : Bool → State R W E → List ℕ → State R W E → Type 0
   ShowsUnless true s name s' = s' ≡ s
   ShowsUnless false s name s' =
       (exit : ℕ) × ShowsInput (is_input name) s.streams name s'.streams exit
       × (s'.status ≡ first_status s.status exit)
 
+  -- Holds if the next input was handled, unless the output had failed before.
   abbrev pub ShowsNext : State R W E → List ℕ → State R W E → Type 0
   ShowsNext s name s' = ShowsUnless (has_failed s.streams.output) s name s'

@@ -6,16 +6,16 @@ use Rattle.rustc_lexer_highlight.specs.declared.format.Format.{Format}
 use Rattle.rustc_lexer_highlight.specs.declared.format.Format.TheVariants.{Html}
 use Rattle.rustc_lexer_highlight.specs.Highlighted.{highlighted}
 
--- what stands before the text: in a page its head, in a terminal nothing
+-- The head of a page is written before the text. Other formats have no head.
 abbrev pub head : Format → List ℕ
 head Html = HEAD.now
 head format = []
 
--- what stands past it
+-- The foot of a page is written after the text. Other formats have no foot.
 abbrev pub foot : Format → List ℕ
 foot Html = FOOT.now
 foot format = []
 
--- all that is written of a text
+-- The whole output for a text is the highlighted text between head and foot.
 abbrev pub printed : Format → Edition → List ℕ → List ℕ
 printed format edition text = head format ++ (highlighted format edition text ++ foot format)

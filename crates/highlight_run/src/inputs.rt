@@ -1,4 +1,4 @@
-//! Showing the inputs, one after another.
+//! Shows the inputs, one after another.
 ghost use Rattle.std.specs.Prelude.{◌≡◌, false, map, string_bytes, true, IfOk};
 ghost use Rattle.std.specs.Fn.{FnReturnsAt};
 ghost use Rattle.std.specs.List.{FoldsTo};
@@ -17,8 +17,8 @@ use std::alloc::{AllocError, Global};
 use std::io;
 use std::io::{ErrorKind, Read, Write};
 
-/// Shows each file that the arguments name, or standard input. Stops if the output has failed.
-/// Returns the exit status of the first input that failed.
+/// Shows the files among the arguments, or standard input if there are none. Once the output has failed, no more of
+/// them are opened or read. Returns the exit status of the first input that failed, or 0.
 pub fn show_inputs<R: Read, S: Read + Drop, F: Fn(&str) -> io::Result<S>, W: Write, E: Write>(
     alloc: Global,
     view: View,
@@ -55,14 +55,14 @@ pub fn show_inputs<R: Read, S: Read + Drop, F: Fn(&str) -> io::Result<S>, W: Wri
     exit
 }
 
-/// Returns the exit status of two inputs.
+/// Returns the first of two exit statuses that is not 0, or 0.
 fn first_status(before: u8, next: u8) -> u8
     ensures { result ≡ first_status before next }
 {
     if before == 0 { next } else { before }
 }
 
-/// Shows one input, which is standard input or a file. Returns its exit status.
+/// Shows standard input or a file. Returns the exit status.
 fn show_input<R: Read, S: Read + Drop, F: Fn(&str) -> io::Result<S>, W: Write, E: Write>(
     alloc: Global,
     view: View,
@@ -89,7 +89,7 @@ fn show_input<R: Read, S: Read + Drop, F: Fn(&str) -> io::Result<S>, W: Write, E
     }
 }
 
-/// Shows the text of a reader, and reports how that ends. Returns the exit status.
+/// Shows the text of a reader, and reports an error. Returns the exit status.
 fn show<R: Read, W: Write, E: Write>(
     alloc: Global,
     view: View,
@@ -111,7 +111,7 @@ fn show<R: Read, W: Write, E: Write>(
     }
 }
 
-/// Shows the text of a reader, unless it has failed: standard input can be named again.
+/// Shows the text of a reader, unless the reader has failed before: the arguments can name standard input twice.
 fn run_if_sound<R: Read, W: Write>(
     alloc: Global,
     view: View,
@@ -130,7 +130,7 @@ fn run_if_sound<R: Read, W: Write>(
     run(alloc, view.format, view.edition, input, output)
 }
 
-/// Returns the start of a line about an input.
+/// Returns the start of a message about an input, which names the input if it is a file.
 fn line_start(alloc: Global, name: &str) -> Result<String, AllocError>
     ensures { IfOk result (λ start. string_bytes start ≡ line_start true name.now) }
 {
@@ -148,12 +148,12 @@ fn tell_unopened<E: Write>(name: &str, kind: ErrorKind, errors: &mut Watched<E>)
     ensures { Unopened name.now kind errors.new (E.contents errors.old.inner)
         (E.contents errors.new.inner) result }
 {
-    // If this can't be written, there is nobody to tell.
+    // A failed write to the errors cannot be reported anywhere.
     let _ = write_texts(errors, "highlight: cannot open ", name, reason(kind));
     status(&Fault::Read)
 }
 
-/// Returns why a file could not be opened, as the end of a line.
+/// Returns the end of the message about a file that could not be opened.
 fn reason(kind: ErrorKind) -> &'static str
     ensures { result.now ≡ reason kind }
 {

@@ -1,4 +1,4 @@
-//! What a run has to do, as its arguments say.
+//! Reads the arguments of the program.
 ghost use Rattle.std.specs.Prelude.{◌≡◌, ◌<◌, ◌++◌, None, Some, length, map, string_bytes, IfErr, IfOk, IfSome, Ok, Err};
 ghost use Rattle.highlight_run.specs.Job.{format_of, in_edition, in_form, is_crowded, is_help, is_version, job_alone, job_of, line_of, options_of, read_colours, read_edition, repeated, when_of, with_colours, with_value, with_word};
 ghost use Rattle.highlight_run.specs.Words.{files_of};
@@ -9,10 +9,10 @@ use rustc_lexer::Edition;
 use rustc_lexer_highlight::Format;
 use std::str::FromStr;
 
-/// What a run has to do.
+/// A job that the arguments ask for.
 #[derive(Clone, Copy, Debug, PartialEq, Eq)]
 pub enum Job {
-    /// Show each file that the arguments name, or standard input.
+    /// Show the files among the arguments, or standard input if there are none.
     Show(View),
     /// Print the help.
     Help,
@@ -20,36 +20,36 @@ pub enum Job {
     Version,
 }
 
-/// How a text is shown. It can start with a frontmatter.
+/// How to show a text. The text is lexed as a document: it can start with a shebang line and a frontmatter.
 #[derive(Clone, Copy, Debug, PartialEq, Eq)]
 pub struct View {
     /// The format of the output.
     pub format: Format,
-    /// The edition that the text is lexed in.
+    /// The edition of the text.
     pub edition: Edition,
 }
 
-/// An argument that is rejected, inside the message that says why.
+/// A rejected argument, and the message about it in three parts.
 #[derive(Clone, Copy, Debug, PartialEq, Eq)]
 pub struct Rejection<'a> {
-    /// The message before the argument.
+    /// The part of the message before the argument.
     pub before: &'static str,
     /// The argument.
     pub word: &'a str,
-    /// The message after the argument.
+    /// The part of the message after the argument.
     pub after: &'static str,
 }
 
 /// When to write colours.
 #[derive(Clone, Copy)]
 enum When {
-    /// If the output is a terminal and `NO_COLOR` is not set.
+    /// The default: on a terminal, unless `NO_COLOR` is set and not empty, or `TERM` is `dumb`.
     Auto,
     Always,
     Never,
 }
 
-/// The options that were given, and `None` for each of the others.
+/// The options. An option is `None` if it was not given.
 #[derive(Clone, Copy)]
 struct Options {
     form: Option<Format>,
@@ -57,20 +57,24 @@ struct Options {
     color: Option<When>,
 }
 
-/// No option.
+/// The options before any argument is read.
 const NO_OPTIONS: Options = Options {
     form: None,
     edition: None,
     color: None,
 };
 
-/// Returns the job that the arguments after the program's name ask for. Without `--edition`, the
-/// edition is the newest one. `colours` is whether to write colours if no argument says so.
+/// Returns the job that the arguments after the program's name ask for.
+///
+/// `colours` is whether to write colours by default, and with `--color auto`. The default edition is the newest one.
 ///
 /// # Errors
 ///
-/// Returns the argument that is rejected: an unknown option, an invalid or missing value, a
-/// repeated option, or a second file for one page.
+/// Returns the rejected argument, with a message, in these cases:
+///
+/// - An option is unknown, has an invalid value or no value, or repeats or contradicts an earlier option.
+/// - `--help` or `--version` is combined with other arguments.
+/// - `--html` has more than one file.
 pub fn read_job(words: &[String], colours: bool) -> Result<Job, Rejection<'_>>
     ensures taken { IfOk result (λ job. job_of (map string_bytes words.now) colours ≡ Ok job) }
     ensures rejected { IfErr result
@@ -90,7 +94,7 @@ pub fn read_job(words: &[String], colours: bool) -> Result<Job, Rejection<'_>>
     }))
 }
 
-/// Returns the job that the only argument asks for, if it is one that stands alone.
+/// Returns the job if the only argument asks for the help or the version.
 fn read_alone(words: &[String]) -> Option<Job>
     ensures { result ≡ job_alone (map string_bytes words.now) }
 {
@@ -121,7 +125,7 @@ fn is_version(word: &str) -> bool
     word == "--version" || word == "-V"
 }
 
-/// Returns whether the arguments name more files than fit in the output.
+/// Returns whether the format is HTML and there is more than one file among the arguments.
 fn is_crowded(format: Format, words: &[String]) -> bool
     ensures { result ≡ is_crowded format (files_of Any (map string_bytes words.now)) }
 {
@@ -135,7 +139,7 @@ fn is_crowded(format: Format, words: &[String]) -> bool
     }
 }
 
-/// Returns the options of the arguments, in any order, each at most once.
+/// Reads the options, which can come in any order, each at most once.
 #[tactic(auto, using(std::proofs::lemmas::Grind::common_steps))]
 fn read_options(words: &[String]) -> Result<Options, Rejection<'_>>
     ensures taken { IfOk result
@@ -152,8 +156,8 @@ fn read_options(words: &[String]) -> Result<Options, Rejection<'_>>
     Ok(options)
 }
 
-/// Adds the option that the first argument writes, if it is one. Returns the arguments that are
-/// left, or `None` if no option can follow.
+/// Reads the first argument, and the next one if that is its value. If it is an option, adds it. Returns the options
+/// and the remaining arguments, or `None` if no option can follow.
 #[tactic(auto, using(std::proofs::lemmas::Grind::common_steps))]
 fn read_first<'a>(
     options: Options,
@@ -184,8 +188,7 @@ fn read_first<'a>(
     Ok(Some((with_word(options, word)?, rest)))
 }
 
-/// Adds the option that an argument and the next one, its value, write. Returns the arguments that
-/// are left.
+/// Adds the option `name`. Its value is the first of `words`. Returns the options and the remaining arguments.
 #[tactic(auto, using(std::proofs::lemmas::Grind::common_steps))]
 fn read_value<'a>(
     options: Options,
@@ -205,7 +208,7 @@ fn read_value<'a>(
     Ok((with_value(options, name, value.as_str())?, rest))
 }
 
-/// Returns an argument that is rejected, with its message.
+/// Returns a rejected argument with its message.
 fn reject<'a>(before: &'static str, word: &'a str, after: &'static str) -> Rejection<'a>
     ensures { line_of result ≡ before.now ++ (word.now ++ after.now) }
 {
@@ -216,14 +219,14 @@ fn reject<'a>(before: &'static str, word: &'a str, after: &'static str) -> Rejec
     }
 }
 
-/// Returns an option that repeats or contradicts an earlier one, with its message.
+/// Rejects an option that repeats or contradicts an earlier one.
 fn repeated(word: &str) -> Rejection<'_>
     ensures { line_of result ≡ repeated word.now }
 {
     reject("'", word, "' repeats or contradicts an earlier option")
 }
 
-/// Adds the option that one argument writes.
+/// Adds an option that is a single argument.
 fn with_word(options: Options, word: &str) -> Result<Options, Rejection<'_>>
     ensures taken { IfOk result (λ all. with_word options word.now ≡ Ok all) }
     ensures rejected { IfErr result (λ why. with_word options word.now ≡ Err (line_of why)) }
@@ -246,7 +249,7 @@ fn with_word(options: Options, word: &str) -> Result<Options, Rejection<'_>>
     Err(reject("unknown option '", word, "'"))
 }
 
-/// Adds the option that an argument and its value write.
+/// Adds an option with its value.
 fn with_value<'a>(options: Options, name: &str, value: &'a str) -> Result<Options, Rejection<'a>>
     ensures taken { IfOk result (λ all. with_value options name.now value.now ≡ Ok all) }
     ensures rejected { IfErr result
@@ -259,7 +262,7 @@ fn with_value<'a>(options: Options, name: &str, value: &'a str) -> Result<Option
     }
 }
 
-/// Adds the edition of a year.
+/// Adds `--edition` with this year.
 fn read_edition(options: Options, year: &str) -> Result<Options, Rejection<'_>>
     ensures taken { IfOk result (λ all. read_edition options year.now ≡ Ok all) }
     ensures rejected { IfErr result (λ why. read_edition options year.now ≡ Err (line_of why)) }
@@ -273,7 +276,7 @@ fn read_edition(options: Options, year: &str) -> Result<Options, Rejection<'_>>
     in_edition(options, edition).ok_or(repeated("--edition"))
 }
 
-/// Adds colours as a word says.
+/// Adds `--color` with this value.
 fn read_colours(options: Options, word: &str) -> Result<Options, Rejection<'_>>
     ensures taken { IfOk result (λ all. read_colours options word.now ≡ Ok all) }
     ensures rejected { IfErr result (λ why. read_colours options word.now ≡ Err (line_of why)) }
@@ -286,7 +289,7 @@ fn read_colours(options: Options, word: &str) -> Result<Options, Rejection<'_>>
     let when = read_when(word).ok_or(invalid)?;
     with_colours(options, when).ok_or(repeated("--color"))
 }
-/// Adds `--html` or `--raw`. Returns `None` if one of these is there already.
+/// Adds `--html` or `--raw`. Returns `None` if one of them was given before.
 fn in_form(options: Options, format: Format) -> Option<Options>
     ensures { result ≡ in_form options format }
 {
@@ -296,7 +299,7 @@ fn in_form(options: Options, format: Format) -> Option<Options>
     })
 }
 
-/// Adds an edition. Returns `None` if there is one already.
+/// Adds `--edition`. Returns `None` if it was given before.
 fn in_edition(options: Options, edition: Edition) -> Option<Options>
     ensures { result ≡ in_edition options edition }
 {
@@ -306,7 +309,7 @@ fn in_edition(options: Options, edition: Edition) -> Option<Options>
     })
 }
 
-/// Adds `--color`. Returns `None` if it is there already.
+/// Adds `--color`. Returns `None` if it was given before.
 fn with_colours(options: Options, when: When) -> Option<Options>
     ensures { result ≡ with_colours options when }
 {
@@ -316,7 +319,7 @@ fn with_colours(options: Options, when: When) -> Option<Options>
     })
 }
 
-/// Returns the format that the options ask for.
+/// Returns the format of the options. `colours` is whether to write colours by default.
 fn format_of(options: Options, colours: bool) -> Format
     ensures { result ≡ format_of options colours }
 {
@@ -335,7 +338,7 @@ fn format_of(options: Options, colours: bool) -> Format
     }
 }
 
-/// Reads the argument of `--color`.
+/// Reads the value of `--color`.
 fn read_when(word: &str) -> Option<When>
     ensures { result ≡ when_of word.now }
 {

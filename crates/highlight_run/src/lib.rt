@@ -1,5 +1,5 @@
-//! The program `highlight`: writes Rust source in colours, for a terminal or as a web page. It
-//! reads and writes whatever readers and writers it is given.
+//! The program `highlight`, as a library: writes Rust source in colours, for a terminal or as a web page. It works with
+//! any readers and writers.
 #![tactic(auto)]
 
 mod inputs;

@@ -1,4 +1,4 @@
-//! The whole program, for any readers and writers.
+//! The whole program, with any readers and writers.
 ghost use Rattle.std.specs.Prelude.{◌≡◌, [], false, Err, IfErr, IfOk, Ok, map, string_bytes};
 ghost use Rattle.std.specs.Fn.{FnReturnsAt};
 ghost use Rattle.program_io.specs.Watch.{has_failed};
@@ -16,7 +16,7 @@ use std::env::{Args, VarError};
 use std::io;
 use std::io::{ErrorKind, Read, Write};
 
-/// The help.
+/// The text of `--help`.
 const HELP: &str = "Usage: highlight [OPTIONS] [FILE]..
 
 Writes Rust source in colours, for a terminal or as a web page. If there is no FILE, or FILE is -, the source is read
@@ -36,27 +36,28 @@ YEAR and WHEN can also follow a =, as in --edition=2021 and --color=never.
 An error in a token is underlined, and a message follows its first line.
 ";
 
-/// The version, which is that of the package for Cargo.
+/// The text of `--version`, with the version of the Cargo package.
 const VERSION: &str = "highlight 0.1.0\n";
 
-/// What the system gives to a process.
+/// The arguments and the environment of a process.
 #[derive(Drop)]
 pub struct Start {
-    /// The arguments, of which the first is the program's name, or why the system did not give
-    /// them: `ErrorKind::InvalidData` if one is not UTF-8.
+    /// The arguments, starting with the program's name, or the error of reading them: `ErrorKind::InvalidData` if an
+    /// argument is not UTF-8.
     pub args: Result<Args, ErrorKind>,
-    /// The value of `NO_COLOR`.
+    /// The environment variable `NO_COLOR`.
     pub no_color: Result<String, VarError>,
-    /// The value of `TERM`.
+    /// The environment variable `TERM`.
     pub term: Result<String, VarError>,
     /// Whether the output is a terminal.
     pub is_terminal: bool,
 }
 
-/// Runs the program: reads the arguments and the inputs, writes the output, reports errors, and
-/// returns the exit status, which is that of the first input that failed. `open_file` opens a file.
+/// Runs the program: reads the arguments and the inputs, writes the output, and reports errors. `open_file` opens a
+/// file by its name.
 ///
-/// If nobody reads the output any more, it ends quietly, with status 0.
+/// Returns the exit status. If inputs fail, it is the status of the first of them. If nobody reads the output any more,
+/// the program ends without a message about it, and this is not a failure.
 pub fn program<R: Read, S: Read + Drop, F: Fn(&str) -> io::Result<S>, W: Write, E: Write>(
     alloc: Global,
     start: Start,
@@ -88,10 +89,10 @@ pub fn program<R: Read, S: Read + Drop, F: Fn(&str) -> io::Result<S>, W: Write, 
     }
 }
 
-/// The start of each line that is reported.
+/// The start of each message.
 const NAME: &str = "highlight: ";
 
-/// Writes a text of the program, and reports how that ends. Returns the exit status.
+/// Prints the help or the version, and reports an error. Returns the exit status.
 fn print<W: Write, E: Write>(text: &str, output: &mut Watched<W>, errors: &mut Watched<E>) -> u8
     requires writes { has_failed output.old ≡ false }
     ensures { Printed text.now output.new (W.contents output.old.inner)
@@ -102,8 +103,8 @@ fn print<W: Write, E: Write>(text: &str, output: &mut Watched<W>, errors: &mut W
     report(NAME, "", &outcome, output.closed(), errors)
 }
 
-/// Reads the arguments. Returns the job that they ask for, and the arguments. If they are rejected,
-/// `message` says why.
+/// Returns the job that the arguments ask for, and the arguments after the program's name. If they are rejected, writes
+/// the reason to `message`.
 fn read_start(
     alloc: Global,
     start: Start,
@@ -144,8 +145,7 @@ fn read_start(
     }
 }
 
-/// Returns whether to write colours if no argument says so, by the values of `NO_COLOR` and `TERM`.
-/// `None` means that memory for a value was refused.
+/// Returns whether to write colours by default, or `None` if an allocation for the value of a variable failed.
 fn wants_colours(
     no_color: &Result<String, VarError>,
     term: &Result<String, VarError>,
@@ -157,8 +157,7 @@ fn wants_colours(
     Some(is_unset(no_color)? && !is_dumb && is_terminal)
 }
 
-/// Returns whether `NO_COLOR` has no value, or an empty one. `None` means that memory for it was
-/// refused.
+/// Returns whether `NO_COLOR` is unset or empty, or `None` if an allocation for its value failed.
 fn is_unset(no_color: &Result<String, VarError>) -> Option<bool>
     ensures { result ≡ is_unset no_color.now }
 {
@@ -170,8 +169,7 @@ fn is_unset(no_color: &Result<String, VarError>) -> Option<bool>
     }
 }
 
-/// Returns whether `TERM` names a terminal without colours. `None` means that memory for it was
-/// refused.
+/// Returns whether `TERM` is `dumb`, or `None` if an allocation for its value failed.
 fn is_dumb(term: &Result<String, VarError>) -> Option<bool>
     ensures { result ≡ is_dumb term.now }
 {

@@ -1,4 +1,4 @@
-//! A whole run, from a reader to a writer.
+//! Highlights the text of one reader.
 ghost use Rattle.std.specs.Prelude.{◌≡◌, false, IfOk, string_bytes};
 ghost use Rattle.rustc_lexer.specs.Classes.{Fits};
 ghost use Rattle.program_io.specs.Run.{Leaves, Makes};
@@ -15,18 +15,17 @@ use std::io::{Read, Write};
 
 /// Reads all of the input, then writes it with its tokens highlighted.
 ///
-/// `Ok` means that the output was flushed last.
+/// If it returns `Ok`, the last call of the output was a flush that succeeded.
 ///
 /// # Errors
 ///
-/// After each fault but `Fault::Write` nothing was written, since the whole output is made before
-/// any of it is written.
+/// - Returns `Fault::Read` if a read fails.
+/// - Returns `Fault::TooLong` if the input is longer than `u32::MAX` bytes.
+/// - Returns `Fault::NotUtf8` if the input is not UTF-8.
+/// - Returns `Fault::Memory` if an allocation fails.
+/// - Returns `Fault::Write` if a write or the flush fails. A prefix of the output may have been written.
 ///
-/// - `Fault::Read`: a read failed.
-/// - `Fault::TooLong`: the input has more than `u32::MAX` bytes.
-/// - `Fault::NotUtf8`: it is not UTF-8.
-/// - `Fault::Memory`: an allocation failed.
-/// - `Fault::Write`: a write or the flush failed. A beginning of the output was written.
+/// After any fault other than `Fault::Write`, nothing has been written.
 #[tactic(auto, using(program_io::proofs::RunLemmas::makes_unread, program_io::proofs::RunLemmas::makes_written))]
 pub fn run<R: Read, W: Write>(
     alloc: Global,
@@ -47,7 +46,7 @@ pub fn run<R: Read, W: Write>(
     put(output, made.as_str())
 }
 
-/// Returns the whole output for a text.
+/// Returns the whole output for a text, so that nothing is written if an allocation fails.
 fn print(alloc: Global, format: Format, edition: Edition, text: &str) -> Result<String, fmt::Error>
     requires { Fits text.now }
     ensures { IfOk result (λ made. string_bytes made ≡ printed format edition text.now) }

@@ -1,29 +1,29 @@
-//! The files among the arguments.
+//! Finds the files among the arguments.
 ghost use Rattle.std.specs.Prelude.{◌≡◌, ◌<◌, ◌∷◌, [], IfSome, None, length, map, string_bytes};
 ghost use Rattle.std.specs.Option.{option_map};
 ghost use Rattle.highlight_run.specs.Words.{after, is_file, is_input, listed, names_file, strip, takes_value};
 
-/// What the next argument can be.
+/// How to read the next argument.
 #[derive(Clone, Copy)]
 pub enum Next {
-    /// An option, a file, or `--`, after which all arguments are files.
+    /// As an option, a file, or `--`. All arguments after `--` are files.
     Any,
-    /// The value of the option before it.
+    /// As the value of the option before it.
     Value,
-    /// A file.
+    /// As a file.
     File,
 }
 
-/// The arguments that are not read yet, and what the first of them can be.
+/// The remaining arguments, and how to read the first of them.
 #[derive(Clone, Copy)]
 pub struct Files<'a> {
-    /// What the first argument can be.
+    /// How to read the first of the arguments.
     pub next: Next,
-    /// The arguments.
+    /// The remaining arguments.
     pub words: &'a [String],
 }
 
-/// Returns the first file among the arguments, and the arguments after it.
+/// Returns the first file among the arguments, and the arguments after it, or `None` if there are no files.
 pub fn next_file<'a>(files: Files<'a>) -> Option<(&'a str, Files<'a>)>
     ensures found { IfSome result (λ p. (listed files.entry ≡ p.0.now ∷ listed p.1)
         × (length p.1.words.now < length files.entry.words.now)) }
@@ -44,7 +44,7 @@ pub fn next_file<'a>(files: Files<'a>) -> Option<(&'a str, Files<'a>)>
     None
 }
 
-/// Returns whether an argument is a file, by what can stand in its place.
+/// Returns whether an argument that is read as `next` is a file.
 fn is_file(next: Next, word: &str) -> bool
     ensures { result ≡ is_file next word.now }
 {
@@ -55,7 +55,7 @@ fn is_file(next: Next, word: &str) -> bool
     }
 }
 
-/// Returns what can follow an argument.
+/// Returns how to read the argument that follows `word`, which is read as `next`.
 fn after(next: Next, word: &str) -> Next
     ensures { result ≡ after next word.now }
 {
@@ -67,28 +67,28 @@ fn after(next: Next, word: &str) -> Next
     }
 }
 
-/// Returns whether an argument is a file where an option is possible.
+/// Returns whether an argument that could be an option is a file instead: it is `-` or does not start with `-`.
 pub fn names_file(word: &str) -> bool
     ensures { result ≡ names_file word.now }
 {
     is_input(word) || strip(word, "-").is_none()
 }
 
-/// Returns whether a file is standard input.
+/// Returns whether a file name means standard input.
 pub fn is_input(word: &str) -> bool
     ensures { result ≡ is_input word.now }
 {
     word == "-"
 }
 
-/// Returns whether the next argument is the value of this option.
+/// Returns whether an argument is an option whose value is the next argument.
 pub fn takes_value(word: &str) -> bool
     ensures { result ≡ takes_value word.now }
 {
     word == "--edition" || word == "--color"
 }
 
-/// Returns the rest of a text that starts with `part`.
+/// Returns the text after the prefix `part`, or `None` if it does not start with `part`.
 pub fn strip<'a>(text: &'a str, part: &str) -> Option<&'a str>
     ensures { option_map (λ rest. rest.now) result ≡ strip part.now text.now }
 {

@@ -1,5 +1,5 @@
-//! The program as a process, with standard streams that are closed, full or a terminal. The markup and the forms of
-//! arguments are tested in `highlight_run`.
+//! Tests the program as a process, with standard streams that are closed, full or a terminal. The tests of
+//! `highlight_run` cover the markup and the forms of arguments.
 #![cfg(target_os = "linux")]
 
 #[path = "../../lexdump/tests/processes/mod.rs"]
@@ -20,13 +20,13 @@ const ROWS: [Row; 34] = [
     ("$P --version <&-", concat!("highlight ", env!("CARGO_PKG_VERSION"), "\n"), "", 0),
     ("$P -h <&- | head -n 1", "Usage: highlight [OPTIONS] [FILE]..\n", "", 0),
     ("head -c 131073 /dev/zero | tr '\\0' x | $P | wc -c", "131073\n", "", 0),
-    // whether the output is a terminal decides
+    // Colours are the default only if the output is a terminal.
     (r#"printf 'fn a' > t; TERM=xterm script -qec "$P < t" /dev/null < /dev/null"#, "\x1b[35mfn\x1b[0m a", "", 0),
     (r#"TERM=xterm NO_COLOR= script -qec "$P < t" /dev/null < /dev/null"#, "\x1b[35mfn\x1b[0m a", "", 0),
     (r#"TERM=xterm NO_COLOR=1 script -qec "$P < t" /dev/null < /dev/null"#, "fn a", "", 0),
     (r#"TERM=dumb script -qec "$P < t" /dev/null < /dev/null"#, "fn a", "", 0),
     (r#"TERM=xterm script -qec "$P < t > o" /dev/null < /dev/null; cat o"#, "fn a", "", 0),
-    // files, each of which is a document
+    // Each file is lexed as a document.
     (r"printf '\357\273\277#!x\r\n---\r\n---\r\nfn\r\n' > u; $P u t <&-", "\u{feff}#!x\r\n---\r\n---\r\nfn\r\nfn a", "", 0),
     ("printf '##a' > ./--raw; $P --edition=2018 -- --raw <&-", "##a", "", 0),
     ("printf b | $P t - t", "fn abfn a", "", 0),
@@ -44,7 +44,7 @@ const ROWS: [Row; 34] = [
     ("printf a | $P > /dev/full", "", "write failed", 7),
     ("$P -x 2>&-", "", "", 2),
     ("(ulimit -v 24000; head -c 40000000 /dev/zero | $P)", "", "no memory", 6),
-    // the reader of the pipe has ended by then
+    // The reader of the pipe has ended before the program starts.
     ("mkfifo f; : < f & exec 3> f; wait; rm f; printf a | $P >&3", "", "", 0),
 ];
 

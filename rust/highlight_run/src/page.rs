@@ -5,7 +5,7 @@ use rattle_std::fmt;
 use rustc_lexer::generated::Edition;
 use rustc_lexer_highlight::{Format, write_highlighted};
 
-/// The page before the text. A browser drops a newline right after `<pre>`, so there is one.
+/// The page before the text. It ends with a newline, since browsers drop a newline right after `<pre>`.
 const HEAD: &str = "<!DOCTYPE html>
 <html lang=\"en\">
 <head>
@@ -48,7 +48,7 @@ const FOOT: &str = "</pre>
 </html>
 ";
 
-/// Writes a whole highlighted text, inside a page if the format is HTML.
+/// Writes a text with its tokens highlighted, as a whole page if the format is HTML.
 pub fn write_text<W: fmt::Write>(
     format: Format,
     edition: Edition,
@@ -60,7 +60,7 @@ pub fn write_text<W: fmt::Write>(
     output.write_str(foot(format))
 }
 
-/// Returns what is written before the text.
+/// Returns the page before the text, or nothing if the format is not HTML.
 fn head(format: Format) -> &'static str {
     match format {
         Format::Html => HEAD,
@@ -68,7 +68,7 @@ fn head(format: Format) -> &'static str {
     }
 }
 
-/// Returns what is written after the text.
+/// Returns the page after the text, or nothing if the format is not HTML.
 fn foot(format: Format) -> &'static str {
     match format {
         Format::Html => FOOT,

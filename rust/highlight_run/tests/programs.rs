@@ -1,4 +1,4 @@
-//! The arguments of `highlight`, its choice of colours, its output and its messages, also with streams that fail.
+//! Tests the arguments of `highlight`, its choice of colours, its output and its messages, also with failing streams.
 
 #[path = "../../program_io/tests/failing/mod.rs"]
 mod failing;
@@ -14,8 +14,7 @@ use rattle_std::prelude::String;
 use rustc_lexer::Edition::{self, E2015, E2018, E2021, E2024};
 use rustc_lexer_highlight::Format::{self, Colours, Html, NoColours, Raw};
 
-/// Arguments with bars between them, whether the output can show colours, and the format and the edition that they
-/// select.
+/// Arguments separated by bars, whether colours are the default, and the expected format and edition.
 const SHOWN: [(&str, bool, Format, Edition); 38] = [
     ("", true, Colours, E2024),
     ("", false, NoColours, E2024),
@@ -45,7 +44,7 @@ const SHOWN: [(&str, bool, Format, Edition); 38] = [
     ("--edition=2015", true, Colours, E2015),
     ("--edition=2018|--color=never", true, NoColours, E2018),
     ("--html|--edition=2021", false, Html, E2021),
-    // Files are not options, and nothing after `--` is one.
+    // Files are skipped, and all arguments after `--` are files.
     ("main.rs", true, Colours, E2024),
     ("a|b|c", false, NoColours, E2024),
     ("", true, Colours, E2024),
@@ -58,7 +57,7 @@ const SHOWN: [(&str, bool, Format, Edition); 38] = [
     ("--|--", true, Colours, E2024),
 ];
 
-/// Arguments that are rejected, and the message. `REPEATED` follows one that ends in a quote.
+/// Rejected arguments, and their messages. If a message is only an option in quotes, `REPEATED` follows it.
 const REJECTED: [(&str, &str); 33] = [
     ("--html|--html", "'--html'"),
     ("--raw|--html", "'--html'"),
@@ -128,7 +127,7 @@ const REJECTED: [(&str, &str); 33] = [
     ("--html|--|--raw|--raw", "--html takes at most one file"),
 ];
 
-/// The end of the message for an option that is given twice.
+/// The end of the message for an option that repeats or contradicts an earlier one.
 const REPEATED: &str = " repeats or contradicts an earlier option";
 
 #[test]
@@ -166,7 +165,7 @@ type Process = (
     bool,
 );
 
-/// Runs the program on an input. Returns its status, its output and its errors.
+/// Runs the program with this standard input. Returns its status, its output and its errors.
 fn run_program(process: Process, input: &[u8]) -> (u8, Vec<u8>, Vec<u8>) {
     let (args, no_color, term, is_terminal) = process;
     let start = Start {
@@ -181,7 +180,7 @@ fn run_program(process: Process, input: &[u8]) -> (u8, Vec<u8>, Vec<u8>) {
     (status, output.into_inner().bytes, errors.into_inner().bytes)
 }
 
-/// Files by name. One fails at its second read.
+/// Opens a file of the tests. The file `broken` fails at its second read.
 fn open_file(name: &str) -> IoResult<Reader<'static>> {
     let script = match name {
         "broken" => BYTES.but_at(1, Turn::Fails(ErrorKind::Other)),
@@ -200,7 +199,7 @@ fn open_file(name: &str) -> IoResult<Reader<'static>> {
     Ok(script.reader(bytes).into_inner())
 }
 
-/// Arguments after the program's name, an input, and the status, the output and the errors.
+/// Arguments, standard input, and the expected status, output and errors.
 #[rustfmt::skip]
 const FILES: [(&str, &[u8], u8, &str, &str); 17] = [
     ("a", b"\xff", 0, "fn a", ""),
@@ -225,8 +224,8 @@ const FILES: [(&str, &[u8], u8, &str, &str); 17] = [
         "highlight: invalid value '1999' for --edition (2015, 2018, 2021 or 2024)\n"),
 ];
 
-/// Each file is a document of its own. If one fails, the others are still written, and the status is that of the first
-/// that failed.
+/// Each file is a document of its own. If a file fails, the next ones are still written, and the first failure
+/// determines the status.
 #[test]
 fn files() {
     for (line, input, status, output, message) in FILES {
@@ -299,7 +298,7 @@ fn a_failed_input_is_not_read_again() {
     assert_eq!(errors.into_inner().bytes, [&line[..], line].concat());
 }
 
-/// Whether `fn` is written in colours.
+/// Processes, and whether they write `fn` in colours.
 #[rustfmt::skip]
 const COLOURED: [(Process, bool); 14] = [
     ((Ok("highlight"), Err(NotPresent), Ok("xterm"), true), true),
@@ -327,7 +326,7 @@ fn colours() {
     }
 }
 
-/// `--help` prints the usage and `--version` the version of the package. Neither reads the input.
+/// `--help` prints the usage, and `--version` prints the version of the package. Neither reads the input.
 #[test]
 fn help_and_version() {
     for word in ["highlight|--help", "highlight|-h"] {
@@ -346,7 +345,7 @@ fn help_and_version() {
     }
 }
 
-/// A run writes the text in a format and an edition, as HTML inside a whole page.
+/// `run` writes the text in the given format and edition. In HTML, it writes a whole page.
 #[test]
 fn runs() {
     let written = |format, edition| {
@@ -365,7 +364,7 @@ fn runs() {
     assert!(page.starts_with("<!DOCTYPE html>\n") && page.ends_with(end));
 }
 
-/// A process, its input, its status and its message.
+/// Processes, standard input, and the expected status and message.
 #[rustfmt::skip]
 const STOPPED: [(Process, &[u8], u8, &str); 8] = [
     ((Ok("highlight"), Err(NotPresent), Err(NotPresent), true), b"\xff", 3, "input is not UTF-8"),
@@ -378,7 +377,7 @@ const STOPPED: [(Process, &[u8], u8, &str); 8] = [
     ((Ok("highlight|"), Err(NotPresent), Err(NotPresent), true), b"fn", 7, "cannot open : not found"),
 ];
 
-/// A program that stops prints only its message.
+/// A run that fails at once prints only its message.
 #[test]
 fn errors_and_statuses() {
     for (process, input, status, message) in STOPPED {
@@ -388,7 +387,7 @@ fn errors_and_statuses() {
     }
 }
 
-/// Each call of a stream fails in turn. A closed output is not a failure.
+/// Each call of a stream fails in turn. A closed output is not an error.
 #[test]
 fn failing_streams() {
     Program {

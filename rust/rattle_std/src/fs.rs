@@ -3,14 +3,14 @@
 use crate::io::{Read, Result};
 use crate::rt::HostRuntime;
 
-/// As in Rust.
+/// The type of Rust's `std`.
 pub use std::fs::File;
 
 /// Opens a file for reading.
 ///
 /// # Errors
 ///
-/// Returns the error of the system, for example `ErrorKind::NotFound` if there is no such file.
+/// Returns the error of the operating system, for example `ErrorKind::NotFound` if the file does not exist.
 pub fn open(_: &HostRuntime, path: &str) -> Result<File> {
     File::open(path)
 }
