@@ -90,7 +90,7 @@ function show() {
   draw(at('wrong'), said, (sentence) => element('li', {}, sentence));
   at('place').textContent = `Caret at ${seen.place}. ` + (here ? `${here.kind} at ${here.place}, ${here.bytes} `
     + `byte${here.bytes === 1 ? '' : 's'}`
-    + `${here.fields && ', ' + here.fields}${here.value && '; stands for ' + here.value}` : '');
+    + `${here.fields && ', ' + here.fields}${here.value && '; value: ' + here.value}` : '');
   return seen;
 }
 
@@ -183,7 +183,7 @@ fn greet<'a>(name: &'a str) -> String {
     let count = 0b1010_u8 + 0x; // no digits
     let word = "caf\\u{e9}\\n, \\q";
     println!("{name}: {}", r#"raw "text""#);
-    k#async; 'r#where; c"bytes\\xff"; two##marks
+    k#async; 'r#where; c"bytes\\xff"; two##words
 }
 `;
 

@@ -84,7 +84,7 @@ same(delays.map(([, delay]) => delay), [300]);
 same(part('kept').textContent,
   'The last edit kept 2 tokens in front, lexed 1, and kept 3 at the back: 6 tokens, 100000 bytes, 7 lines.');
 same(barOf(), ['', 2, 1, 3]);
-same(part('place').textContent, 'Caret at 201:2. Literal at 201:1, 4 bytes, kind=Str; stands for 1 character: "a"');
+same(part('place').textContent, 'Caret at 201:2. Literal at 201:1, 4 bytes, kind=Str; value: 1 character: "a"');
 same(part('wrong').textContent, 'line 201: no');
 same(textsOf('#tokens tbody'), [['200:5', '889', '1', '\\n', 'Whitespace ', ''],
   ['201:1', '890', '4', 'x200', 'Literal kind=Str', '1 character: "a"']]);
