@@ -2,6 +2,7 @@
 #![tactic(auto)]
 
 use highlight_run::program::{Start, program};
+use highlight_run::{Input, Streams};
 use program_io::Watched;
 use std::io::IsTerminal;
 use std::process::ExitCode;
@@ -14,17 +15,14 @@ fn main(rt: HostRuntime) -> ExitCode {
         term: env::var(&rt, "TERM"),
         is_terminal: rt.stdout().is_terminal(),
     };
-    let mut input = Watched::new(rt.stdin());
-    let mut output = Watched::new(rt.stdout());
-    let mut errors = Watched::new(rt.stderr());
-    let open_file = |name: &str| fs::open(&rt, name);
-    let status = program(
-        rt.alloc(),
-        start,
-        &mut input,
-        &open_file,
-        &mut output,
-        &mut errors,
-    );
+    let open_input = |name: &str| match name {
+        "-" => Ok(Input::Standard(rt.stdin())),
+        _ => fs::open(&rt, name).map(Input::File),
+    };
+    let mut streams = Streams {
+        output: Watched::new(rt.stdout()),
+        errors: Watched::new(rt.stderr()),
+    };
+    let status = program(rt.alloc(), start, &open_input, &mut streams);
     ExitCode::from(status)
 }

@@ -1,58 +1,38 @@
--- Lemmas about the message for a file that could not be opened, and about showing several inputs.
-use Rattle.std.proofs.Common.{◌≡◌, ◌||◌, ℕ, false, true, List, [], ◌∷◌, Option, Result, Ok, Err, arith, codes, length, refl}
-use Rattle.std.proofs.Common.{subst, sym, take_all}
-use Rattle.std.proofs.lemmas.Grind.{common_steps}
-use Rattle.std.specs.{Prelude.{IfOk, OnErr, OnOk, is_err}, Io.KnownBytes.{Appends}, List.{FoldsTo}}
+-- Lemmas about showing several inputs, one after another.
+use Rattle.std.proofs.Common.{◌≡◌, ◌≤◌, ◌<◌, ◌+◌, ℕ, false, true, List, [], ◌∷◌, Option, Result, add-one, arith, drop, get_or, length}
+use Rattle.std.proofs.Common.{map, refl, subst, sym}
+use Rattle.std.proofs.{lemmas.Grind.{common_steps}, lemmas.List.{drop_all}, Math.Seq.{drop-cons}}
+use Rattle.std.specs.List.{FoldsTo}
 use Rattle.std.specs.declared.io.Error.{Error}
-use Rattle.program_io.specs.{Fault.{IsReported}, Known.{AppendsFront}, Watch.{has_failed, Watch}}
-use Rattle.program_io.specs.declared.fault.Fault.{Fault}
-use Rattle.program_io.specs.declared.fault.Fault.TheVariants.{Read}
+use Rattle.program_io.specs.Watch.{has_failed}
 use Rattle.highlight_run.specs.Inputs.{State, ShowsInput, ShowsNext, first_status}
-use Rattle.highlight_run.specs.Words.{is_input, or_input}
 use Rattle.highlight_run.specs.declared.job.View.{View}
 
-appended-all : (old new : Option (List ℕ)) (text : List ℕ) → Appends old new text → AppendsFront old new text
-appended-all old new text a = (length text, grind (arith, common_steps), grind (arith, common_steps, take_all))
+module _ {P A B : Type 0} (R : P → B → P → Type 0) (f : A → B) (xs : List A) (i : ℕ) where
+  -- A step with the next item, and then the steps of the later ones, are the steps of all from it on.
+  pub fold_next : (d : A) (s j last : P) → i < length xs → R s (f (get_or xs i d)) j
+      → FoldsTo R j (map f (drop (i + 1) xs)) last → FoldsTo R s (map f (drop i xs)) last
+  fold_next d s j last lt step later =
+      subst (λ (l : List A). FoldsTo R s (map f l) last) (sym (drop-cons xs i d lt))
+      (j, step, subst (λ (k : ℕ). FoldsTo R j (map f (drop k xs)) last) (add-one i) later)
 
-pub unopened_told : {E : Type 0} (before errors : Watch E) (line : List ℕ) (old new : Option (List ℕ))
-    (result : Result (Unit {0}) Fault) → has_failed errors ≡ (has_failed before || is_err result)
-    → IfOk result (λ _. errors.flushed ≡ true) → OnOk result (Appends old new line)
-    → OnErr result (AppendsFront old new line)
-    → IsReported (λ _. line) (Err Read) false 7 (has_failed errors ≡ false) errors.flushed old new
-unopened_told before errors line old new (Ok done) failed flushed ok err = record {
-  status = refl;
-  line = λ sound. ok;
-  front = appended-all old new line ok;
-  heard = λ sound. flushed;
-}
-unopened_told before errors line old new (Err fault) failed flushed ok err = record {
-  status = refl;
-  line = λ sound. absurd (grind (arith, common_steps));
-  front = err;
-  heard = λ sound. absurd (grind (arith, common_steps));
-}
+  pub fold_end : (s : P) → length xs ≤ i → FoldsTo R s (map f (drop i xs)) s
+  fold_end s le = subst (λ (l : List A). FoldsTo R s (map f l) s) (sym (drop_all i xs le)) refl
 
--- ---- several inputs
+-- If each item is skipped, so is the next one.
+pub fold_skip : {P A B : Type 0} (R : P → B → P → Type 0) (f : A → B) (xs : List A) (i : ℕ) (s last : P)
+    → i < length xs → ((b : B) → R s b s) → FoldsTo R s (map f (drop (i + 1) xs)) last
+    → FoldsTo R s (map f (drop i xs)) last
+fold_skip R f [] i s last lt skip later = absurd (grind (arith, common_steps))
+fold_skip R f (x ∷ xs) i s last lt skip later = fold_next R f (x ∷ xs) i x s s last lt (skip _) later
 
-module _ {P A : Type 0} (R : P → A → P → Type 0) where
-  pub fold_step : (s j last : P) (x : A) (xs rest : List A) → xs ≡ x ∷ rest → R s x j → FoldsTo R j rest last
-      → FoldsTo R s xs last
-  fold_step s j last x xs rest e step later = subst (λ (l : List A). FoldsTo R s l last) (sym e) (j, step, later)
+module _ {S W E : Type 0} (unread : S → Option (List ℕ)) (written : W → Option (List ℕ)) (said : E → Option (List ℕ))
+    (Opens : List ℕ → Result S Error → Type 0) (view : View) (s : State W E) where
+  pub next_shown : (name : List ℕ) (s' : State W E) (exit : ℕ) → has_failed s.streams.output ≡ false
+      → ShowsInput unread written said Opens view s.streams name s'.streams exit
+      → s'.status ≡ first_status s.status exit → ShowsNext unread written said Opens view s name s'
+  next_shown name s' exit sound shows status = rw (sound) (exit, shows, status)
 
-  pub fold_end : (s : P) (xs : List A) → xs ≡ [] → FoldsTo R s xs s
-  fold_end s xs e = subst (λ (l : List A). FoldsTo R s l s) (sym e) refl
-
-pub fold_input : {P : Type 0} (R : P → List ℕ → P → Type 0) (s j : P) (files : List (List ℕ)) → files ≡ []
-    → R s (codes "-") j → FoldsTo R s (or_input files) j
-fold_input R s j files e step = subst (λ (l : List (List ℕ)). FoldsTo R s (or_input l) j) (sym e) (j, step, refl)
-
-module _ {R S W E : Type 0} (unread : R → Option (List ℕ)) (unread_file : S → Option (List ℕ))
-    (written : W → Option (List ℕ)) (said : E → Option (List ℕ)) (Opens : List ℕ → Result S Error → Type 0)
-    (view : View) (s : State R W E) (name : List ℕ) where
-  pub next_shown : (s' : State R W E) (exit : ℕ) → has_failed s.streams.output ≡ false
-      → ShowsInput unread unread_file written said Opens view (is_input name) s.streams name s'.streams exit
-      → s'.status ≡ first_status s.status exit → ShowsNext unread unread_file written said Opens view s name s'
-  next_shown s' exit sound shows status = rw (sound) (exit, shows, status)
-
-  pub next_skipped : has_failed s.streams.output ≡ true → ShowsNext unread unread_file written said Opens view s name s
-  next_skipped failed = rw (failed) refl
+  pub next_skipped : has_failed s.streams.output ≡ true → (name : List ℕ)
+      → ShowsNext unread written said Opens view s name s
+  next_skipped failed name = rw (failed) refl

@@ -1,3 +1,2 @@
 pub mod InputLemmas
-pub mod JobLemmas
-pub mod WordLemmas
+pub mod StripLemmas

@@ -1,103 +1,82 @@
 -- The output, the messages and the exit status for several inputs.
-use Rattle.std.specs.Prelude.{ℕ, ◌≡◌, ◌==◌, Bool, true, false, if◌then◌else◌, List, [], ◌∷◌, ◌++◌, codes, Option, Result}
-use Rattle.std.specs.Prelude.{Ok, Err}
+use Rattle.std.specs.Prelude.{ℕ, ◌≡◌, ◌==◌, Bool, true, false, if◌then◌else◌, List, [], codes, Option, Result, Ok, Err}
 use Rattle.std.specs.IoError.{error_kind}
 use Rattle.std.specs.declared.io.Error.{Error}
 use Rattle.std.specs.declared.io.ErrorKind.{ErrorKind}
 use Rattle.std.specs.declared.io.ErrorKind.TheVariants.{NotFound, PermissionDenied}
-use Rattle.program_io.specs.Fault.{fault_line, IsReported}
+use Rattle.program_io.specs.Fault.{fault_line, line_start, IsReported}
 use Rattle.program_io.specs.Run.{Leaves, Makes}
 use Rattle.program_io.specs.Watch.{has_failed, is_closed, Watch}
 use Rattle.program_io.specs.declared.fault.Fault.{Fault}
-use Rattle.program_io.specs.declared.fault.Fault.TheVariants.{Read}
+use Rattle.program_io.specs.declared.fault.Fault.TheVariants.{Arguments}
 use Rattle.highlight_run.specs.Page.{printed}
-use Rattle.highlight_run.specs.Words.{is_input}
+use Rattle.highlight_run.specs.declared.inputs.Input.{Input}
+use Rattle.highlight_run.specs.declared.inputs.Input.TheVariants.{Standard, File}
+use Rattle.highlight_run.specs.declared.inputs.Streams.{Streams}
 use Rattle.highlight_run.specs.declared.job.View.{View}
 
--- A line about an input starts with the program's name and, if the input is a file, the file's name. With `false`,
--- which means that an allocation failed, the file's name is left out.
-abbrev pub line_start : Bool → List ℕ → List ℕ
-line_start false name = codes "highlight: "
-line_start true name =
-    if is_input name then codes "highlight: " else codes "highlight: " ++ (name ++ codes ": ")
+-- The known bytes of standard input or of a file, still unread.
+abbrev pub remaining_of : {R S : Type 0} → (R → Option (List ℕ)) → (S → Option (List ℕ)) → Input R S
+    → Option (List ℕ)
+remaining_of input file (Standard reader) = input reader
+remaining_of input file (File reader) = file reader
 
--- This text ends the line about a file that could not be opened. It contains the reason if the file was not found or
--- permission was denied.
-abbrev pub reason : ErrorKind → List ℕ
-reason NotFound = codes ": not found\n"
-reason PermissionDenied = codes ": permission denied\n"
-reason kind = codes "\n"
+-- The reason why an input could not be opened.
+abbrev pub reason_of : ErrorKind → List ℕ
+reason_of NotFound = codes "not found"
+reason_of PermissionDenied = codes "permission denied"
+reason_of kind = codes "cannot be opened"
 
--- This line reports a file that could not be opened.
-abbrev pub unopened : List ℕ → ErrorKind → List ℕ
-unopened name kind = codes "highlight: cannot open " ++ (name ++ reason kind)
+abbrev pub reason : {S : Type 0} → Result S Error → List ℕ
+reason (Ok input) = []
+reason (Err error) = reason_of (error_kind error)
 
 -- The exit status of several inputs is the first one other than 0.
 abbrev pub first_status : ℕ → ℕ → ℕ
 first_status before exit = if before == 0 then exit else before
 
--- The program reads standard input, and writes to the output and the errors.
-pub record Streams (R W E : Type 0) : Type 0 where
-  pub input : Watch R
-  pub output : Watch W
-  pub errors : Watch E
-
 -- The state after some inputs consists of the streams and the exit status so far.
-pub record State (R W E : Type 0) : Type 0 where
-  pub streams : Streams R W E
+pub record State (W E : Type 0) : Type 0 where
+  pub streams : Streams W E
   pub status : ℕ
 
--- Holds if an input was shown and the outcome was reported. The whole output for its text was written, or a prefix of
--- it if the output failed; after any other fault, nothing was written. The known bytes of the output grew from `old` to
--- `new`, and the known bytes of the errors from `said` to `told`.
-abbrev pub Shown : {R W E : Type 0} → View → List ℕ → Option (List ℕ) → Watch R → Watch W
-    → Option (List ℕ) → Option (List ℕ) → Watch E → Option (List ℕ) → Option (List ℕ) → ℕ → Type 0
-Shown view name known input output old new errors said told exit =
-    (outcome : Result (Unit {0}) Fault) × (named : Bool)
-    × Makes (printed view.format view.edition) known old new outcome
-    × Leaves input output old new outcome
-    × IsReported (fault_line (line_start named name) []) outcome (is_closed output) exit
-    (has_failed errors ≡ false) errors.flushed said told
+-- Holds for the outcome of showing an input: the whole output for its text was written, or a prefix of it if the output
+-- failed; after any other fault, nothing was written. With `Err`, the input could not be opened. The first two
+-- parameters return the known bytes of an input (unread) and of the output (written).
+abbrev pub IsShown : {S W : Type 0} → (S → Option (List ℕ)) → (W → Option (List ℕ)) → View
+    → Result S Error → Watch W → Watch W → Result (Unit {0}) Fault → Type 0
+IsShown {S} unread written view (Ok start) output output' outcome =
+    (input : Watch S) × Leaves input output' (written output.inner) (written output'.inner) outcome
+    × Makes (printed view.format view.edition) (unread start) (written output.inner)
+    (written output'.inner) outcome
+IsShown unread written view (Err error) output output' outcome =
+    (outcome ≡ Err Arguments) × (output' ≡ output)
 
--- Holds if it was reported that a file could not be opened, with the exit status of a failed read.
-abbrev pub Unopened : {E : Type 0} → List ℕ → ErrorKind → Watch E → Option (List ℕ)
-    → Option (List ℕ) → ℕ → Type 0
-Unopened name kind errors said told exit =
-    IsReported (λ _. unopened name kind) (Err Read) false exit (has_failed errors ≡ false)
-    errors.flushed said told
+-- Holds if an outcome was reported, with a message about the subject. `said` returns the known bytes of the errors. If
+-- nobody reads the output any more, a failed write is not reported.
+abbrev pub Tells : {W E : Type 0} → (E → Option (List ℕ)) → List ℕ → List ℕ → Result (Unit {0}) Fault → Streams W E
+    → Streams W E → ℕ → Type 0
+Tells said subject reason outcome s s' exit =
+    IsReported (fault_line (line_start (codes "highlight: ") subject) reason) outcome (is_closed s'.output) exit
+    (has_failed s'.errors ≡ false) s'.errors.flushed (said s.errors.inner) (said s'.errors.inner)
 
--- The first four parameters return the known bytes of standard input and of a file (unread), and of the output and the
--- errors (written). `Opens` holds for a name and a result of opening it.
-module _ {R S W E : Type 0} (unread : R → Option (List ℕ)) (unread_file : S → Option (List ℕ))
-    (written : W → Option (List ℕ)) (said : E → Option (List ℕ))
-    (Opens : List ℕ → Result S Error → Type 0) (view : View) where
-  -- Holds if a file was shown, or it was reported that it could not be opened.
-  abbrev pub ShowsFile : Streams R W E → List ℕ → Result S Error → Streams R W E → ℕ → Type 0
-  ShowsFile s name (Ok file) s' exit =
-      (input : Watch S) × Shown view name (unread_file file) input s'.output
-      (written s.output.inner) (written s'.output.inner) s'.errors (said s.errors.inner)
-      (said s'.errors.inner) exit
-  ShowsFile s name (Err error) s' exit =
-      (s'.output ≡ s.output) × Unopened name (error_kind error) s'.errors (said s.errors.inner)
-      (said s'.errors.inner) exit
+-- The first three parameters return the known bytes of an input (unread), and of the output and the errors (written).
+-- `Opens` holds for a name and a result of opening the input with this name.
+module _ {S W E : Type 0} (unread : S → Option (List ℕ)) (written : W → Option (List ℕ))
+    (said : E → Option (List ℕ)) (Opens : List ℕ → Result S Error → Type 0) (view : View) where
+  -- Holds if an input was opened and shown, and the outcome was reported. The message names the input.
+  abbrev pub ShowsInput : Streams W E → List ℕ → Streams W E → ℕ → Type 0
+  ShowsInput s name s' exit =
+      (opened : Result S Error) × (outcome : Result (Unit {0}) Fault) × Opens name opened
+      × IsShown unread written view opened s.output s'.output outcome × Tells said name (reason opened) outcome s s' exit
 
-  -- Holds if an input was handled. With `true`, standard input was shown. With `false`, the file with this name was
-  -- opened and shown, or it was reported that it could not be opened.
-  abbrev pub ShowsInput : Bool → Streams R W E → List ℕ → Streams R W E → ℕ → Type 0
-  ShowsInput true s name s' exit =
-      Shown view name (unread s.input.inner) s'.input s'.output (written s.output.inner)
-      (written s'.output.inner) s'.errors (said s.errors.inner) (said s'.errors.inner) exit
-  ShowsInput false s name s' exit =
-      (s'.input ≡ s.input) × (answer : Result S Error) × Opens name answer
-      × ShowsFile s name answer s' exit
-
-  -- Holds if the next input was handled, or if the output had failed (`true`) and nothing changed.
-  abbrev pub ShowsUnless : Bool → State R W E → List ℕ → State R W E → Type 0
+  -- Holds if the next input was shown, or if the output had failed (`true`) and nothing changed.
+  abbrev pub ShowsUnless : Bool → State W E → List ℕ → State W E → Type 0
   ShowsUnless true s name s' = s' ≡ s
   ShowsUnless false s name s' =
-      (exit : ℕ) × ShowsInput (is_input name) s.streams name s'.streams exit
+      (exit : ℕ) × ShowsInput s.streams name s'.streams exit
       × (s'.status ≡ first_status s.status exit)
 
-  -- Holds if the next input was handled, unless the output had failed before.
-  abbrev pub ShowsNext : State R W E → List ℕ → State R W E → Type 0
+  -- Holds if the next input was shown, unless the output had failed before.
+  abbrev pub ShowsNext : State W E → List ℕ → State W E → Type 0
   ShowsNext s name s' = ShowsUnless (has_failed s.streams.output) s name s'

@@ -3,4 +3,3 @@ pub mod Job
 pub mod Page
 pub mod Program
 pub mod Texts
-pub mod Words

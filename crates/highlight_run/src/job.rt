@@ -1,18 +1,19 @@
 //! Reads the arguments of the program.
-ghost use Rattle.std.specs.Prelude.{◌≡◌, ◌<◌, ◌++◌, None, Some, length, map, string_bytes, IfErr, IfOk, IfSome, Ok, Err};
-ghost use Rattle.highlight_run.specs.Job.{format_of, in_edition, in_form, is_crowded, is_help, is_version, job_alone, job_of, line_of, options_of, read_colours, read_edition, repeated, when_of, with_colours, with_value, with_word};
-ghost use Rattle.highlight_run.specs.Words.{files_of};
-ghost use Rattle.highlight_run.specs.declared.words.Next.TheVariants.{Any};
+ghost use Rattle.std.specs.Prelude.{◌≡◌, [], map, string_bytes, IfErr, IfOk, Ok};
+ghost use Rattle.std.specs.Option.{option_map};
+ghost use Rattle.program_io.specs.declared.fault.Fault.TheVariants.{Arguments, Memory};
+ghost use Rattle.highlight_run.specs.Job.{format_of, is_file, is_help, is_version, job_alone, job_of, options_of, shown, strip, view_of, with_color, with_edition, with_format, with_option, with_word, IsRejected};
 
-use crate::words::{Files, Next, names_file, next_file, strip, takes_value};
+use program_io::Fault;
 use rustc_lexer::Edition;
 use rustc_lexer_highlight::Format;
+use std::alloc::{AllocError, AllocFailed, Global};
 use std::str::FromStr;
 
 /// A job that the arguments ask for.
 #[derive(Clone, Copy, Debug, PartialEq, Eq)]
 pub enum Job {
-    /// Show the files among the arguments, or standard input if there are none.
+    /// Show the inputs.
     Show(View),
     /// Print the help.
     Help,
@@ -29,15 +30,15 @@ pub struct View {
     pub edition: Edition,
 }
 
-/// A rejected argument, and the message about it in three parts.
+/// The reason why the arguments were rejected, or why they could not be read.
 #[derive(Clone, Copy, Debug, PartialEq, Eq)]
 pub struct Rejection<'a> {
-    /// The part of the message before the argument.
-    pub before: &'static str,
-    /// The argument.
-    pub word: &'a str,
-    /// The part of the message after the argument.
-    pub after: &'static str,
+    /// `Fault::Arguments`, or `Fault::Memory` if an allocation failed.
+    pub fault: Fault,
+    /// The rejected argument or value, or the option that is incomplete; "" if the message is about no single one.
+    pub subject: &'a str,
+    /// What is wrong with it.
+    pub reason: &'static str,
 }
 
 /// When to write colours.
@@ -49,49 +50,64 @@ enum When {
     Never,
 }
 
-/// The options. An option is `None` if it was not given.
+/// How to read the next argument.
+#[derive(Clone, Copy)]
+enum Next {
+    /// As an option, a file, or `--`. All arguments after `--` are files.
+    Any,
+    /// As the value of `--edition`.
+    Year,
+    /// As the value of `--color`.
+    When,
+    /// As a file.
+    File,
+}
+
+/// The options of some arguments, and how to read the argument after them. An option is `None` if it was not given.
 #[derive(Clone, Copy)]
 struct Options {
-    form: Option<Format>,
+    format: Option<Format>,
     edition: Option<Edition>,
     color: Option<When>,
+    next: Next,
 }
 
 /// The options before any argument is read.
 const NO_OPTIONS: Options = Options {
-    form: None,
+    format: None,
     edition: None,
     color: None,
+    next: Next::Any,
 };
 
-/// Returns the job that the arguments after the program's name ask for.
+/// Returns the job that the arguments after the program's name ask for, and the inputs to show: the files among the
+/// arguments, in order, or `-`, which means standard input, if there are none.
 ///
 /// `colours` is whether to write colours by default, and with `--color auto`. The default edition is the newest one.
 ///
 /// # Errors
 ///
-/// Returns the rejected argument, with a message, in these cases:
-///
-/// - An option is unknown, has an invalid value or no value, or repeats or contradicts an earlier option.
-/// - `--help` or `--version` is combined with other arguments.
-/// - `--html` has more than one file.
-pub fn read_job(words: &[String], colours: bool) -> Result<Job, Rejection<'_>>
-    ensures taken { IfOk result (λ job. job_of (map string_bytes words.now) colours ≡ Ok job) }
-    ensures rejected { IfErr result
-        (λ why. job_of (map string_bytes words.now) colours ≡ Err (line_of why)) }
+/// - Returns `Fault::Arguments` if an option is unknown, has an invalid value or no value, or repeats or contradicts an
+///   earlier option; if `--help` or `--version` is combined with other arguments; and if `--html` has several files.
+/// - Returns `Fault::Memory` if an allocation failed.
+pub fn read_job<'a>(
+    alloc: Global,
+    words: &'a [String],
+    colours: bool,
+) -> Result<(Job, Vec<&'a str>), Rejection<'a>>
+    ensures taken { IfOk result
+        (λ p. job_of (map string_bytes words.now) colours ≡ Ok (p.0, map shown p.1.items)) }
+    ensures rejected { IfErr result (IsRejected (job_of (map string_bytes words.now) colours)) }
 {
     if let Some(job) = read_alone(words) {
-        return Ok(job);
+        return Ok((job, Vec::new(alloc)));
     }
-    let options = read_options(words)?;
-    let format = format_of(options, colours);
-    if is_crowded(format, words) {
-        return Err(reject("", "--html", " takes at most one file"));
+    let (options, mut inputs) = read_words(alloc, words)?;
+    let view = read_view(options, inputs.len(), colours)?;
+    if inputs.is_empty() {
+        inputs.push("-")?;
     }
-    Ok(Job::Show(View {
-        format,
-        edition: options.edition.unwrap_or(Edition::NEWEST),
-    }))
+    Ok((Job::Show(view), inputs))
 }
 
 /// Returns the job if the only argument asks for the help or the version.
@@ -125,197 +141,174 @@ fn is_version(word: &str) -> bool
     word == "--version" || word == "-V"
 }
 
-/// Returns whether the format is HTML and there is more than one file among the arguments.
-fn is_crowded(format: Format, words: &[String]) -> bool
-    ensures { result ≡ is_crowded format (files_of Any (map string_bytes words.now)) }
-{
-    let files = Files {
-        next: Next::Any,
-        words,
-    };
-    match (format, next_file(files)) {
-        (Format::Html, Some((_, files))) => next_file(files).is_some(),
-        _ => false,
-    }
-}
-
-/// Reads the options, which can come in any order, each at most once.
-#[tactic(auto, using(std::proofs::lemmas::Grind::common_steps))]
-fn read_options(words: &[String]) -> Result<Options, Rejection<'_>>
-    ensures taken { IfOk result
-        (λ all. options_of NO_OPTIONS None (map string_bytes words.now) ≡ Ok all) }
+/// Reads all arguments. Returns the options and the files.
+fn read_words<'a>(
+    alloc: Global,
+    words: &'a [String],
+) -> Result<(Options, Vec<&'a str>), Rejection<'a>>
+    ensures taken { IfOk result (λ p.
+        options_of NO_OPTIONS [] (map string_bytes words.now) ≡ Ok (p.0, map shown p.1.items)) }
     ensures rejected { IfErr result
-        (λ why. options_of NO_OPTIONS None (map string_bytes words.now) ≡ Err (line_of why)) }
+        (IsRejected (options_of NO_OPTIONS [] (map string_bytes words.now))) }
 {
     let mut options = NO_OPTIONS;
-    let mut words = words;
-    while let Some((more, rest)) = read_first(options, words)? {
-        options = more;
-        words = rest;
+    let mut files = Vec::new(alloc);
+    for word in words {
+        let word = word.as_str();
+        if is_file(options.next, word) {
+            files.push(word)?;
+        } else {
+            options = with_word(options, word)?;
+        }
     }
-    Ok(options)
+    Ok((options, files))
 }
 
-/// Reads the first argument, and the next one if that is its value. If it is an option, adds it. Returns the options
-/// and the remaining arguments, or `None` if no option can follow.
-#[tactic(auto, using(std::proofs::lemmas::Grind::common_steps))]
-fn read_first<'a>(
-    options: Options,
-    words: &'a [String],
-) -> Result<Option<(Options, &'a [String])>, Rejection<'a>>
-    ensures more { IfOk result (λ read. IfSome read (λ p.
-        (options_of options None (map string_bytes words.now)
-        ≡ options_of p.0 None (map string_bytes p.1.now))
-        × (length p.1.now < length words.now))) }
-    ensures last { IfOk result (λ read. read ≡ None
-        → options_of options None (map string_bytes words.now) ≡ Ok options) }
-    ensures rejected { IfErr result
-        (λ why. options_of options None (map string_bytes words.now) ≡ Err (line_of why)) }
+/// Returns whether an argument that is read as `next` is a file. `-` is one, and means standard input.
+fn is_file(next: Next, word: &str) -> bool
+    ensures { result ≡ is_file next word.now }
 {
-    let [word, rest @ ..] = words else {
-        return Ok(None);
-    };
-    let word = word.as_str();
-    if word == "--" {
-        return Ok(None);
-    }
-    if names_file(word) {
-        return Ok(Some((options, rest)));
-    }
-    if takes_value(word) {
-        return Ok(Some(read_value(options, word, rest)?));
-    }
-    Ok(Some((with_word(options, word)?, rest)))
-}
-
-/// Adds the option `name`. Its value is the first of `words`. Returns the options and the remaining arguments.
-#[tactic(auto, using(std::proofs::lemmas::Grind::common_steps))]
-fn read_value<'a>(
-    options: Options,
-    name: &'a str,
-    words: &'a [String],
-) -> Result<(Options, &'a [String]), Rejection<'a>>
-    ensures taken { IfOk result (λ p. options_of options (Some name.now) (map string_bytes words.now)
-        ≡ options_of p.0 None (map string_bytes p.1.now)) }
-    ensures shorter { IfOk result (λ p. length p.1.now < length words.now) }
-    ensures rejected { IfErr result
-        (λ why. options_of options (Some name.now) (map string_bytes words.now)
-        ≡ Err (line_of why)) }
-{
-    let [value, rest @ ..] = words else {
-        return Err(reject("'", name, "' needs a value"));
-    };
-    Ok((with_value(options, name, value.as_str())?, rest))
-}
-
-/// Returns a rejected argument with its message.
-fn reject<'a>(before: &'static str, word: &'a str, after: &'static str) -> Rejection<'a>
-    ensures { line_of result ≡ before.now ++ (word.now ++ after.now) }
-{
-    Rejection {
-        before,
-        word,
-        after,
+    match next {
+        Next::Any => word == "-" || strip(word, "-").is_none(),
+        Next::Year | Next::When => false,
+        Next::File => true,
     }
 }
 
-/// Rejects an option that repeats or contradicts an earlier one.
-fn repeated(word: &str) -> Rejection<'_>
-    ensures { line_of result ≡ repeated word.now }
-{
-    reject("'", word, "' repeats or contradicts an earlier option")
-}
-
-/// Adds an option that is a single argument.
+/// Adds an argument that is not a file.
 fn with_word(options: Options, word: &str) -> Result<Options, Rejection<'_>>
-    ensures taken { IfOk result (λ all. with_word options word.now ≡ Ok all) }
-    ensures rejected { IfErr result (λ why. with_word options word.now ≡ Err (line_of why)) }
+    ensures taken { IfOk result (λ all. with_word options.next options word.now ≡ Ok all) }
+    ensures rejected { IfErr result (IsRejected (with_word options.next options word.now)) }
 {
-    if word == "--html" {
-        return in_form(options, Format::Html).ok_or(repeated(word));
+    match options.next {
+        Next::Year => with_edition(options, word),
+        Next::When => with_color(options, word),
+        Next::Any | Next::File => with_option(options, word),
     }
-    if word == "--raw" {
-        return in_form(options, Format::Raw).ok_or(repeated(word));
-    }
+}
+
+/// Adds an argument that is an option, or `--`.
+fn with_option(options: Options, word: &str) -> Result<Options, Rejection<'_>>
+    ensures taken { IfOk result (λ all. with_option options word.now ≡ Ok all) }
+    ensures rejected { IfErr result (IsRejected (with_option options word.now)) }
+{
     if let Some(year) = strip(word, "--edition=") {
-        return read_edition(options, year);
+        return with_edition(options, year);
     }
     if let Some(when) = strip(word, "--color=") {
-        return read_colours(options, when);
+        return with_color(options, when);
     }
-    if is_help(word) || is_version(word) {
-        return Err(reject("'", word, "' cannot be combined with other arguments"));
+    match word {
+        "--" => Ok(before(options, Next::File)),
+        "--edition" => Ok(before(options, Next::Year)),
+        "--color" => Ok(before(options, Next::When)),
+        "--html" => with_format(options, word, Format::Html),
+        "--raw" => with_format(options, word, Format::Raw),
+        "--help" | "-h" | "--version" | "-V" => {
+            Err(reject(word, "cannot be combined with other arguments"))
+        }
+        _ => Err(reject(word, "unknown option")),
     }
-    Err(reject("unknown option '", word, "'"))
 }
 
-/// Adds an option with its value.
-fn with_value<'a>(options: Options, name: &str, value: &'a str) -> Result<Options, Rejection<'a>>
-    ensures taken { IfOk result (λ all. with_value options name.now value.now ≡ Ok all) }
-    ensures rejected { IfErr result
-        (λ why. with_value options name.now value.now ≡ Err (line_of why)) }
+/// Returns the options with how to read the next argument.
+fn before(options: Options, next: Next) -> Options
+    ensures { result ≡ record options { next = next } }
 {
-    if name == "--edition" {
-        read_edition(options, value)
-    } else {
-        read_colours(options, value)
+    Options { next, ..options }
+}
+
+/// Adds `--html` or `--raw`.
+fn with_format(options: Options, word: &str, format: Format) -> Result<Options, Rejection<'_>>
+    ensures taken { IfOk result (λ all. with_format options word.now format ≡ Ok all) }
+    ensures rejected { IfErr result (IsRejected (with_format options word.now format)) }
+{
+    if options.format.is_some() {
+        return Err(reject(word, REPEATED));
     }
+    Ok(Options {
+        format: Some(format),
+        ..options
+    })
 }
 
 /// Adds `--edition` with this year.
-fn read_edition(options: Options, year: &str) -> Result<Options, Rejection<'_>>
-    ensures taken { IfOk result (λ all. read_edition options year.now ≡ Ok all) }
-    ensures rejected { IfErr result (λ why. read_edition options year.now ≡ Err (line_of why)) }
+fn with_edition(options: Options, year: &str) -> Result<Options, Rejection<'_>>
+    ensures taken { IfOk result (λ all. with_edition options year.now ≡ Ok all) }
+    ensures rejected { IfErr result (IsRejected (with_edition options year.now)) }
 {
-    let invalid = reject(
-        "invalid value '",
-        year,
-        "' for --edition (2015, 2018, 2021 or 2024)",
-    );
-    let edition = Edition::from_str(year).ok().ok_or(invalid)?;
-    in_edition(options, edition).ok_or(repeated("--edition"))
+    let Ok(edition) = Edition::from_str(year) else {
+        return Err(reject(year, "--edition must be 2015, 2018, 2021 or 2024"));
+    };
+    if options.edition.is_some() {
+        return Err(reject("--edition", REPEATED));
+    }
+    Ok(Options {
+        edition: Some(edition),
+        next: Next::Any,
+        ..options
+    })
 }
 
 /// Adds `--color` with this value.
-fn read_colours(options: Options, word: &str) -> Result<Options, Rejection<'_>>
-    ensures taken { IfOk result (λ all. read_colours options word.now ≡ Ok all) }
-    ensures rejected { IfErr result (λ why. read_colours options word.now ≡ Err (line_of why)) }
+fn with_color(options: Options, word: &str) -> Result<Options, Rejection<'_>>
+    ensures taken { IfOk result (λ all. with_color options word.now ≡ Ok all) }
+    ensures rejected { IfErr result (IsRejected (with_color options word.now)) }
 {
-    let invalid = reject(
-        "invalid value '",
-        word,
-        "' for --color (auto, always or never)",
-    );
-    let when = read_when(word).ok_or(invalid)?;
-    with_colours(options, when).ok_or(repeated("--color"))
-}
-/// Adds `--html` or `--raw`. Returns `None` if one of them was given before.
-fn in_form(options: Options, format: Format) -> Option<Options>
-    ensures { result ≡ in_form options format }
-{
-    options.form.is_none().then_some(Options {
-        form: Some(format),
-        ..options
-    })
-}
-
-/// Adds `--edition`. Returns `None` if it was given before.
-fn in_edition(options: Options, edition: Edition) -> Option<Options>
-    ensures { result ≡ in_edition options edition }
-{
-    options.edition.is_none().then_some(Options {
-        edition: Some(edition),
-        ..options
-    })
-}
-
-/// Adds `--color`. Returns `None` if it was given before.
-fn with_colours(options: Options, when: When) -> Option<Options>
-    ensures { result ≡ with_colours options when }
-{
-    options.color.is_none().then_some(Options {
+    let when = match word {
+        "auto" => When::Auto,
+        "always" => When::Always,
+        "never" => When::Never,
+        _ => return Err(reject(word, "--color must be auto, always or never")),
+    };
+    if options.color.is_some() {
+        return Err(reject("--color", REPEATED));
+    }
+    Ok(Options {
         color: Some(when),
+        next: Next::Any,
         ..options
+    })
+}
+
+/// The reason to reject an option that was given before, and `--html` and `--raw` together.
+const REPEATED: &str = "repeats or contradicts an earlier option";
+
+/// The failure of an allocation.
+pub const OUT_OF_MEMORY: Rejection<'static> = Rejection {
+    fault: Fault::Memory,
+    subject: "",
+    reason: "",
+};
+
+/// Returns a rejection.
+pub fn reject<'a>(subject: &'a str, reason: &'static str) -> Rejection<'a>
+    ensures { result ≡ record { fault = Arguments; subject = subject.entry; reason = reason.entry } }
+{
+    Rejection {
+        fault: Fault::Arguments,
+        subject,
+        reason,
+    }
+}
+
+/// Returns how to show the files, if all arguments were read and there are this many files.
+fn read_view(options: Options, files: usize, colours: bool) -> Result<View, Rejection<'static>>
+    ensures taken { IfOk result (λ view. view_of options files colours ≡ Ok view) }
+    ensures rejected { IfErr result (IsRejected (view_of options files colours)) }
+{
+    match options.next {
+        Next::Year => return Err(reject("--edition", "needs a value")),
+        Next::When => return Err(reject("--color", "needs a value")),
+        Next::Any | Next::File => {}
+    }
+    let format = format_of(options, colours);
+    if matches!(format, Format::Html) && files > 1 {
+        return Err(reject("--html", "takes at most one file"));
+    }
+    Ok(View {
+        format,
+        edition: options.edition.unwrap_or(Edition::NEWEST),
     })
 }
 
@@ -323,7 +316,7 @@ fn with_colours(options: Options, when: When) -> Option<Options>
 fn format_of(options: Options, colours: bool) -> Format
     ensures { result ≡ format_of options colours }
 {
-    if let Some(format) = options.form {
+    if let Some(format) = options.format {
         return format;
     }
     let coloured = match options.color {
@@ -338,14 +331,25 @@ fn format_of(options: Options, colours: bool) -> Format
     }
 }
 
-/// Reads the value of `--color`.
-fn read_when(word: &str) -> Option<When>
-    ensures { result ≡ when_of word.now }
+/// Returns the text after the prefix `part`, or `None` if it does not start with `part`.
+fn strip<'a>(text: &'a str, part: &str) -> Option<&'a str>
+    ensures { option_map (λ rest. rest.now) result ≡ strip part.now text.now }
 {
-    match word {
-        "auto" => Some(When::Auto),
-        "always" => Some(When::Always),
-        "never" => Some(When::Never),
-        _ => None,
+    text.strip_prefix(part)
+}
+
+impl From<AllocError> for Rejection<'_> {
+    ghost from_gives = { λ _ why. why.fault ≡ Memory };
+
+    fn from(_error: AllocError) -> Self {
+        OUT_OF_MEMORY
+    }
+}
+
+impl<T: Drop> From<AllocFailed<T>> for Rejection<'_> {
+    ghost from_gives = { λ _ why. why.fault ≡ Memory };
+
+    fn from(_error: AllocFailed<T>) -> Self {
+        OUT_OF_MEMORY
     }
 }

@@ -7,7 +7,7 @@ mod job;
 mod page;
 pub mod program;
 pub mod run;
-mod words;
 
+pub use inputs::{Input, Streams};
 pub use job::{Job, Rejection, View, read_job};
 pub use program_io::Fault;

@@ -1,16 +1,17 @@
 //! The whole program, with any readers and writers.
-ghost use Rattle.std.specs.Prelude.{◌≡◌, [], false, Err, IfErr, IfOk, Ok, map, string_bytes};
+ghost use Rattle.std.specs.Prelude.{◌≡◌, ℕ, List, Option, false};
 ghost use Rattle.std.specs.Fn.{FnReturnsAt};
 ghost use Rattle.program_io.specs.Watch.{has_failed};
+ghost use Rattle.highlight_run.specs.Job.{Reading};
 ghost use Rattle.highlight_run.specs.Page.{foot, head};
-ghost use Rattle.highlight_run.specs.Program.{asked, colours_of, is_dumb, is_unset, words_of, IsChosen, Printed, Ran};
+ghost use Rattle.highlight_run.specs.Program.{asked, colours_of, is_dumb, is_unset, texts, with_inputs, words_in, IsRead, Prints, Ran};
 ghost use Rattle.highlight_run.specs.Texts.{IsFrame, NamesArguments};
 ghost use Rattle.highlight_run.specs.declared.program.TheConstants.{HELP};
 ghost use Rattle.rustc_lexer_highlight.specs.declared.format.Format.TheVariants.{Html};
 
-use crate::inputs::show_inputs;
-use crate::job::{Job, read_job};
-use program_io::{Fault, Watched, past_name, put, report};
+use crate::inputs::{Streams, show_inputs, tell};
+use crate::job::{Job, OUT_OF_MEMORY, Rejection, read_job, reject};
+use program_io::{past_name, put};
 use std::alloc::Global;
 use std::env::{Args, VarError};
 use std::io;
@@ -53,71 +54,25 @@ pub struct Start {
     pub is_terminal: bool,
 }
 
-/// Runs the program: reads the arguments and the inputs, writes the output, and reports errors. `open_file` opens a
-/// file by its name.
+/// Runs the program: reads the arguments and the inputs, writes the output, and reports errors. `open_input` opens an
+/// input by its name, and standard input if that is `-`.
 ///
 /// Returns the exit status. If inputs fail, it is the status of the first of them. If nobody reads the output any more,
 /// the program ends without a message about it, and this is not a failure.
-pub fn program<R: Read, S: Read + Drop, F: Fn(&str) -> io::Result<S>, W: Write, E: Write>(
+pub fn program<S: Read + Drop, F: Fn(&str) -> io::Result<S>, W: Write, E: Write>(
     alloc: Global,
     start: Start,
-    input: &mut Watched<R>,
-    open_file: &F,
-    output: &mut Watched<W>,
-    errors: &mut Watched<E>,
+    open_input: &F,
+    streams: &mut Streams<W, E>,
 ) -> u8
-    requires reads { has_failed input.old ≡ false }
-    requires opens { F.IsAlwaysCallable open_file.now }
-    requires writes { has_failed output.old ≡ false }
-    ensures ended { Ran R.remaining S.remaining W.contents E.contents
-        (λ name answer. FnReturnsAt F.Fn open_file.now name answer) (words_of start.args)
-        (asked start.args (colours_of start.no_color start.term start.is_terminal))
-        (record { input = input.old; output = output.old; errors = errors.old })
-        (record { input = input.new; output = output.new; errors = errors.new }) result }
+    requires opens { F.IsAlwaysCallable open_input.now }
+    requires writes { has_failed streams.old.output ≡ false }
+    ensures ended { Ran S.remaining W.contents E.contents
+        (λ name answer. FnReturnsAt F.Fn open_input.now name answer)
+        (asked (words_in start.args) (colours_of start.no_color start.term start.is_terminal))
+        streams.old streams.new result }
     ensures page { IsFrame (head Html) (foot Html) }
     ensures usage { NamesArguments HELP.now }
-{
-    let mut message = String::new(alloc);
-    match read_start(alloc, start, &mut message) {
-        Ok((Job::Show(view), words)) => {
-            let words = words.as_slice();
-            show_inputs(alloc, view, words, input, open_file, output, errors)
-        }
-        Ok((Job::Help, _)) => print(HELP, output, errors),
-        Ok((Job::Version, _)) => print(VERSION, output, errors),
-        Err(fault) => report(NAME, message.as_str(), &Err(fault), false, errors),
-    }
-}
-
-/// The start of each message.
-const NAME: &str = "highlight: ";
-
-/// Prints the help or the version, and reports an error. Returns the exit status.
-fn print<W: Write, E: Write>(text: &str, output: &mut Watched<W>, errors: &mut Watched<E>) -> u8
-    requires writes { has_failed output.old ≡ false }
-    ensures { Printed text.now output.new (W.contents output.old.inner)
-        (W.contents output.new.inner) errors.new (E.contents errors.old.inner)
-        (E.contents errors.new.inner) result }
-{
-    let outcome = put(output, text);
-    report(NAME, "", &outcome, output.closed(), errors)
-}
-
-/// Returns the job that the arguments ask for, and the arguments after the program's name. If they are rejected, writes
-/// the reason to `message`.
-fn read_start(
-    alloc: Global,
-    start: Start,
-    message: &mut String,
-) -> Result<(Job, Vec<String>), Fault>
-    requires empty { string_bytes message.old ≡ [] }
-    ensures chosen { IfOk result (λ p.
-        IsChosen (asked start.args (colours_of start.no_color start.term start.is_terminal))
-        (string_bytes message.new) (Ok p.0)) }
-    ensures words { IfOk result (λ p. map string_bytes p.1.items ≡ words_of start.args) }
-    ensures fault { IfErr result (λ fault.
-        IsChosen (asked start.args (colours_of start.no_color start.term start.is_terminal))
-        (string_bytes message.new) (Err fault)) }
 {
     let Start {
         args,
@@ -125,23 +80,55 @@ fn read_start(
         term,
         is_terminal,
     } = start;
-    let colours = wants_colours(&no_color, &term, is_terminal).ok_or(Fault::Memory)?;
-    let words = match args {
-        Ok(args) => past_name(alloc, args)?,
-        Err(ErrorKind::InvalidData) => {
-            message.push_str("an argument is not UTF-8")?;
-            return Err(Fault::Arguments);
+    let colours = wants_colours(&no_color, &term, is_terminal);
+    let words = read_words(alloc, args);
+    match choose_job(alloc, &words, colours) {
+        Ok((Job::Show(view), inputs)) => {
+            show_inputs(alloc, view, inputs.as_slice(), open_input, streams)
         }
-        Err(_) => return Err(Fault::Memory),
-    };
-    match read_job(words.as_slice(), colours) {
-        Ok(job) => Ok((job, words)),
-        Err(why) => {
-            message.push_str(why.before)?;
-            message.push_str(why.word)?;
-            message.push_str(why.after)?;
-            Err(Fault::Arguments)
-        }
+        Ok((Job::Help, _)) => print(HELP, streams),
+        Ok((Job::Version, _)) => print(VERSION, streams),
+        Err(why) => tell(why.subject, why.reason, &Err(why.fault), streams),
+    }
+}
+
+/// Prints the help or the version, and reports an error. Returns the exit status.
+fn print<W: Write, E: Write>(text: &str, streams: &mut Streams<W, E>) -> u8
+    requires writes { has_failed streams.old.output ≡ false }
+    ensures { Prints W.contents E.contents text.now streams.old streams.new result }
+{
+    let outcome = put(&mut streams.output, text);
+    tell("", "", &outcome, streams)
+}
+
+/// Returns the arguments after the program's name.
+fn read_words(
+    alloc: Global,
+    args: Result<Args, ErrorKind>,
+) -> Result<Vec<String>, Rejection<'static>>
+    ensures { IsRead texts (words_in args) result }
+{
+    match args {
+        Ok(args) => Ok(past_name(alloc, args)?),
+        Err(ErrorKind::InvalidData) => Err(reject("", "an argument is not UTF-8")),
+        Err(_) => Err(OUT_OF_MEMORY),
+    }
+}
+
+/// Returns the job that the arguments ask for, and the inputs to show. `colours` is `None` if an allocation for the
+/// value of a variable failed.
+fn choose_job<'a>(
+    alloc: Global,
+    words: &'a Result<Vec<String>, Rejection<'static>>,
+    colours: Option<bool>,
+) -> Result<(Job, Vec<&'a str>), Rejection<'a>>
+    ensures { (read : Option (Reading (List (List ℕ)))) → IsRead texts read words.now
+        → IsRead with_inputs (asked read colours) result }
+{
+    let colours = colours.ok_or(OUT_OF_MEMORY)?;
+    match words {
+        Ok(words) => read_job(alloc, words.as_slice(), colours),
+        Err(why) => Err(*why),
     }
 }
 

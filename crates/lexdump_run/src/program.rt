@@ -9,7 +9,7 @@ ghost use Rattle.lexdump_run.specs.Program.{Ran};
 
 use crate::job::read_job;
 use crate::run_job::run;
-use program_io::{Fault, Watched, given_words, report};
+use program_io::{Fault, Message, Watched, given_words, report};
 use std::alloc::Global;
 use std::env::Args;
 use std::io::{Read, Write};
@@ -35,7 +35,12 @@ pub fn program<R: Read, W: Write, E: Write>(
         (E.contents errors.new.inner) }
 {
     let outcome = dump(alloc, args, input, output);
-    report("lexdump: ", "bad arguments", &outcome, false, errors)
+    let message = Message {
+        start: "lexdump: ",
+        subject: "",
+        reason: "bad arguments",
+    };
+    report(message, &outcome, false, errors)
 }
 
 /// Reads the arguments and does the job that they describe.

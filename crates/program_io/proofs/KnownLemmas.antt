@@ -1,6 +1,6 @@
 -- Lemmas about the known bytes of readers and writers, for loops.
 use Rattle.std.proofs.Common.{◌≡◌, ℕ, ◌+◌, ◌-◌, List, [], ◌++◌, length, take, drop, refl, arith, append_assoc}
-use Rattle.std.proofs.Common.{append-nil, length-append, take-append-drop, take_at, length-drop, take_all, Option}
+use Rattle.std.proofs.Common.{append-nil, length-append, take-append-drop, take_at, length-drop, take_all, Option, Result, OnErr}
 use Rattle.std.proofs.lemmas.Grind.{common_steps}
 use Rattle.std.specs.Io.KnownBytes.{Appends, Keeps}
 use Rattle.std.proofs.{Math.Seq.{take-append-add}, lemmas.List.{take-append-le}}
@@ -36,6 +36,15 @@ went_kept old mid new text rest w k = grind (arith, common_steps, appends-kept)
 pub went_front : (old new : Option (List ℕ)) (text rest : List ℕ) → Went old new text rest → AppendsFront old new text
 went_front old new text rest w =
     (length w.front, grind (arith, common_steps, length-append), grind (arith, common_steps, take_at))
+
+-- If two texts were appended, so was a prefix of both joined.
+pub front_kept : (old mid late new : Option (List ℕ)) (xs ys text : List ℕ) → xs ++ ys ≡ text → Appends old mid xs
+    → Appends mid late ys → Keeps late new → AppendsFront old new text
+front_kept old mid late new xs ys text e a b k =
+    (length text, grind (arith, common_steps), grind (arith, common_steps, take_all, appends-more))
+
+pub on_err : {T E P : Type 0} (result : Result T E) → P → OnErr result P
+on_err result p = grind (arith, common_steps)
 
 -- The slice of a text after its first n bytes, up to its end, is the text without these bytes.
 pub cut_past : (n : ℕ) (rest : List ℕ) → take (length rest - n) (drop n rest) ≡ drop n rest

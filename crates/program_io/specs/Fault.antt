@@ -17,24 +17,33 @@ status_of Memory = 6
 status_of Read = 7
 status_of Write = 7
 
--- The message of `Arguments` is `unknown`; every other fault has a fixed message.
+-- The text of `Arguments` is `reason`; every other fault has a fixed text.
 unfoldable pub fault_text : List ℕ → Fault → List ℕ
-fault_text unknown Arguments = unknown
-fault_text unknown NotUtf8 = codes "input is not UTF-8"
-fault_text unknown TooLong = codes "input too long"
-fault_text unknown (EditRange at) = codes "edit " ++ (decimal at ++ codes ": bad range")
-fault_text unknown (EditTooLong at) = codes "edit " ++ (decimal at ++ codes ": text too long")
-fault_text unknown Memory = codes "no memory"
-fault_text unknown Read = codes "read failed"
-fault_text unknown Write = codes "write failed"
+fault_text reason Arguments = reason
+fault_text reason NotUtf8 = codes "input is not UTF-8"
+fault_text reason TooLong = codes "input too long"
+fault_text reason (EditRange at) = codes "edit " ++ (decimal at ++ codes ": bad range")
+fault_text reason (EditTooLong at) = codes "edit " ++ (decimal at ++ codes ": text too long")
+fault_text reason Memory = codes "no memory"
+fault_text reason Read = codes "read failed"
+fault_text reason Write = codes "write failed"
 
 abbrev pub number_text : Option ℕ → List ℕ
 number_text None = []
 number_text (Some n) = decimal n
 
--- The line that reports a fault consists of `name`, the message and a newline.
+-- A colon and a space follow the subject of a message, if it has one.
+abbrev pub colon : List ℕ → List ℕ
+colon [] = []
+colon (b ∷ subject) = codes ": "
+
+-- The line that reports a fault starts with the text that names the program, and with the subject.
+abbrev pub line_start : List ℕ → List ℕ → List ℕ
+line_start program subject = program ++ (subject ++ colon subject)
+
+-- The line that reports a fault consists of its start, the text of the fault and a newline.
 abbrev pub fault_line : List ℕ → List ℕ → Fault → List ℕ
-fault_line name unknown fault = name ++ (fault_text unknown fault ++ 10 ∷ [])
+fault_line start reason fault = start ++ (fault_text reason fault ++ 10 ∷ [])
 
 -- Whether a fault is reported; a failed write of a quiet run is not.
 abbrev pub is_told : Fault → Bool → Bool

@@ -1,13 +1,14 @@
 //! The reasons why a program stops, with their messages and exit statuses.
 ghost use Rattle.std.specs.Prelude.{◌≡◌, ◌++◌, ◌||◌, ◌∷◌, [], false, is_err, true, IfOk, OnErr, OnOk};
 ghost use Rattle.std.specs.Io.KnownBytes.{Appends};
-ghost use Rattle.program_io.specs.Fault.{fault_line, fault_text, is_told, number_text, status_of, IsReported};
+ghost use Rattle.program_io.specs.Fault.{colon, fault_line, fault_text, is_told, line_start, number_text, status_of};
+ghost use Rattle.program_io.specs.Fault.{IsReported};
 ghost use Rattle.program_io.specs.Known.{AppendsFront};
 ghost use Rattle.program_io.specs.Watch.{has_failed};
 ghost use Rattle.program_io.specs.declared.fault.Fault.TheVariants.{Memory};
 
 use crate::watched::Watched;
-use crate::writing::{write_bytes, write_texts};
+use crate::writing::write_texts;
 use itoa::Buffer;
 use std::alloc::{AllocError, AllocFailed};
 use std::io::Write;
@@ -33,6 +34,17 @@ pub enum Fault {
     Write,
 }
 
+/// The parts of a message that do not depend on the fault.
+#[derive(Clone, Copy, Debug)]
+pub struct Message<'a> {
+    /// The start of each message of the program, which names it.
+    pub start: &'a str,
+    /// The argument or the file that the message is about, or "".
+    pub subject: &'a str,
+    /// The reason, if the fault is `Fault::Arguments`.
+    pub reason: &'a str,
+}
+
 /// Returns the exit status of a program that stops for this reason.
 pub fn status(fault: &Fault) -> u8
     ensures { result ≡ status_of fault.now }
@@ -47,21 +59,20 @@ pub fn status(fault: &Fault) -> u8
     }
 }
 
-/// Writes the reason why a run stopped, after the name of the program, and flushes. Returns the exit status.
+/// Writes the reason why a run stopped, and flushes. Returns the exit status.
 ///
-/// `unknown` is the message for invalid arguments. If the run did not stop, or if it is `quiet` and a write failed,
-/// this function writes nothing and returns 0. If `errors` fails, a prefix of the line has been written, and the status
-/// is the same.
+/// If the run did not stop, or if it is `quiet` and a write failed, this function writes nothing and returns 0. If
+/// `errors` fails, a prefix of the line has been written, and the status is the same.
 pub fn report<E: Write>(
-    name: &str,
-    unknown: &str,
+    message: Message<'_>,
     outcome: &Result<(), Fault>,
     quiet: bool,
     errors: &mut Watched<E>,
 ) -> u8
-    ensures { IsReported (fault_line name.now unknown.now) outcome.now quiet result
-        (has_failed errors.new ≡ false) errors.new.flushed (E.contents errors.old.inner)
-        (E.contents errors.new.inner) }
+    ensures { IsReported
+        (fault_line (line_start message.entry.start.now message.entry.subject.now) message.entry.reason.now)
+        outcome.now quiet result (has_failed errors.new ≡ false) errors.new.flushed
+        (E.contents errors.old.inner) (E.contents errors.new.inner) }
 {
     let Err(fault) = outcome else {
         return 0;
@@ -71,7 +82,7 @@ pub fn report<E: Write>(
         let _ = errors.flush();
         return 0;
     }
-    let _ = tell(name, unknown, fault, errors);
+    let _ = tell(message, fault, errors);
     status(fault)
 }
 
@@ -88,22 +99,33 @@ fn is_told(fault: &Fault, quiet: bool) -> bool
 /// Writes the line that reports a fault, and flushes.
 #[tactic(auto, using(crate::proofs::KnownLemmas::front_first, crate::proofs::KnownLemmas::front_more))]
 fn tell<E: Write>(
-    name: &str,
-    unknown: &str,
+    message: Message<'_>,
     fault: &Fault,
     errors: &mut Watched<E>,
 ) -> Result<(), Fault>
     ensures failed { has_failed errors.new ≡ (has_failed errors.old || is_err result) }
     ensures flushed { IfOk result (λ _. errors.new.flushed ≡ true) }
     ensures ok { OnOk result (Appends (E.contents errors.old.inner) (E.contents errors.new.inner)
-        (fault_line name.now unknown.now fault.now)) }
+        (fault_line (line_start message.entry.start.now message.entry.subject.now) message.entry.reason.now
+        fault.now)) }
     ensures err { OnErr result (AppendsFront (E.contents errors.old.inner)
-        (E.contents errors.new.inner) (fault_line name.now unknown.now fault.now)) }
+        (E.contents errors.new.inner)
+        (fault_line (line_start message.entry.start.now message.entry.subject.now) message.entry.reason.now
+        fault.now)) }
 {
-    write_bytes(errors, name.as_bytes())?;
+    let Message { start, subject, reason } = message;
+    write_texts(errors, start, subject, colon(subject))?;
     let mut buffer = Buffer::new();
-    let (before, number, after) = message(fault, unknown);
-    write_texts(errors, before, digits(&mut buffer, number), after)
+    let (before, number, after) = text_of(fault, reason);
+    write_texts(errors, before, digits(&mut buffer, number), after)?;
+    errors.flush().map_err(|_| Fault::Write)
+}
+
+/// Returns what separates the subject of a message from the reason.
+fn colon(subject: &str) -> &'static str
+    ensures { result.now ≡ colon subject.now }
+{
+    if subject.is_empty() { "" } else { ": " }
 }
 
 /// Returns the digits of the number, if there is one.
@@ -116,15 +138,15 @@ fn digits(buffer: &mut Buffer, number: Option<usize>) -> &str
     }
 }
 
-/// Returns the message of a fault and its newline in three parts: the text before the index of the edit, that index,
+/// Returns the text of a fault and its newline in three parts: the text before the index of the edit, that index,
 /// and the rest.
 #[tactic(auto, unfolding(crate::specs::Fault::fault_text))]
-fn message<'a>(fault: &Fault, unknown: &'a str) -> (&'a str, Option<usize>, &'a str)
+fn text_of<'a>(fault: &Fault, reason: &'a str) -> (&'a str, Option<usize>, &'a str)
     ensures { result.0.now ++ (number_text result.1 ++ result.2.now)
-        ≡ fault_text unknown.now fault.now ++ 10 ∷ [] }
+        ≡ fault_text reason.now fault.now ++ 10 ∷ [] }
 {
     match fault {
-        Fault::Arguments => (unknown, None, "\n"),
+        Fault::Arguments => (reason, None, "\n"),
         Fault::NotUtf8 => ("input is not UTF-8", None, "\n"),
         Fault::TooLong => ("input too long", None, "\n"),
         Fault::EditRange { at } => ("edit ", Some(*at), ": bad range\n"),

@@ -57,11 +57,11 @@ pub fn write_bytes<W: Write>(output: &mut Watched<W>, bytes: &[u8]) -> Result<()
     Ok(())
 }
 
-/// Writes three texts, one after another, and flushes.
+/// Writes three texts, one after another.
 ///
 /// # Errors
 ///
-/// Returns `Fault::Write` if a write or the flush failed. A prefix of the texts has then been written.
+/// Returns `Fault::Write` if a write failed. A prefix of the texts has then been written.
 pub fn write_texts<W: Write>(
     output: &mut Watched<W>,
     one: &str,
@@ -71,7 +71,6 @@ pub fn write_texts<W: Write>(
     ensures failed { has_failed output.new ≡ (has_failed output.old || is_err result) }
     ensures first { IfSome output.old.failure (λ kind. output.new.failure ≡ Some kind) }
     ensures only { IfErr result (λ fault. fault ≡ Fault.Write) }
-    ensures flushed { IfOk result (λ _. output.new.flushed ≡ true) }
     ensures ok { OnOk result (Appends (W.contents output.old.inner) (W.contents output.new.inner)
         (one.now ++ (two.now ++ three.now))) }
     ensures err { OnErr result (AppendsFront (W.contents output.old.inner)
@@ -79,5 +78,5 @@ pub fn write_texts<W: Write>(
 {
     write_bytes(output, one.as_bytes())?;
     write_bytes(output, two.as_bytes())?;
-    write_all(output, three.as_bytes())
+    write_bytes(output, three.as_bytes())
 }

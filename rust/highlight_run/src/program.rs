@@ -4,9 +4,9 @@ use rattle_std::prelude::String;
 
 use rattle_std::prelude::Vec;
 
-use crate::inputs::show_inputs;
-use crate::job::{Job, read_job};
-use program_io::{Fault, Watched, past_name, put, report};
+use crate::inputs::{Streams, show_inputs, tell};
+use crate::job::{Job, OUT_OF_MEMORY, Rejection, read_job, reject};
+use program_io::{past_name, put};
 use rattle_std::alloc::Global;
 use rattle_std::env::{Args, VarError};
 use rattle_std::io;
@@ -48,70 +48,64 @@ pub struct Start {
     pub is_terminal: bool,
 }
 
-/// Runs the program: reads the arguments and the inputs, writes the output, and reports errors. `open_file` opens a
-/// file by its name.
+/// Runs the program: reads the arguments and the inputs, writes the output, and reports errors. `open_input` opens an
+/// input by its name, and standard input if that is `-`.
 ///
 /// Returns the exit status. If inputs fail, it is the status of the first of them. If nobody reads the output any more,
 /// the program ends without a message about it, and this is not a failure.
-pub fn program<R: Read, S: Read, F: Fn(&str) -> io::Result<S>, W: Write, E: Write>(
+pub fn program<S: Read, F: Fn(&str) -> io::Result<S>, W: Write, E: Write>(
     alloc: Global,
     start: Start,
-    input: &mut Watched<R>,
-    open_file: &F,
-    output: &mut Watched<W>,
-    errors: &mut Watched<E>,
+    open_input: &F,
+    streams: &mut Streams<W, E>,
 ) -> u8 {
-    let mut message = String::new(alloc);
-    match read_start(alloc, start, &mut message) {
-        Ok((Job::Show(view), words)) => {
-            let words = words.as_slice();
-            show_inputs(alloc, view, words, input, open_file, output, errors)
-        }
-        Ok((Job::Help, _)) => print(HELP, output, errors),
-        Ok((Job::Version, _)) => print(VERSION, output, errors),
-        Err(fault) => report(NAME, message.as_str(), &Err(fault), false, errors),
-    }
-}
-
-/// The start of each message.
-const NAME: &str = "highlight: ";
-
-/// Prints the help or the version, and reports an error. Returns the exit status.
-fn print<W: Write, E: Write>(text: &str, output: &mut Watched<W>, errors: &mut Watched<E>) -> u8 {
-    let outcome = put(output, text);
-    report(NAME, "", &outcome, output.closed(), errors)
-}
-
-/// Returns the job that the arguments ask for, and the arguments after the program's name. If they are rejected, writes
-/// the reason to `message`.
-fn read_start(
-    alloc: Global,
-    start: Start,
-    message: &mut String,
-) -> Result<(Job, Vec<String>), Fault> {
     let Start {
         args,
         no_color,
         term,
         is_terminal,
     } = start;
-    let colours = wants_colours(&no_color, &term, is_terminal).ok_or(Fault::Memory)?;
-    let words = match args {
-        Ok(args) => past_name(alloc, args)?,
-        Err(ErrorKind::InvalidData) => {
-            message.push_str("an argument is not UTF-8")?;
-            return Err(Fault::Arguments);
+    let colours = wants_colours(&no_color, &term, is_terminal);
+    let words = read_words(alloc, args);
+    match choose_job(alloc, &words, colours) {
+        Ok((Job::Show(view), inputs)) => {
+            show_inputs(alloc, view, inputs.as_slice(), open_input, streams)
         }
-        Err(_) => return Err(Fault::Memory),
-    };
-    match read_job(words.as_slice(), colours) {
-        Ok(job) => Ok((job, words)),
-        Err(why) => {
-            message.push_str(why.before)?;
-            message.push_str(why.word)?;
-            message.push_str(why.after)?;
-            Err(Fault::Arguments)
-        }
+        Ok((Job::Help, _)) => print(HELP, streams),
+        Ok((Job::Version, _)) => print(VERSION, streams),
+        Err(why) => tell(why.subject, why.reason, &Err(why.fault), streams),
+    }
+}
+
+/// Prints the help or the version, and reports an error. Returns the exit status.
+fn print<W: Write, E: Write>(text: &str, streams: &mut Streams<W, E>) -> u8 {
+    let outcome = put(&mut streams.output, text);
+    tell("", "", &outcome, streams)
+}
+
+/// Returns the arguments after the program's name.
+fn read_words(
+    alloc: Global,
+    args: Result<Args, ErrorKind>,
+) -> Result<Vec<String>, Rejection<'static>> {
+    match args {
+        Ok(args) => Ok(past_name(alloc, args)?),
+        Err(ErrorKind::InvalidData) => Err(reject("", "an argument is not UTF-8")),
+        Err(_) => Err(OUT_OF_MEMORY),
+    }
+}
+
+/// Returns the job that the arguments ask for, and the inputs to show. `colours` is `None` if an allocation for the
+/// value of a variable failed.
+fn choose_job<'a>(
+    alloc: Global,
+    words: &'a Result<Vec<String>, Rejection<'static>>,
+    colours: Option<bool>,
+) -> Result<(Job, Vec<&'a str>), Rejection<'a>> {
+    let colours = colours.ok_or(OUT_OF_MEMORY)?;
+    match words {
+        Ok(words) => read_job(alloc, words.as_slice(), colours),
+        Err(why) => Err(*why),
     }
 }
 

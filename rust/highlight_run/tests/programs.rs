@@ -3,138 +3,122 @@
 #[path = "../../program_io/tests/failing/mod.rs"]
 mod failing;
 
-use failing::{BYTES, Program, Reader, Turn, WHOLE, words_of};
+use failing::{BYTES, Program, Reader, Script, Turn, WHOLE, words_of};
 use highlight_run::program::{Start, program};
 use highlight_run::run::run;
-use highlight_run::{Job, View, read_job};
+use highlight_run::{Fault, Job, Rejection, Streams, View, read_job};
+use program_io::Watched;
 use rattle_std::alloc::Global;
 use rattle_std::env::VarError::{self, NotPresent, NotUnicode, OutOfMemory};
-use rattle_std::io::{Error, ErrorKind, Result as IoResult};
-use rattle_std::prelude::String;
+use rattle_std::io::{Error, ErrorKind, Read, Result as IoResult, Write};
 use rustc_lexer::Edition::{self, E2015, E2018, E2021, E2024};
 use rustc_lexer_highlight::Format::{self, Colours, Html, NoColours, Raw};
 
-/// Arguments separated by bars, whether colours are the default, and the expected format and edition.
-const SHOWN: [(&str, bool, Format, Edition); 38] = [
-    ("", true, Colours, E2024),
-    ("", false, NoColours, E2024),
-    ("--html", false, Html, E2024),
-    ("--color|auto", true, Colours, E2024),
-    ("--color|auto", false, NoColours, E2024),
-    ("--color|always", true, Colours, E2024),
-    ("--color|always", false, Colours, E2024),
-    ("--color|never", true, NoColours, E2024),
-    ("--color|never", false, NoColours, E2024),
-    ("--color|always|--html", true, Html, E2024),
-    ("--edition|2015", true, Colours, E2015),
-    ("--edition|2018", false, NoColours, E2018),
-    ("--edition|2021", true, Colours, E2021),
-    ("--edition|2024", true, Colours, E2024),
-    ("--edition|2018|--color|never", true, NoColours, E2018),
-    ("--edition|2021|--html", true, Html, E2021),
-    ("--html|--edition|2024", false, Html, E2024),
-    ("--html|--color|never|--edition|2015", true, Html, E2015),
-    ("--color=always", false, Colours, E2024),
-    ("--color=never|--edition|2018", true, NoColours, E2018),
-    ("--edition|2021|--color=auto", true, Colours, E2021),
-    ("--html|--color=always", true, Html, E2024),
-    ("--raw", false, Raw, E2024),
-    ("--raw", true, Raw, E2024),
-    ("--color=always|--raw|--edition|2018", true, Raw, E2018),
-    ("--edition=2015", true, Colours, E2015),
-    ("--edition=2018|--color=never", true, NoColours, E2018),
-    ("--html|--edition=2021", false, Html, E2021),
+/// Arguments separated by bars, whether colours are the default, and the expected format, edition and inputs.
+#[rustfmt::skip]
+const SHOWN: [(&str, bool, Format, Edition, &str); 38] = [
+    ("", true, Colours, E2024, "-"),
+    ("", false, NoColours, E2024, "-"),
+    ("--html", false, Html, E2024, "-"),
+    ("--color|auto", true, Colours, E2024, "-"),
+    ("--color|auto", false, NoColours, E2024, "-"),
+    ("--color|always", true, Colours, E2024, "-"),
+    ("--color|always", false, Colours, E2024, "-"),
+    ("--color|never", true, NoColours, E2024, "-"),
+    ("--color|never", false, NoColours, E2024, "-"),
+    ("--color|always|--html", true, Html, E2024, "-"),
+    ("--edition|2015", true, Colours, E2015, "-"),
+    ("--edition|2018", false, NoColours, E2018, "-"),
+    ("--edition|2021", true, Colours, E2021, "-"),
+    ("--edition|2024", true, Colours, E2024, "-"),
+    ("--edition|2018|--color|never", true, NoColours, E2018, "-"),
+    ("--edition|2021|--html", true, Html, E2021, "-"),
+    ("--html|--edition|2024", false, Html, E2024, "-"),
+    ("--html|--color|never|--edition|2015", true, Html, E2015, "-"),
+    ("--color=always", false, Colours, E2024, "-"),
+    ("--color=never|--edition|2018", true, NoColours, E2018, "-"),
+    ("--edition|2021|--color=auto", true, Colours, E2021, "-"),
+    ("--html|--color=always", true, Html, E2024, "-"),
+    ("--raw", false, Raw, E2024, "-"),
+    ("--raw", true, Raw, E2024, "-"),
+    ("--color=always|--raw|--edition|2018", true, Raw, E2018, "-"),
+    ("--edition=2015", true, Colours, E2015, "-"),
+    ("--edition=2018|--color=never", true, NoColours, E2018, "-"),
+    ("--html|--edition=2021", false, Html, E2021, "-"),
     // Files are skipped, and all arguments after `--` are files.
-    ("main.rs", true, Colours, E2024),
-    ("a|b|c", false, NoColours, E2024),
-    ("", true, Colours, E2024),
-    ("-", true, Colours, E2024),
-    ("a|--raw|b|--edition|2018|c", true, Raw, E2018),
-    ("--html|a", true, Html, E2024),
-    ("--html|--", true, Html, E2024),
-    ("--html|--|--raw", true, Html, E2024),
-    ("--edition|2018|--|--edition|2027", false, NoColours, E2018),
-    ("--|--", true, Colours, E2024),
+    ("main.rs", true, Colours, E2024, "main.rs"),
+    ("a|b|c", false, NoColours, E2024, "a|b|c"),
+    ("", true, Colours, E2024, "-"),
+    ("-", true, Colours, E2024, "-"),
+    ("a|--raw|b|--edition|2018|c", true, Raw, E2018, "a|b|c"),
+    ("--html|a", true, Html, E2024, "a"),
+    ("--html|--", true, Html, E2024, "-"),
+    ("--html|--|--raw", true, Html, E2024, "--raw"),
+    ("--edition|2018|--|--edition|2027", false, NoColours, E2018, "--edition|2027"),
+    ("--|--", true, Colours, E2024, "--"),
 ];
 
-/// Rejected arguments, and their messages. If a message is only an option in quotes, `REPEATED` follows it.
-const REJECTED: [(&str, &str); 33] = [
-    ("--html|--html", "'--html'"),
-    ("--raw|--html", "'--html'"),
-    ("--html|--raw", "'--raw'"),
-    ("--raw|--raw", "'--raw'"),
-    ("--color|auto|--color|auto", "'--color'"),
-    ("--color=auto|--color|never", "'--color'"),
-    ("--color|auto|--color=never", "'--color'"),
-    ("--edition|2018|--edition|2018", "'--edition'"),
-    ("--edition|2018|a|--edition=2021", "'--edition'"),
-    (
-        "--html|--help",
-        "'--help' cannot be combined with other arguments",
-    ),
-    (
-        "--help|a",
-        "'--help' cannot be combined with other arguments",
-    ),
-    ("-h|-h", "'-h' cannot be combined with other arguments"),
-    (
-        "--edition|2018|--version",
-        "'--version' cannot be combined with other arguments",
-    ),
-    ("a|-V", "'-V' cannot be combined with other arguments"),
-    ("--color", "'--color' needs a value"),
-    ("--edition", "'--edition' needs a value"),
-    ("a|--edition", "'--edition' needs a value"),
-    ("--colour", "unknown option '--colour'"),
-    ("--html=yes", "unknown option '--html=yes'"),
-    ("-x", "unknown option '-x'"),
-    ("---", "unknown option '---'"),
-    ("a|-|--Html", "unknown option '--Html'"),
-    (
-        "--color|Always",
-        "invalid value 'Always' for --color (auto, always or never)",
-    ),
-    (
-        "--color=Always",
-        "invalid value 'Always' for --color (auto, always or never)",
-    ),
-    (
-        "--color=",
-        "invalid value '' for --color (auto, always or never)",
-    ),
-    (
-        "--color|--html",
-        "invalid value '--html' for --color (auto, always or never)",
-    ),
-    (
-        "--edition|2027",
-        "invalid value '2027' for --edition (2015, 2018, 2021 or 2024)",
-    ),
-    (
-        "--edition|2018 ",
-        "invalid value '2018 ' for --edition (2015, 2018, 2021 or 2024)",
-    ),
-    (
-        "--edition=2019",
-        "invalid value '2019' for --edition (2015, 2018, 2021 or 2024)",
-    ),
-    (
-        "--edition|--|2018",
-        "invalid value '--' for --edition (2015, 2018, 2021 or 2024)",
-    ),
-    ("--html|a|b", "--html takes at most one file"),
-    ("a|--html|-", "--html takes at most one file"),
-    ("--html|--|--raw|--raw", "--html takes at most one file"),
+/// The reason to reject an option that was given before.
+const REPEATED: &str = "repeats or contradicts an earlier option";
+
+/// The reason to reject `--help` and `--version` with other arguments.
+const COMBINED: &str = "cannot be combined with other arguments";
+
+/// The reason to reject a year.
+const NO_EDITION: &str = "--edition must be 2015, 2018, 2021 or 2024";
+
+/// The reason to reject a value of `--color`.
+const NO_COLOR: &str = "--color must be auto, always or never";
+
+/// Rejected arguments, the one that the message is about, and the reason.
+#[rustfmt::skip]
+const REJECTED: [(&str, &str, &str); 33] = [
+    ("--html|--html", "--html", REPEATED),
+    ("--raw|--html", "--html", REPEATED),
+    ("--html|--raw", "--raw", REPEATED),
+    ("--raw|--raw", "--raw", REPEATED),
+    ("--color|auto|--color|auto", "--color", REPEATED),
+    ("--color=auto|--color|never", "--color", REPEATED),
+    ("--color|auto|--color=never", "--color", REPEATED),
+    ("--edition|2018|--edition|2018", "--edition", REPEATED),
+    ("--edition|2018|a|--edition=2021", "--edition", REPEATED),
+    ("--html|--help", "--help", COMBINED),
+    ("--help|a", "--help", COMBINED),
+    ("-h|-h", "-h", COMBINED),
+    ("--edition|2018|--version", "--version", COMBINED),
+    ("a|-V", "-V", COMBINED),
+    ("--color", "--color", "needs a value"),
+    ("--edition", "--edition", "needs a value"),
+    ("a|--edition", "--edition", "needs a value"),
+    ("--colour", "--colour", "unknown option"),
+    ("--html=yes", "--html=yes", "unknown option"),
+    ("-x", "-x", "unknown option"),
+    ("---", "---", "unknown option"),
+    ("a|-|--Html", "--Html", "unknown option"),
+    ("--color|Always", "Always", NO_COLOR),
+    ("--color=Always", "Always", NO_COLOR),
+    ("--color=", "", NO_COLOR),
+    ("--color|--html", "--html", NO_COLOR),
+    ("--edition|2027", "2027", NO_EDITION),
+    ("--edition|2018 ", "2018 ", NO_EDITION),
+    ("--edition=2019", "2019", NO_EDITION),
+    ("--edition|--|2018", "--", NO_EDITION),
+    ("--html|a|b", "--html", "takes at most one file"),
+    ("a|--html|-", "--html", "takes at most one file"),
+    ("--html|--|--raw|--raw", "--html", "takes at most one file"),
 ];
 
-/// The end of the message for an option that repeats or contradicts an earlier one.
-const REPEATED: &str = " repeats or contradicts an earlier option";
-
+/// The jobs and the inputs that arguments ask for.
 #[test]
 fn jobs() {
-    for (line, colours, format, edition) in SHOWN {
+    let read = |line, colours| {
+        let words = words_of(line);
+        let (job, inputs) = read_job(Global, &words, colours).unwrap();
+        (job, inputs.as_slice().join("|"))
+    };
+    for (line, colours, format, edition, inputs) in SHOWN {
         let job = Job::Show(View { format, edition });
-        assert_eq!(read_job(&words_of(line), colours), Ok(job), "{line}");
+        assert_eq!(read(line, colours), (job, inputs.to_string()), "{line}");
     }
     for (line, job) in [
         ("--help", Job::Help),
@@ -142,18 +126,16 @@ fn jobs() {
         ("--version", Job::Version),
         ("-V", Job::Version),
     ] {
-        assert_eq!(read_job(&words_of(line), true), Ok(job), "{line}");
+        assert_eq!(read(line, true), (job, String::new()), "{line}");
     }
-    for (line, message) in REJECTED {
-        let words = words_of(line);
-        let why = read_job(&words, true).unwrap_err();
-        let end = if message.ends_with('\'') && message.starts_with('\'') {
-            REPEATED
-        } else {
-            ""
+    for (line, subject, reason) in REJECTED {
+        let why = Rejection {
+            fault: Fault::Arguments,
+            subject,
+            reason,
         };
-        let line_of = [why.before, why.word, why.after].concat();
-        assert_eq!(line_of, format!("{message}{end}"), "{line}");
+        let words = words_of(line);
+        assert_eq!(read_job(Global, &words, true).unwrap_err(), why, "{line}");
     }
 }
 
@@ -165,19 +147,47 @@ type Process = (
     bool,
 );
 
+/// The start of a process.
+fn start_of((args, no_color, term, is_terminal): Process) -> Start {
+    let variable = |value: Result<&str, VarError>| value.map(|text| text.to_string().into());
+    Start {
+        args: args.map(|line| words_of(line).into_iter()),
+        no_color: variable(no_color),
+        term: variable(term),
+        is_terminal,
+    }
+}
+
 /// Runs the program with this standard input. Returns its status, its output and its errors.
 fn run_program(process: Process, input: &[u8]) -> (u8, Vec<u8>, Vec<u8>) {
-    let (args, no_color, term, is_terminal) = process;
-    let start = Start {
-        args: args.map(|line| words_of(line).into_iter()),
-        no_color: no_color.map(|text| String::from(text.to_string())),
-        term: term.map(|text| String::from(text.to_string())),
-        is_terminal,
+    run_with(process, WHOLE, input, WHOLE)
+}
+
+/// Runs the program with this behaviour of standard input and of the output.
+fn run_with(
+    process: Process,
+    reading: Script,
+    input: &[u8],
+    writing: Script,
+) -> (u8, Vec<u8>, Vec<u8>) {
+    let input = std::cell::Cell::new(input);
+    let open_input = |name: &str| match name {
+        "-" => Ok(reading.reader(input.take()).into_inner()),
+        _ => open_file(name),
     };
-    let (mut output, mut errors) = (WHOLE.writer(), WHOLE.writer());
-    let input = &mut WHOLE.reader(input);
-    let status = program(Global, start, input, &open_file, &mut output, &mut errors);
+    let mut streams = Streams {
+        output: writing.writer(),
+        errors: WHOLE.writer(),
+    };
+    let status = program(Global, start_of(process), &open_input, &mut streams);
+    let Streams { output, errors } = streams;
     (status, output.into_inner().bytes, errors.into_inner().bytes)
+}
+
+/// The start of a process with these arguments after its name, and no terminal.
+fn plain(line: &str) -> Process {
+    let words = format!("highlight|{line}").leak();
+    (Ok(words), Err(NotPresent), Err(NotPresent), false)
 }
 
 /// Opens a file of the tests. The file `broken` fails at its second read.
@@ -212,16 +222,15 @@ const FILES: [(&str, &[u8], u8, &str, &str); 17] = [
     ("-|-", b"fn", 0, "fn", ""),
     ("empty|empty", b"\xff", 0, "", ""),
     ("--|--html", b"\xff", 0, "fn a", ""),
-    ("a|--|--html|--", b"\xff", 7, "fn afn a", "highlight: cannot open --: not found\n"),
-    ("a|none|a", b"", 7, "fn afn a", "highlight: cannot open none: not found\n"),
-    ("secret|bad|a", b"", 7, "fn a",
-        "highlight: cannot open secret: permission denied\nhighlight: bad: input is not UTF-8\n"),
-    ("a|bad|odd", b"", 3, "fn a", "highlight: bad: input is not UTF-8\nhighlight: cannot open odd\n"),
+    ("a|--|--html|--", b"\xff", 2, "fn afn a", "highlight: --: not found\n"),
+    ("a|none|a", b"", 2, "fn afn a", "highlight: none: not found\n"),
+    ("secret|bad|a", b"", 2, "fn a",
+        "highlight: secret: permission denied\nhighlight: bad: input is not UTF-8\n"),
+    ("a|bad|odd", b"", 3, "fn a", "highlight: bad: input is not UTF-8\nhighlight: odd: cannot be opened\n"),
     ("broken|a", b"", 7, "fn a", "highlight: broken: read failed\n"),
-    ("-|a|-", b"\xff", 3, "fn a", "highlight: input is not UTF-8\n"),
-    ("--html|a|b", b"", 2, "", "highlight: --html takes at most one file\n"),
-    ("a|--edition=1999", b"", 2, "",
-        "highlight: invalid value '1999' for --edition (2015, 2018, 2021 or 2024)\n"),
+    ("-|a|-", b"\xff", 3, "fn a", "highlight: -: input is not UTF-8\n"),
+    ("--html|a|b", b"", 2, "", "highlight: --html: takes at most one file\n"),
+    ("a|--edition=1999", b"", 2, "", "highlight: 1999: --edition must be 2015, 2018, 2021 or 2024\n"),
 ];
 
 /// Each file is a document of its own. If a file fails, the next ones are still written, and the first failure
@@ -229,10 +238,8 @@ const FILES: [(&str, &[u8], u8, &str, &str); 17] = [
 #[test]
 fn files() {
     for (line, input, status, output, message) in FILES {
-        let words: &'static str = format!("highlight|{line}").leak();
-        let process = (Ok(words), Err(NotPresent), Err(NotPresent), false);
         let wanted = (status, output.into(), message.into());
-        assert_eq!(run_program(process, input), wanted, "{line}");
+        assert_eq!(run_program(plain(line), input), wanted, "{line}");
     }
 }
 
@@ -243,27 +250,17 @@ fn a_failed_output_ends_the_run() {
         (ErrorKind::BrokenPipe, 0, ""),
         (ErrorKind::Other, 7, "highlight: a: write failed\n"),
     ] {
-        let start = Start {
-            args: Ok(words_of("highlight|a|b|a").into_iter()),
-            no_color: Err(NotPresent),
-            term: Err(NotPresent),
-            is_terminal: false,
-        };
         let opened = std::cell::Cell::new(0);
-        let open_file = |name: &str| {
+        let open_input = |name: &str| {
             opened.set(opened.get() + 1);
             open_file(name)
         };
-        let mut output = BYTES.but_at(2, Turn::Fails(kind)).writer();
-        let (mut input, mut errors) = (WHOLE.reader(b""), WHOLE.writer());
-        let ended = program(
-            Global,
-            start,
-            &mut input,
-            &open_file,
-            &mut output,
-            &mut errors,
-        );
+        let mut streams = Streams {
+            output: BYTES.but_at(2, Turn::Fails(kind)).writer(),
+            errors: WHOLE.writer(),
+        };
+        let ended = program(Global, start_of(plain("a|b|a")), &open_input, &mut streams);
+        let Streams { output, errors } = streams;
         let errors = errors.into_inner().bytes;
         assert_eq!((ended, errors), (status, message.into()), "{kind:?}");
         assert_eq!(
@@ -273,29 +270,13 @@ fn a_failed_output_ends_the_run() {
     }
 }
 
-/// Standard input that has failed is not read again.
+/// After a failed read of standard input, the next inputs are shown.
 #[test]
-fn a_failed_input_is_not_read_again() {
-    let start = Start {
-        args: Ok(words_of("highlight|-|a|-").into_iter()),
-        no_color: Err(NotPresent),
-        term: Err(NotPresent),
-        is_terminal: false,
-    };
-    let mut input = BYTES.but_at(0, Turn::Fails(ErrorKind::Other)).reader(b"fn");
-    let (mut output, mut errors) = (WHOLE.writer(), WHOLE.writer());
-    let status = program(
-        Global,
-        start,
-        &mut input,
-        &open_file,
-        &mut output,
-        &mut errors,
-    );
-    assert_eq!((status, input.into_inner().calls), (7, 1));
-    assert_eq!(output.into_inner().bytes, b"fn a");
-    let line = b"highlight: read failed\n";
-    assert_eq!(errors.into_inner().bytes, [&line[..], line].concat());
+fn a_failed_input_does_not_end_the_run() {
+    let failing = BYTES.but_at(0, Turn::Fails(ErrorKind::Other));
+    let line = b"highlight: -: read failed\n";
+    let wanted = (7, b"fn a".to_vec(), [&line[..], line].concat());
+    assert_eq!(run_with(plain("-|a|-"), failing, b"fn", WHOLE), wanted);
 }
 
 /// Processes, and whether they write `fn` in colours.
@@ -367,14 +348,14 @@ fn runs() {
 /// Processes, standard input, and the expected status and message.
 #[rustfmt::skip]
 const STOPPED: [(Process, &[u8], u8, &str); 8] = [
-    ((Ok("highlight"), Err(NotPresent), Err(NotPresent), true), b"\xff", 3, "input is not UTF-8"),
+    ((Ok("highlight"), Err(NotPresent), Err(NotPresent), true), b"\xff", 3, "-: input is not UTF-8"),
     ((Ok("highlight"), Err(OutOfMemory), Err(NotPresent), true), b"fn", 6, "no memory"),
     ((Ok("highlight"), Err(NotPresent), Err(OutOfMemory), true), b"fn", 6, "no memory"),
     ((Err(ErrorKind::OutOfMemory), Err(NotPresent), Err(NotPresent), true), b"fn", 6, "no memory"),
     ((Err(ErrorKind::InvalidData), Err(NotPresent), Err(NotPresent), true), b"fn", 2, "an argument is not UTF-8"),
-    ((Ok("highlight|x"), Err(NotPresent), Err(NotPresent), true), b"fn", 7, "cannot open x: not found"),
-    ((Ok("highlight|--edition|2027"), Err(NotPresent), Err(NotPresent), true), b"fn", 2, "invalid value '2027' for --edition (2015, 2018, 2021 or 2024)"),
-    ((Ok("highlight|"), Err(NotPresent), Err(NotPresent), true), b"fn", 7, "cannot open : not found"),
+    ((Ok("highlight|x"), Err(NotPresent), Err(NotPresent), true), b"fn", 2, "x: not found"),
+    ((Ok("highlight|--edition|2027"), Err(NotPresent), Err(NotPresent), true), b"fn", 2, "2027: --edition must be 2015, 2018, 2021 or 2024"),
+    ((Ok("highlight|"), Err(NotPresent), Err(NotPresent), true), b"fn", 2, "not found"),
 ];
 
 /// A run that fails at once prints only its message.
@@ -387,18 +368,38 @@ fn errors_and_statuses() {
     }
 }
 
+/// A stream that someone else owns.
+struct Lent<'a, T>(&'a mut T);
+
+impl<T: Read> Read for Lent<'_, T> {
+    fn read(&mut self, buf: &mut [u8]) -> IoResult<usize> {
+        self.0.read(buf)
+    }
+}
+
+impl<T: Write> Write for Lent<'_, T> {
+    fn write(&mut self, buf: &[u8]) -> IoResult<usize> {
+        self.0.write(buf)
+    }
+
+    fn flush(&mut self) -> IoResult<()> {
+        self.0.flush()
+    }
+}
+
 /// Each call of a stream fails in turn. A closed output is not an error.
 #[test]
 fn failing_streams() {
     Program {
         run: &|input, output, errors| {
-            let start = Start {
-                args: Ok(words_of("").into_iter()),
-                no_color: Err(NotPresent),
-                term: Err(NotPresent),
-                is_terminal: true,
+            let process = (Ok(""), Err(NotPresent), Err(NotPresent), true);
+            let input = std::cell::RefCell::new(Some(Lent(input)));
+            let open_input = |_: &str| Ok(input.take().unwrap());
+            let mut streams = Streams {
+                output: Watched::new(Lent(output)),
+                errors: Watched::new(Lent(errors)),
             };
-            program(Global, start, input, &open_file, output, errors)
+            program(Global, start_of(process), &open_input, &mut streams)
         },
         text: b"fn a",
         output: b"\x1b[35mfn\x1b[0m a",

@@ -3,7 +3,7 @@
 
 use crate::job::read_job;
 use crate::run_job::run;
-use program_io::{Fault, Watched, given_words, report};
+use program_io::{Fault, Message, Watched, given_words, report};
 use rattle_std::alloc::Global;
 use rattle_std::env::Args;
 use rattle_std::io::{Read, Write};
@@ -18,7 +18,12 @@ pub fn program<R: Read, W: Write, E: Write>(
     errors: &mut Watched<E>,
 ) -> u8 {
     let outcome = dump(alloc, args, input, output);
-    report("lexdump: ", "bad arguments", &outcome, false, errors)
+    let message = Message {
+        start: "lexdump: ",
+        subject: "",
+        reason: "bad arguments",
+    };
+    report(message, &outcome, false, errors)
 }
 
 /// Reads the arguments and does the job that they describe.

@@ -2,7 +2,7 @@
 //! The reasons why a program stops, with their messages and exit statuses.
 
 use crate::watched::Watched;
-use crate::writing::{write_bytes, write_texts};
+use crate::writing::write_texts;
 use itoa::Buffer;
 use rattle_std::alloc::{AllocError, AllocFailed};
 use rattle_std::io::Write;
@@ -28,6 +28,17 @@ pub enum Fault {
     Write,
 }
 
+/// The parts of a message that do not depend on the fault.
+#[derive(Clone, Copy, Debug)]
+pub struct Message<'a> {
+    /// The start of each message of the program, which names it.
+    pub start: &'a str,
+    /// The argument or the file that the message is about, or "".
+    pub subject: &'a str,
+    /// The reason, if the fault is `Fault::Arguments`.
+    pub reason: &'a str,
+}
+
 /// Returns the exit status of a program that stops for this reason.
 pub fn status(fault: &Fault) -> u8 {
     match fault {
@@ -40,14 +51,12 @@ pub fn status(fault: &Fault) -> u8 {
     }
 }
 
-/// Writes the reason why a run stopped, after the name of the program, and flushes. Returns the exit status.
+/// Writes the reason why a run stopped, and flushes. Returns the exit status.
 ///
-/// `unknown` is the message for invalid arguments. If the run did not stop, or if it is `quiet` and a write failed,
-/// this function writes nothing and returns 0. If `errors` fails, a prefix of the line has been written, and the status
-/// is the same.
+/// If the run did not stop, or if it is `quiet` and a write failed, this function writes nothing and returns 0. If
+/// `errors` fails, a prefix of the line has been written, and the status is the same.
 pub fn report<E: Write>(
-    name: &str,
-    unknown: &str,
+    message: Message<'_>,
     outcome: &Result<(), Fault>,
     quiet: bool,
     errors: &mut Watched<E>,
@@ -60,7 +69,7 @@ pub fn report<E: Write>(
         let _ = errors.flush();
         return 0;
     }
-    let _ = tell(name, unknown, fault, errors);
+    let _ = tell(message, fault, errors);
     status(fault)
 }
 
@@ -74,15 +83,25 @@ fn is_told(fault: &Fault, quiet: bool) -> bool {
 
 /// Writes the line that reports a fault, and flushes.
 fn tell<E: Write>(
-    name: &str,
-    unknown: &str,
+    message: Message<'_>,
     fault: &Fault,
     errors: &mut Watched<E>,
 ) -> Result<(), Fault> {
-    write_bytes(errors, name.as_bytes())?;
+    let Message {
+        start,
+        subject,
+        reason,
+    } = message;
+    write_texts(errors, start, subject, colon(subject))?;
     let mut buffer = Buffer::new();
-    let (before, number, after) = message(fault, unknown);
-    write_texts(errors, before, digits(&mut buffer, number), after)
+    let (before, number, after) = text_of(fault, reason);
+    write_texts(errors, before, digits(&mut buffer, number), after)?;
+    errors.flush().map_err(|_| Fault::Write)
+}
+
+/// Returns what separates the subject of a message from the reason.
+fn colon(subject: &str) -> &'static str {
+    if subject.is_empty() { "" } else { ": " }
 }
 
 /// Returns the digits of the number, if there is one.
@@ -93,11 +112,11 @@ fn digits(buffer: &mut Buffer, number: Option<usize>) -> &str {
     }
 }
 
-/// Returns the message of a fault and its newline in three parts: the text before the index of the edit, that index,
+/// Returns the text of a fault and its newline in three parts: the text before the index of the edit, that index,
 /// and the rest.
-fn message<'a>(fault: &Fault, unknown: &'a str) -> (&'a str, Option<usize>, &'a str) {
+fn text_of<'a>(fault: &Fault, reason: &'a str) -> (&'a str, Option<usize>, &'a str) {
     match fault {
-        Fault::Arguments => (unknown, None, "\n"),
+        Fault::Arguments => (reason, None, "\n"),
         Fault::NotUtf8 => ("input is not UTF-8", None, "\n"),
         Fault::TooLong => ("input too long", None, "\n"),
         Fault::EditRange { at } => ("edit ", Some(*at), ": bad range\n"),

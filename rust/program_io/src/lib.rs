@@ -9,7 +9,7 @@ mod watched;
 mod words;
 mod writing;
 
-pub use fault::{Fault, report, status};
+pub use fault::{Fault, Message, report, status};
 pub use reading::read_all;
 pub use run::{put, read_text};
 pub use watched::Watched;

@@ -36,11 +36,11 @@ pub fn write_bytes<W: Write>(output: &mut Watched<W>, bytes: &[u8]) -> Result<()
     Ok(())
 }
 
-/// Writes three texts, one after another, and flushes.
+/// Writes three texts, one after another.
 ///
 /// # Errors
 ///
-/// Returns `Fault::Write` if a write or the flush failed. A prefix of the texts has then been written.
+/// Returns `Fault::Write` if a write failed. A prefix of the texts has then been written.
 pub fn write_texts<W: Write>(
     output: &mut Watched<W>,
     one: &str,
@@ -49,5 +49,5 @@ pub fn write_texts<W: Write>(
 ) -> Result<(), Fault> {
     write_bytes(output, one.as_bytes())?;
     write_bytes(output, two.as_bytes())?;
-    write_all(output, three.as_bytes())
+    write_bytes(output, three.as_bytes())
 }

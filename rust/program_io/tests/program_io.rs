@@ -4,8 +4,8 @@ mod failing;
 
 use failing::{BYTES, Script, Turn, WHOLE, Writer, words_of};
 use program_io::{
-    Fault, Watched, given_words, past_name, put, read_all, read_text, report, status, write_all,
-    write_bytes, write_texts,
+    Fault, Message, Watched, given_words, past_name, put, read_all, read_text, report, status,
+    write_all, write_bytes, write_texts,
 };
 use rattle_std::alloc::Global;
 use rattle_std::io::ErrorKind::{BrokenPipe, Interrupted, Other};
@@ -84,8 +84,8 @@ type Call = fn(&mut Watched<Writer>) -> Result<(), Fault>;
 const WRITES: [(Call, usize); 5] = [
     (|output| write_bytes(output, b"ab"), 0),
     (|output| write_all(output, b"ab"), 1),
-    (|output| write_texts(output, "a", "", "b"), 1),
-    (|output| write_texts(output, "", "ab", ""), 1),
+    (|output| write_texts(output, "a", "", "b"), 0),
+    (|output| write_texts(output, "", "ab", ""), 0),
     (|output| put(output, "ab"), 1),
 ];
 
@@ -139,28 +139,39 @@ const FAULTS: [(Fault, u8, &str); 10] = [
 /// neither does a quiet run whose write failed.
 #[test]
 fn statuses_and_messages() {
-    let told = |outcome, is_quiet, script: Script| {
+    let told = |subject, outcome, is_quiet, script: Script| {
         let mut errors = script.writer();
-        let answer = report("name: ", "no such words", &outcome, is_quiet, &mut errors);
+        let message = Message {
+            start: "name: ",
+            subject,
+            reason: "no such words",
+        };
+        let answer = report(message, &outcome, is_quiet, &mut errors);
         let errors = errors.into_inner();
         (answer, errors.bytes, errors.flushes)
     };
     for (fault, wanted, line) in FAULTS {
         assert_eq!(status(&fault), wanted, "{fault:?}");
         let said = (wanted, line.as_bytes().to_vec(), 1);
-        assert_eq!(told(Err(fault), false, BYTES), said, "{fault:?}");
+        assert_eq!(told("", Err(fault), false, BYTES), said, "{fault:?}");
         let quietly = match fault {
             Fault::Write => (0, vec![], 1),
             _ => said,
         };
-        assert_eq!(told(Err(fault), true, BYTES), quietly, "{fault:?}");
+        assert_eq!(told("", Err(fault), true, BYTES), quietly, "{fault:?}");
         for turn in [FAILED, Turn::MovesNothing] {
             let script = BYTES.but_at(1, turn);
-            assert_eq!(told(Err(fault), false, script), (wanted, b"n".to_vec(), 0));
+            assert_eq!(
+                told("", Err(fault), false, script),
+                (wanted, b"n".to_vec(), 0)
+            );
         }
     }
+    let line = b"name: main.rs: no such words\n".to_vec();
+    let named = told("main.rs", Err(Fault::Arguments), false, BYTES);
+    assert_eq!(named, (2, line, 1));
     for is_quiet in [false, true] {
-        assert_eq!(told(Ok(()), is_quiet, BYTES), (0, vec![], 0));
+        assert_eq!(told("", Ok(()), is_quiet, BYTES), (0, vec![], 0));
     }
 }
 

@@ -1,10 +1,7 @@
-use Rattle.std.proofs.{Common.{◌++◌, List, ℕ, refl, ap, Result, OnErr, arith}, lemmas.Grind.{common_steps}}
+use Rattle.std.proofs.Common.{◌++◌, List, ℕ, refl, ap}
 use Rattle.std.proofs.lemmas.Result.{on_err_weaker}
-use Rattle.program_io.proofs.KnownLemmas.{front_first, front_more, front_last}
+use Rattle.program_io.proofs.KnownLemmas.{front_first, front_last, front_more, on_err}
 use Rattle.program_io.proofs.writing.write_texts.Goals as goal
-
-on_err : {T E P : Type 0} (result : Result T E) → P → OnErr result P
-on_err result p = grind (arith, common_steps)
 
 pub returns-in_err-write_bytes-2-clause-err : goal.returns-in_err-write_bytes-2-clause-err
 returns-in_err-write_bytes-2-clause-err g c =
@@ -18,4 +15,4 @@ pub returns-clause-err : goal.returns-clause-err
 returns-clause-err g c =
     on_err_weaker _ (front_last _ _ _ _ c.as_bytes.result.now c.as_bytes-2.result.now c.as_bytes-3.result.now _
     (rw (c.as_bytes.ensures.value, c.as_bytes-2.ensures.value, c.as_bytes-3.ensures.value) refl)
-    c.in_ok-write_bytes.ensures.ok c.in_ok-write_bytes-2.ensures.ok) c.write_all.ensures.err
+    c.in_ok-write_bytes.ensures.ok c.in_ok-write_bytes-2.ensures.ok) c.write_bytes-3.ensures.err

@@ -4,7 +4,7 @@ use Rattle.std.specs.Prelude.{if◌then◌else◌, nat_eq}
 use Rattle.std.proofs.lemmas.Grind.{common_steps}
 use Rattle.std.specs.{Option.{option_map, MatchOption}, Str.Pattern.{FindsTextPrefix, StripsPrefix}}
 use denote.Ref.{Bor}
-use Rattle.highlight_run.specs.Words.{strip}
+use Rattle.highlight_run.specs.Job.{strip}
 
 strip-at : (part rest : List ℕ) → strip part (part ++ rest) ≡ Some rest
 strip-at [] rest = refl
