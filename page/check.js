@@ -1,8 +1,8 @@
 // The self-test of the page: index.html#check runs it, and shows `check: passed` with the number of checks, or an
 // error.
 'use strict';
-const PIECES = ['a', 'r', 'k', '1', '.', '"', '/*', '*/', "'", 'é', '😀', '#', ' ', '\n', '\r', '0x', 'r#"', '"#', '---', '//',
-  '\\', 'b', '\u{feff}', '&<>', '\u{1f}', '\u{2028}'];
+const PIECES = ['a', 'r', 'k', '1', '.', '"', '/*', '*/', "'", 'é', '😀', '#', ' ', '\n', '\r', '0x', 'r#"', '"#', '---',
+  '//', '\\', 'b', '\u{feff}', '&<>', '\u{1f}', '\u{2028}'];
 const STARTS = ['', 'fn f<\'a>(x: &\'a str) -> u8 { 1.5e3; r#"é😀"# /* a */ } // b\n',
   '#!/bin/sh\n---\nx = 1\n---\n#!/y\n',
   '"\\u{1f600}\\q" \'r#a k#b c"\\xff" #"x"# 0b 1e b\'é\' /* & < > */\n',
@@ -13,7 +13,8 @@ const STARTS = ['', 'fn f<\'a>(x: &\'a str) -> u8 { 1.5e3; r#"é😀"# /* a */ }
 const WRONG = 'nothing: it is wrong';
 const LITERALS = [["'a'", '1 character: "a"'], ["'é'x", '1 character: "\\u{e9}"'], [`'"'`, '1 character: "\\""'],
   ["'ab'", WRONG],
-  ["b'\\xff'", '1 byte: "\\xff"'], ["b'é'", WRONG], ['"aé\\n"', '3 characters: "a\\u{e9}\\n"'], ['""', '0 characters: ""'],
+  ["b'\\xff'", '1 byte: "\\xff"'], ["b'é'", WRONG], ['"aé\\n"', '3 characters: "a\\u{e9}\\n"'],
+  ['""', '0 characters: ""'],
   ['"a\\\n\n  b"', '2 characters: "ab"'], ['"\\q"', WRONG], ['r"\\n"', '2 characters: "\\\\n"'],
   ['r##"a"#b"##', '4 characters: "a\\"#b"'], ['b"a\\xff"', '2 bytes: "a\\xff"'], ['b"é"', WRONG],
   ['br#"\\"#', '1 byte: "\\\\"'],

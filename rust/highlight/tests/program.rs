@@ -27,7 +27,8 @@ const ROWS: [Row; 34] = [
     (r#"TERM=dumb script -qec "$P < t" /dev/null < /dev/null"#, "fn a", "", 0),
     (r#"TERM=xterm script -qec "$P < t > o" /dev/null < /dev/null; cat o"#, "fn a", "", 0),
     // Each file is lexed as a document.
-    (r"printf '\357\273\277#!x\r\n---\r\n---\r\nfn\r\n' > u; $P u t <&-", "\u{feff}#!x\r\n---\r\n---\r\nfn\r\nfn a", "", 0),
+    (r"printf '\357\273\277#!x\r\n---\r\n---\r\nfn\r\n' > u; $P u t <&-",
+        "\u{feff}#!x\r\n---\r\n---\r\nfn\r\nfn a", "", 0),
     ("printf '##a' > ./--raw; $P --edition=2018 -- --raw <&-", "##a", "", 0),
     ("printf b | $P t - t", "fn abfn a", "", 0),
     ("$P t none t <&-", "fn afn a", "none: not found", 2),

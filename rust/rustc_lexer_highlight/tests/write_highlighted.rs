@@ -80,8 +80,11 @@ const CONTROLS: [Row<'_>; 28] = [
     (NoColours, E2024, "a;\r", "a;␍"),
     // A token can end between a carriage return and a newline.
     (NoColours, E2024, "let c = '\r\n", "let c = ' [<- unterminated character literal: missing closing quote]\r\n"),
-    (Colours, E2024, "'\r\n", "\x1b[4;31m\x1b[32m'\x1b[0m\x1b[0;31m [<- unterminated character literal: missing closing quote]\x1b[0m\r\n"),
-    (Html, E2024, "'\r\n", "<mark title=\"unterminated character literal: missing closing quote\"><span class=\"text\">'</span></mark>&#13;\n"),
+    (Colours, E2024, "'\r\n",
+        "\x1b[4;31m\x1b[32m'\x1b[0m\x1b[0;31m [<- unterminated character literal: missing closing quote]\x1b[0m\r\n"),
+    (Html, E2024, "'\r\n",
+        "<mark title=\"unterminated character literal: missing closing quote\"><span class=\"text\">'</span></mark>\
+        &#13;\n"),
     (Raw, E2024, "'\r\n", "' [<- unterminated character literal: missing closing quote]\r\n"),
     (NoColours, E2024, "b'\\\r\n", "b'\\ [<- unterminated byte literal: missing closing quote]\r\n"),
     (NoColours, E2024, "'(\r\r\n", "'( [<- unterminated character literal: missing closing quote]␍\r\n"),
