@@ -180,7 +180,7 @@ fn several_files() {
             1,
         ),
         (
-            &["valid.rs", "--", "-two.rs"],
+            &["--", "valid.rs", "-two.rs"],
             one.replace("one", "-two"),
             1,
         ),
@@ -240,6 +240,10 @@ fn wrong_arguments() {
         (
             &["--edition=", "one.rs"],
             format!("unknown edition '': it can be {years}"),
+        ),
+        (
+            &["--edition=2021=", "one.rs"],
+            format!("unknown edition '2021=': it can be {years}"),
         ),
         (
             &["--edition", "one.rs"],
@@ -312,6 +316,7 @@ fn output_that_fails() {
             0,
         ),
         ("$P many.rs > /dev/full", full, 2),
+        ("$P --help > /dev/full", full, 2),
         ("$P valid.rs > /dev/full", "", 0),
         ("$P missing.rs 2> /dev/full", "", 2),
     ] {

@@ -14,7 +14,7 @@ fn text(text: &str) -> String {
 type OnText = fn(&mut String) -> Result<(), AllocError>;
 
 /// Calls on `aéb`, and the text after each if no allocation fails.
-const ON_TEXTS: [(OnText, &str); 9] = [
+const ON_TEXTS: [(OnText, &str); 10] = [
     (|text| text.push('é'), "aébé"),
     (|text| text.push_str("a longer text"), "aéba longer text"),
     (
@@ -31,6 +31,7 @@ const ON_TEXTS: [(OnText, &str); 9] = [
     (|text| text.reserve(1000), "aéb"),
     (|text| text.push_str(""), "aéb"),
     (|text| text.replace_range(1..3, ""), "ab"),
+    (|text| text.replace_range(0..3, "123"), "123b"),
 ];
 
 #[test]
@@ -55,7 +56,10 @@ fn texts() {
     assert_eq!((held.as_str(), &*held.to_string()), ("aé", "aé"));
     // A width counts characters, as for every text in Rust.
     assert_eq!(std::format!("{held:>4}|{held:-<3}"), "  aé|aé-");
-    assert_eq!(std::string::String::from(held), "aé");
+    let buffer = held.as_str().as_ptr();
+    let owned = std::string::String::from(held);
+    assert_eq!((owned.as_str(), owned.as_ptr()), ("aé", buffer));
+    assert_eq!(String::from(owned).as_str().as_ptr(), buffer);
     let mut bytes = Vec::new(Global);
     bytes.extend_from_slice("aé".as_bytes()).unwrap();
     let held = given(0, || String::from_utf8(bytes));
@@ -117,6 +121,15 @@ fn lists() {
     assert_eq!(full.len(), 0);
 }
 
+/// A list dereferences to its items, and a text to its bytes.
+#[test]
+fn dereferenced() {
+    let (held, mut items) = (text("aéb"), list());
+    assert_eq!((&*held, &*items), ("aéb", &[1, 2, 2][..]));
+    items[2] = 7;
+    assert_eq!(items.as_slice(), [1, 2, 7]);
+}
+
 /// If a call has spare capacity for only a part of its input, it fails and nothing changes.
 #[test]
 fn too_little_room() {
@@ -155,6 +168,16 @@ fn reserved_room() {
     held.reserve(60).unwrap();
     let more = "b".repeat(60);
     assert_eq!(given(0, || held.push_str(&more)), Ok(()));
+}
+
+/// `reserve_exact` does not double the capacity.
+#[test]
+fn exact_reservation() {
+    let mut items = list();
+    items.resize(1000, 0).unwrap();
+    items.shrink_to_fit();
+    items.reserve_exact(1).unwrap();
+    assert!((1001..1100).contains(&items.capacity()));
 }
 
 /// Growth is amortized: a thousand appending calls allocate about ten times.

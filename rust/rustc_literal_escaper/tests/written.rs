@@ -125,7 +125,7 @@ fn reserved_capacity() {
 fn units_of_c_strings() {
     let char = |c| MixedUnit::Char(NonZero::new(c).unwrap());
     let byte = |byte| MixedUnit::HighByte(NonZero::new(byte).unwrap());
-    for c in ['\u{1}', 'a', '\x7f', '\u{80}', 'é', '\u{ff}', '😀'] {
+    for c in ['\u{1}', 'A', 'a', '\x7f', '\u{80}', 'é', '\u{ff}', '😀'] {
         assert_eq!(MixedUnit::from(NonZero::new(c).unwrap()), char(c));
         assert_eq!(MixedUnit::try_from(c), Ok(char(c)));
     }

@@ -4,7 +4,7 @@ use crate::made::{counts, edit};
 use crate::random::Random;
 use crate::{BITS, check};
 use rustc_lexer::{
-    EditSequenceError, EditStop, Edition, LexedDocument, LexedText, Relexed, tokenize_in,
+    EditError, EditSequenceError, EditStop, Edition, LexedDocument, LexedText, Relexed, tokenize_in,
 };
 
 /// More edits than a `u16` counts.
@@ -231,6 +231,20 @@ fn a_long_list_with_a_rejected_edit() {
     }
     stops!(LexedText);
     stops!(LexedDocument);
+}
+
+/// Without its details, the error of a list is the error of a single edit.
+#[test]
+fn errors_without_details() {
+    for (stop, error) in [
+        (EditStop::Range { at: 1 }, EditError::Range),
+        (EditStop::TooLong { at: 1 }, EditError::TooLong),
+        (EditStop::Memory { at: 1 }, EditError::Memory),
+    ] {
+        let relexed = counts(0, 1, 0);
+        assert_eq!(EditError::from(stop), error);
+        assert_eq!(EditError::from(EditSequenceError { stop, relexed }), error);
+    }
 }
 
 /// The edits before a rejected one stay applied. The error names the first rejected edit.
