@@ -398,7 +398,8 @@ fn token_list_of_the_caller() {
     assert_eq!(relex.fill(&mut steps, &mut buffer), 0);
     assert_eq!(relex.next(&mut steps), None);
     assert_eq!(relex.counts(), counts(0, 5, 2));
-    assert!(format!("{relex:?}").starts_with("Relex"));
+    let wanted = format!("Relex {{ state: {:?}, .. }}", relex.state());
+    assert_eq!(format!("{relex:?}"), wanted);
 }
 
 /// Changes that cannot have resulted in the text, and states that no call produces.
