@@ -1,6 +1,6 @@
 pub mod Batch
+pub mod Errors
 pub mod Escapes
-pub mod EscapeErrors
 pub mod Head
 pub mod Highlighted
 pub mod Numbers

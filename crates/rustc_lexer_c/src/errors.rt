@@ -6,7 +6,7 @@ ghost use Rattle.rustc_lexer.specs.declared.token.Token.{Token};
 ghost use Rattle.rustc_lexer.specs.LanguageCalls.{edition_of_year};
 ghost use Rattle.rustc_lexer_highlight.specs.Class.{class_of};
 ghost use Rattle.rustc_lexer_highlight.specs.TokenError.{token_error};
-ghost use Rattle.rustc_lexer_c.specs.EscapeErrors as spec;
+ghost use Rattle.rustc_lexer_c.specs.Errors as spec;
 ghost use Rattle.rustc_lexer_c.specs.Highlighted.{IsFront};
 ghost use Rattle.rustc_lexer_c.specs.Numbers.{token_numbers};
 ghost use Rattle.rustc_lexer_c.specs.declared.status.Refusal.TheVariants.{BadEdition, SmallBuffer};
