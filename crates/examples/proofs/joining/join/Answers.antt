@@ -50,7 +50,4 @@ returns-clause-joined c = whole c.args.edition c.args.pieces.now c.loop-piece.pi
     (string_bytes c.into_string.result) c.loop-piece-test.false c.into_string.ensures c.loop-piece.invariant.joined
 
 pub returns-clause-tokens : goal.returns-clause-tokens
-returns-clause-tokens c =
-    tokens_of_joined c.args.edition
-    (whole c.args.edition c.args.pieces.now c.loop-piece.piece-index c.loop-piece.joined.text
-    (string_bytes c.into_string.result) c.loop-piece-test.false c.into_string.ensures c.loop-piece.invariant.joined)
+returns-clause-tokens c = tokens_of_joined c.args.edition (returns-clause-joined c)
