@@ -200,6 +200,11 @@ fn a_panic_at_each_step() {
                 "no step is left"
             );
             has_no_tokens!(lexed, "cabd");
+            // A new text has too few steps, and then the text is the new one.
+            let mut lexed = $Kept::try_with("ab", Few(3)).unwrap();
+            let set_text = || lexed.set_text("acdb");
+            assert_eq!(panic_message(set_text), "no step is left");
+            has_no_tokens!(lexed, "acdb");
             // The first edit of a list makes its two steps, and the second has none left.
             for each in [false, true] {
                 let mut lexed = $Kept::try_with("a", Few(3)).unwrap();
