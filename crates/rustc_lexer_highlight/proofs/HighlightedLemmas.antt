@@ -80,10 +80,9 @@ module _ {W : Type 0} (took : W → List ℕ → W → Type 0) where
       → OnOk r (WritesInCalls took v (with_markup format (Own Comment line ∷ [])) u)
       → OnOk r (WritesInCalls took w (with_markup format (start_parts text)) u)
   writes_start r format text mark line n w v u is front past before after =
-      let same : n - 0 ≡ byte_order_mark_len text = omega arith in
-      let is_mark : mark ≡ take (byte_order_mark_len text) text = front ∙ ap (λ (k : ℕ). take k text) same in
-      let is_line : line ≡ drop (byte_order_mark_len text) text = past ∙ ap (λ (k : ℕ). drop k text) is in
-      on_ok_weaker r (λ wrote. rw (sym is_mark, sym is_line)
+      let all : n - 0 ≡ n = omega arith in
+      let is_mark : mark ≡ take n text = front ∙ ap (λ (k : ℕ). take k text) all in
+      on_ok_weaker r (λ wrote. rw (← is, ← is_mark, ← past)
       (writes_parts took format (Own Plain mark ∷ []) (Own Comment line ∷ []) w v u before wrote)) after
 
   -- Writing the text before the first token and then the tokens writes the document.

@@ -1,12 +1,12 @@
 -- The text of a part with its markup, and the calls that write it.
 use Rattle.std.proofs.Common.{◌≡◌, ℕ, zero, suc, ◌%◌, ◌==◌, Bool, true, false, List, [], ◌∷◌, ◌++◌, length, take, drop}
 use Rattle.std.proofs.Common.{refl, sym, ap, subst, ◌∙◌, arith, append_assoc, not, take-append-drop, ◌-◌, append-nil}
-use Rattle.std.proofs.Common.{true≢false, ◌<◌, codes, IsCharBoundary}
+use Rattle.std.proofs.Common.{true≢false, ◌<◌, IsCharBoundary}
 use Rattle.std.proofs.Math.Seq.{drop-length, split_at}
 use Rattle.std.specs.{Prelude.{decimal}, Fmt.{digit_glyph, digits, digits_onto, WritesInCalls}}
 use Rattle.std.proofs.lemmas.{Bool.{eqb-true, ne_eqb}, List.Concat.{flat_map-append}, Grind.{common_steps}}
 use Rattle.rustc_literal_escaper.specs.declared.error.EscapeError.{EscapeError}
-use Rattle.rustc_lexer_highlight.specs.declared.{class.Class.{Class, TheVariants.{Comment}}, errors.TokenError.{TokenError}, format.{Format.{Format, TheVariants.{Html}}}}
+use Rattle.rustc_lexer_highlight.specs.declared.{class.Class.{Class}, errors.TokenError.{TokenError}, format.{Format.{Format, TheVariants.{Html}}}}
 use Rattle.rustc_lexer_highlight.specs.{Escape.{escaped, escaped_byte, untagged, untagged_from}, TokenError.{message}}
 use Rattle.rustc_literal_escaper.specs.Numbers.{error_message}
 use Rattle.rustc_lexer_highlight.specs.Markup.{class_open, class_close, error_open, error_close}
@@ -117,7 +117,7 @@ module _ {W : Type 0} (took : W → List ℕ → W → Type 0) where
   pub writes_return : (format : Format) (error : TokenError) (class : Class) (text next line : List ℕ) (w0 w1 w2 : W)
       → is_cut_line_end text next ≡ true → line ≡ take (length text - 1 - 0) text
       → WritesInCalls took w0 (with_markup format (error_parts error class line)) w1
-      → WritesInCalls took w1 (shown format Comment (codes "\r")) w2
+      → WritesInCalls took w1 (written format Return) w2
       → WritesInCalls took w0 (with_markup format (malformed_parts error class text next)) w2
   writes_return format error class text next line w0 w1 w2 ends front a b =
       let same : length text - 1 - 0 ≡ length text - 1 = omega arith in
@@ -128,17 +128,14 @@ module _ {W : Type 0} (took : W → List ℕ → W → Type 0) where
 
   -- Writing the first line with the markup of the error, and then the rest, writes a token with an error.
   pub writes_error : (format : Format) (error : TokenError) (class : Class) (text line rest : List ℕ) (n : ℕ)
-      (w0 w1 w2 w3 w4 : W) → n ≡ first_line text → line ≡ take (n - 0) text → rest ≡ drop n text
+      (w0 w1 w2 w3 w4 : W) → n ≡ first_line text → line ≡ take n text → rest ≡ drop n text
       → WritesInCalls took w0 (error_open format error) w1
       → WritesInCalls took w1 (with_markup format (Own class line ∷ [])) w2
       → WritesInCalls took w2 (error_close format error) w3
       → WritesInCalls took w3 (with_markup format (Own class rest ∷ [])) w4
       → WritesInCalls took w0 (with_markup format (error_parts error class text)) w4
   writes_error format error class text line rest n w0 w1 w2 w3 w4 is front past a b d e =
-      let all : n - 0 ≡ n = omega arith in
-      let is_line : line ≡ take (first_line text) text = front ∙ ap (λ (k : ℕ). take k text) (all ∙ is) in
-      let is_rest : rest ≡ drop (first_line text) text = past ∙ ap (λ (k : ℕ). drop k text) is in
       let whole = writes_both took w0 w1 w4 _ _ a (
       writes_parts format (Own class line ∷ []) (Close error ∷ Own class rest ∷ []) w1 w2 w4 b
       (writes_both took w2 w3 w4 _ _ d e)) in
-      rw (sym is_line, sym is_rest) whole
+      rw (← is, ← front, ← past) whole

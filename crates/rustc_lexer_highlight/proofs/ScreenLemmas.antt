@@ -1,6 +1,6 @@
 -- The output for a terminal: the calls that write it, and that it contains no control characters other than tabs and
 -- line endings.
-use Rattle.std.proofs.Common.{◌≡◌, ℕ, zero, suc, ◌+◌, ◌<◌, ◌≤◌, ◌==◌, Bool, true, false, true≢false, ◌&&◌, ◌||◌, not}
+use Rattle.std.proofs.Common.{◌≡◌, ℕ, ◌+◌, ◌<◌, ◌≤◌, ◌==◌, Bool, true, false, ◌&&◌, ◌||◌, not}
 use Rattle.std.proofs.Common.{inl, inr, List, [], ◌∷◌, ◌++◌, length, take, drop, get_or, refl, sym, ap, subst, ◌∙◌}
 use Rattle.std.proofs.Common.{arith, length-append, length-drop, take-append-drop, Some, None, IsCharBoundary}
 use Rattle.std.specs.{Char.{encode_utf8, is_control}, Fmt.{WritesInCalls}, List.{list_all, list_any}}
@@ -8,8 +8,8 @@ use Rattle.std.specs.Str.{IsUtf8, chars, encode_utf8_all}
 use Rattle.std.proofs.lemmas.Bool.{cases_Bool, cases_lt, false_from_ne_true, Decides.{nat_tests}}
 use Rattle.std.proofs.lemmas.Grind.{common_steps}
 use Rattle.std.proofs.lemmas.List.{get_or-append-add, get_or-take, length-take}
-use Rattle.std.proofs.lemmas.Str.{encode_ascii, IsUtf8-drop, IsUtf8-past_char, IsUtf8-take, chars-append}
-use Rattle.std.proofs.lemmas.Str.{chars_past_char, encodes-append, encodes-chars, length-encode, len_utf8_bounds}
+use Rattle.std.proofs.lemmas.Str.{encode_ascii, IsUtf8-take, chars-append}
+use Rattle.std.proofs.lemmas.Str.{encodes-append, encodes-chars, length-encode, len_utf8_bounds}
 use Rattle.memchr.specs.Find.{IsFirstByte}
 use Rattle.rustc_lexer_highlight.specs.declared.class.Class.{Class}
 use Rattle.rustc_lexer_highlight.specs.Screen.{at_line_end, is_layout, is_replaceable, is_shown, may_begin_replaceable}
@@ -37,8 +37,6 @@ one_shown class c cs = elim (cases_Bool (is_control c && not (is_layout class c 
 pub all_shown : (class : Class) (cs : List ℕ) → list_all is_shown (seen class cs) ≡ true
 all_shown class [] = refl
 all_shown class (c ∷ cs) = rw (one_shown class c cs) (all_shown class cs)
-
-pub ruleset byte_tests = (nat_tests)
 
 -- ---- a text without replaceable characters
 
@@ -162,7 +160,3 @@ module _ {W : Type 0} (took : W → List ℕ → W → Type 0) where
       let same : encode_utf8_all (seen class (chars bs)) ≡ bs = ap encode_utf8_all (seen_same class (chars bs) none)
       ∙ encodes-chars bs utf8 in
       rw same (one_call took w v bs call)
-
-pub ruleset seen_lemmas = (IsUtf8-past_char)
-
-pub ruleset first_lemmas = (chars_past_char, length-encode, len_utf8_bounds, length-append)

@@ -4,11 +4,10 @@ use Rattle.std.specs.Prelude.{slice_index, take}
 use Rattle.std.specs.List.{flat_map, position_or_len}
 use Rattle.std.specs.Str.{byte, chars, encode_utf8_all}
 use Rattle.rustc_lexer_highlight.specs.declared.class.Class.{Class}
-use Rattle.rustc_lexer_highlight.specs.declared.class.Class.TheVariants.{Comment}
 use Rattle.rustc_lexer_highlight.specs.declared.errors.TokenError.{TokenError}
 use Rattle.rustc_lexer_highlight.specs.declared.format.Format.{Format}
 use Rattle.rustc_lexer_highlight.specs.declared.format.Format.TheVariants.{Html, Colours, NoColours, Raw}
-use Rattle.rustc_lexer_highlight.specs.Escape.{escaped}
+use Rattle.rustc_lexer_highlight.specs.Escape.{entity, escaped}
 use Rattle.rustc_lexer_highlight.specs.Screen.{seen}
 use Rattle.rustc_lexer_highlight.specs.Markup.{class_open, class_close, error_open, error_close}
 
@@ -63,7 +62,8 @@ written format (Own class (b ∷ bs)) =
     class_open format class ++ (shown format class (b ∷ bs) ++ class_close format class)
 written format (Open error) = error_open format error
 written format (Close error) = error_close format error
-written format Return = shown format Comment (codes "\r")
+written Html Return = entity (byte "\r")
+written format Return = codes "\r"
 
 -- Returns the output for some parts.
 abbrev pub with_markup : Format → List Part → List ℕ

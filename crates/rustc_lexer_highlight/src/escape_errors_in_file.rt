@@ -8,7 +8,7 @@ ghost use Rattle.rustc_lexer_highlight.specs.LineEnds.{escape_errors_in_file, un
 ghost use Rattle.rustc_lexer_highlight.specs.model.LineEnds.{single_left};
 
 use crate::line_ends::{FileChars, FileElements, file_elements};
-use crate::literal::{first_offset, is_single};
+use crate::literal::first_offset;
 use rustc_literal_escaper::{EscapeError, EscapeErrors, Mode};
 use std::iter::Iterator;
 use std::marker::Model;
@@ -66,10 +66,10 @@ impl<'a> EscapeErrorsInFile<'a> {
         };
         if first_offset(b'\r', contents) == contents.len() {
             found.errors = EscapeErrors::new(contents, mode);
-        } else if is_single(mode) {
-            found.alone = single_error(contents, mode);
-        } else {
+        } else if mode.in_double_quotes() {
             found.elements = file_elements(contents, is_raw(mode));
+        } else {
+            found.alone = single_error(contents, mode);
         }
         found
     }

@@ -6,9 +6,9 @@ ghost use Rattle.rustc_lexer.specs.Classes.{Fits, begins, is_horizontal_whitespa
 ghost use Rattle.rustc_lexer_highlight.specs.Frontmatter as spec;
 
 use crate::errors::TokenError;
-use crate::screen::split_first;
 use memchr::memrchr;
 use rustc_lexer::{is_id_continue, is_id_start};
+use rustc_literal_escaper::split_first;
 
 /// Returns the error at the end of a frontmatter that starts with its dashes, or `None` if a line with as many dashes
 /// closes it.
@@ -105,7 +105,7 @@ fn is_blank(c: char) -> bool
 }
 
 /// Returns the text after its longest prefix of characters that pass the test.
-#[tactic(auto, using(crate::proofs::FrontmatterLemmas::skip_on, crate::proofs::FrontmatterLemmas::skip_ends, crate::proofs::FrontmatterLemmas::skip_all, crate::proofs::ScreenLemmas::seen_lemmas, std::proofs::lemmas::Grind::common_steps))]
+#[tactic(auto, using(crate::proofs::FrontmatterLemmas::skip_on, crate::proofs::FrontmatterLemmas::skip_ends, crate::proofs::FrontmatterLemmas::skip_all, std::proofs::lemmas::Grind::common_steps))]
 fn skip<F: Fn(char) -> bool>(text: &str, test: F) -> &str
     requires callable { F.IsAlwaysCallable test }
     ensures { (class : ℕ → Bool) → ((c : ℕ) (b : Bool) → F.post test c b → b ≡ class c)

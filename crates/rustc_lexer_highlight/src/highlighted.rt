@@ -5,14 +5,15 @@ ghost use Rattle.rustc_lexer.specs.Classes.{Fits};
 ghost use Rattle.rustc_lexer.specs.LanguageText.{part};
 ghost use Rattle.rustc_lexer.specs.Tokens.{tokens_of};
 ghost use Rattle.rustc_lexer_highlight.specs.Escape.{unescaped, untagged};
-ghost use Rattle.rustc_lexer_highlight.specs.Highlighted.{document_parts, error_in, highlighted, marked_tokens, start_parts, token_parts};
+ghost use Rattle.rustc_lexer_highlight.specs.Highlighted.{document_parts, error_in, highlighted, marked_tokens};
+ghost use Rattle.rustc_lexer_highlight.specs.Highlighted.{start_parts, token_parts};
 ghost use Rattle.rustc_lexer_highlight.specs.Part.{with_markup, without_markup};
 
 use crate::class::{Class, class_of};
 use crate::errors::{TokenError, token_error};
 use crate::format::Format;
 use crate::literal::{mode_of, write_literal};
-use crate::part::{write_in_class, write_malformed};
+use crate::part::{TokenInText, write_in_class, write_malformed};
 use rustc_lexer::{Edition, TokenKind, byte_order_mark_len, tokenize_document, tokenize_in};
 use std::fmt;
 
@@ -40,7 +41,12 @@ pub fn write_highlighted<W: fmt::Write>(
     write_start(format, &text[..start], output)?;
     for token in tokens {
         let (piece, next) = rest.split_at(token.len as usize);
-        write_token(format, edition, token.kind, piece, next, output)?;
+        let found = TokenInText {
+            kind: token.kind,
+            text: piece,
+            next,
+        };
+        write_token(format, edition, found, output)?;
         rest = next;
     }
     Ok(())
@@ -81,30 +87,35 @@ pub fn write_first_tokens<W: fmt::Write>(
             break;
         };
         let (piece, next) = rest.split_at(token.len as usize);
-        write_token(format, edition, token.kind, piece, next, output)?;
+        let found = TokenInText {
+            kind: token.kind,
+            text: piece,
+            next,
+        };
+        write_token(format, edition, found, output)?;
         rest = next;
         left -= 1;
     }
     Ok(())
 }
 
-/// Writes a token with the markup of its class. `next` is the text after it. If the token has an error, the markup of the error is around its first
+/// Writes a token with the markup of its class. If the token has an error, the markup of the error is around its first
 /// line. In a literal that has no error of its kind, each escape and each error in its contents has its own markup.
 fn write_token<W: fmt::Write>(
     format: Format,
     edition: Edition,
-    kind: TokenKind,
-    text: &str,
-    next: &str,
+    token: TokenInText<'_>,
     output: &mut W,
 ) -> fmt::Result
-    requires fits { Fits text.now }
+    requires fits { Fits token.text.now }
     ensures { OnOk result (WritesInCalls W.write_str_gives output.old
-        (with_markup format (token_parts edition kind text.now next.now)) output.new) }
+        (with_markup format (token_parts edition token.entry.kind
+        token.entry.text.now token.entry.next.now)) output.new) }
 {
+    let TokenInText { kind, text, .. } = token;
     let class = class_of(kind, text, edition);
     if let Some(error) = error_in(kind, text, edition) {
-        return write_malformed(format, error, class, text, next, output);
+        return write_malformed(format, error, class, token, output);
     }
     match mode_of(kind) {
         None => write_in_class(format, class, text, output),
@@ -114,13 +125,16 @@ fn write_token<W: fmt::Write>(
 
 /// Returns the error of a token in an edition, or `None` if it has none. Before 2021, `k#a` is an identifier, `#` and
 /// an identifier, without an error.
+#[inline]
 fn error_in(kind: TokenKind, text: &str, edition: Edition) -> Option<TokenError>
     requires fits { Fits text.now }
     ensures { result ≡ error_in edition kind text.now }
 {
-    let error = token_error(kind, text)?;
-    match (kind, edition) {
-        (TokenKind::ForcedKeywordIdent, Edition::E2015 | Edition::E2018) => None,
-        _ => Some(error),
+    match token_error(kind, text) {
+        Some(error) => match (kind, edition) {
+            (TokenKind::ForcedKeywordIdent, Edition::E2015 | Edition::E2018) => None,
+            _ => Some(error),
+        },
+        None => None,
     }
 }

@@ -2,33 +2,45 @@
 ghost use Rattle.std.specs.Prelude.{◌≡◌, ◌∷◌, [], OnOk};
 ghost use Rattle.std.specs.Fmt.{WritesInCalls};
 ghost use Rattle.std.specs.Str.{IsCharBoundary};
-ghost use Rattle.rustc_lexer_highlight.specs.Part.{Own, error_parts, malformed_parts, first_line, is_cut_line_end, shown, with_markup};
+ghost use Rattle.rustc_lexer_highlight.specs.Part.{Own, Return, error_parts, malformed_parts, first_line};
+ghost use Rattle.rustc_lexer_highlight.specs.Part.{is_cut_line_end, shown, with_markup, written};
 
 use crate::class::Class;
 use crate::errors::TokenError;
-use crate::escape::write_escaped;
+use crate::escape::{entity, write_escaped};
 use crate::format::{Format, class_close, class_open, close_error, open_error};
 use crate::screen::write_seen;
 use memchr::memchr2;
+use rustc_lexer::TokenKind;
 use std::fmt;
 
-/// Writes a token with an error. `next` is the text after it. If the token ends between the carriage return and the
-/// newline of a CRLF, the carriage return is written unchanged.
+/// A token in a text.
+#[derive(Clone, Copy)]
+pub struct TokenInText<'a> {
+    pub kind: TokenKind,
+    /// The text of the token.
+    pub text: &'a str,
+    /// The text after the token.
+    pub next: &'a str,
+}
+
+/// Writes a token with an error. The carriage return of a CRLF whose newline is in the next token is not part of the
+/// error.
 #[tactic(auto, using(crate::proofs::PartLemmas::may_cut_return, crate::proofs::PartLemmas::writes_return, std::proofs::lemmas::Result::on_ok_weaker, std::proofs::lemmas::Grind::common_steps))]
 pub fn write_malformed<W: fmt::Write>(
     format: Format,
     error: TokenError,
     class: Class,
-    text: &str,
-    next: &str,
+    token: TokenInText<'_>,
     output: &mut W,
 ) -> fmt::Result
     ensures { OnOk result (WritesInCalls W.write_str_gives output.old
-        (with_markup format (malformed_parts error class text.now next.now)) output.new) }
+        (with_markup format (malformed_parts error class token.entry.text.now token.entry.next.now)) output.new) }
 {
-    if is_cut_line_end(text, next) {
+    let text = token.text;
+    if is_cut_line_end(text, token.next) {
         write_with_error(format, error, class, &text[..text.len() - 1], output)?;
-        return write_shown(format, Class::Comment, "\r", output);
+        return write_return(format, output);
     }
     write_with_error(format, error, class, text, output)
 }
@@ -38,6 +50,17 @@ fn is_cut_line_end(text: &str, next: &str) -> bool
     ensures { result ≡ is_cut_line_end text.now next.now }
 {
     text.ends_with('\r') && next.starts_with('\n')
+}
+
+/// Writes the carriage return of a CRLF whose newline is in the next token.
+#[tactic(auto, using(crate::proofs::CallLemmas::tried_call))]
+fn write_return<W: fmt::Write>(format: Format, output: &mut W) -> fmt::Result
+    ensures { OnOk result (WritesInCalls W.write_str_gives output.old (written format Return) output.new) }
+{
+    output.write_str(match format {
+        Format::Html => entity(b'\r'),
+        Format::Colours | Format::NoColours | Format::Raw => "\r",
+    })
 }
 
 /// Writes a part with an error. The markup of the error is around its first line, and the markup of the class around
@@ -53,11 +76,11 @@ pub fn write_with_error<W: fmt::Write>(
     ensures { OnOk result (WritesInCalls W.write_str_gives output.old
         (with_markup format (error_parts error class text.now)) output.new) }
 {
-    let end = first_line(text);
+    let (line, rest) = text.split_at(first_line(text));
     open_error(format, error, output)?;
-    write_in_class(format, class, &text[..end], output)?;
+    write_in_class(format, class, line, output)?;
     close_error(format, error, output)?;
-    write_in_class(format, class, &text[end..], output)
+    write_in_class(format, class, rest, output)
 }
 
 /// Returns the length in bytes of the text before the first newline or carriage return.

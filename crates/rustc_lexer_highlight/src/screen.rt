@@ -1,6 +1,5 @@
 //! Writes text for a terminal, which would obey control characters.
-ghost use Rattle.std.specs.Prelude.{◌≡◌, ◌∷◌, ◌++◌, ◌<◌, [], true, false, length, MatchOption, OnOk};
-ghost use Rattle.std.specs.Char.{encode_utf8};
+ghost use Rattle.std.specs.Prelude.{◌≡◌, ◌∷◌, ◌++◌, ◌<◌, true, false, length, MatchOption, OnOk};
 ghost use Rattle.std.specs.Fmt.{WritesInCalls};
 ghost use Rattle.std.specs.List.{list_all, list_any};
 ghost use Rattle.std.specs.Str.{IsUtf8, chars, encode_utf8_all};
@@ -9,6 +8,7 @@ ghost use Rattle.rustc_lexer_highlight.specs.Screen.{at_line_end, is_replaceable
 ghost use Rattle.rustc_lexer_highlight.specs.Screen.{seen, seen_char, symbol};
 
 use crate::class::Class;
+use rustc_literal_escaper::split_first;
 use std::fmt;
 
 /// Writes a text of a class with symbols in place of control characters other than tabs and line endings.
@@ -50,24 +50,12 @@ fn first_replaceable(text: &[u8]) -> Option<usize>
 }
 
 /// Returns whether a byte can start a control character other than a tab and a newline.
-#[tactic(auto, using(crate::proofs::ScreenLemmas::byte_tests, std::proofs::lemmas::Grind::common_steps))]
+#[tactic(auto, using(std::proofs::lemmas::Bool::Decides::nat_tests, std::proofs::lemmas::Grind::common_steps))]
 fn may_begin_replaceable(byte: u8) -> bool
     ensures { result ≡ may_begin_replaceable byte }
 {
     // The first test decides for most bytes.
     (byte < b' ' || byte > b'~') && matches!(byte, 0..=8 | 11..=31 | 127 | 0xC2)
-}
-
-/// Returns the first character and the text after it, or `None` if the text is empty.
-#[tactic(auto, using(crate::proofs::ScreenLemmas::first_lemmas, std::proofs::lemmas::Grind::common_steps))]
-pub fn split_first(rest: &str) -> Option<(char, &str)>
-    ensures { MatchOption result (chars rest.now ≡ [])
-        (λ r. (chars rest.now ≡ r.0 ∷ chars r.1.now) × (rest.now ≡ encode_utf8 r.0 ++ r.1.now)
-        × (length r.1.now < length rest.now)) }
-{
-    let mut chars = rest.chars();
-    let first = chars.next()?;
-    Some((first, chars.as_str()))
 }
 
 /// Returns a character as it is displayed, if `rest` follows it in its part: unchanged or as a symbol.

@@ -26,7 +26,7 @@ fn is_special(byte: u8) -> bool {
 }
 
 /// Returns the entity of `&`, `<`, `>` or a carriage return, and the entity of U+0000 for any other byte.
-fn entity(byte: u8) -> &'static str {
+pub fn entity(byte: u8) -> &'static str {
     match byte {
         b'&' => "&amp;",
         b'<' => "&lt;",

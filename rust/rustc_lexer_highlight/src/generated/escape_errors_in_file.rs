@@ -2,7 +2,7 @@
 //! Errors and warnings in a literal of a file, which can have CRLF line endings.
 
 use crate::generated::line_ends::{FileChars, FileElements, file_elements};
-use crate::generated::literal::{first_offset, is_single};
+use crate::generated::literal::first_offset;
 use core::iter::Iterator;
 use core::ops::Range;
 use rustc_literal_escaper::generated::{EscapeError, EscapeErrors, Mode};
@@ -44,10 +44,10 @@ impl<'a> EscapeErrorsInFile<'a> {
         };
         if first_offset(b'\r', contents) == contents.len() {
             found.errors = EscapeErrors::new(contents, mode);
-        } else if is_single(mode) {
-            found.alone = single_error(contents, mode);
-        } else {
+        } else if mode.in_double_quotes() {
             found.elements = file_elements(contents, is_raw(mode));
+        } else {
+            found.alone = single_error(contents, mode);
         }
         found
     }

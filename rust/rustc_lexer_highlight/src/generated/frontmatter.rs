@@ -2,9 +2,9 @@
 //! The first and the last line of a frontmatter. Line endings can be CRLF.
 
 use crate::generated::errors::TokenError;
-use crate::generated::screen::split_first;
 use memchr::memrchr;
 use rustc_lexer::generated::{is_id_continue, is_id_start};
+use rustc_literal_escaper::generated::split_first;
 
 /// Returns the error at the end of a frontmatter that starts with its dashes, or `None` if a line with as many dashes
 /// closes it.

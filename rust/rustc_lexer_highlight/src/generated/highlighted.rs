@@ -5,7 +5,7 @@ use crate::generated::class::{Class, class_of};
 use crate::generated::errors::{TokenError, token_error};
 use crate::generated::format::Format;
 use crate::generated::literal::{mode_of, write_literal};
-use crate::generated::part::{write_in_class, write_malformed};
+use crate::generated::part::{TokenInText, write_in_class, write_malformed};
 use core::fmt;
 use rustc_lexer::generated::{
     Edition, TokenKind, byte_order_mark_len, tokenize_document, tokenize_in,
@@ -28,7 +28,12 @@ pub fn write_highlighted<W: fmt::Write>(
     write_start(format, &text[..start], output)?;
     for token in tokens {
         let (piece, next) = rest.split_at(token.len as usize);
-        write_token(format, edition, token.kind, piece, next, output)?;
+        let found = TokenInText {
+            kind: token.kind,
+            text: piece,
+            next,
+        };
+        write_token(format, edition, found, output)?;
         rest = next;
     }
     Ok(())
@@ -60,26 +65,30 @@ pub fn write_first_tokens<W: fmt::Write>(
             break;
         };
         let (piece, next) = rest.split_at(token.len as usize);
-        write_token(format, edition, token.kind, piece, next, output)?;
+        let found = TokenInText {
+            kind: token.kind,
+            text: piece,
+            next,
+        };
+        write_token(format, edition, found, output)?;
         rest = next;
         left -= 1;
     }
     Ok(())
 }
 
-/// Writes a token with the markup of its class. `next` is the text after it. If the token has an error, the markup of the error is around its first
+/// Writes a token with the markup of its class. If the token has an error, the markup of the error is around its first
 /// line. In a literal that has no error of its kind, each escape and each error in its contents has its own markup.
 fn write_token<W: fmt::Write>(
     format: Format,
     edition: Edition,
-    kind: TokenKind,
-    text: &str,
-    next: &str,
+    token: TokenInText<'_>,
     output: &mut W,
 ) -> fmt::Result {
+    let TokenInText { kind, text, .. } = token;
     let class = class_of(kind, text, edition);
     if let Some(error) = error_in(kind, text, edition) {
-        return write_malformed(format, error, class, text, next, output);
+        return write_malformed(format, error, class, token, output);
     }
     match mode_of(kind) {
         None => write_in_class(format, class, text, output),
@@ -89,10 +98,13 @@ fn write_token<W: fmt::Write>(
 
 /// Returns the error of a token in an edition, or `None` if it has none. Before 2021, `k#a` is an identifier, `#` and
 /// an identifier, without an error.
+#[inline]
 fn error_in(kind: TokenKind, text: &str, edition: Edition) -> Option<TokenError> {
-    let error = token_error(kind, text)?;
-    match (kind, edition) {
-        (TokenKind::ForcedKeywordIdent, Edition::E2015 | Edition::E2018) => None,
-        _ => Some(error),
+    match token_error(kind, text) {
+        Some(error) => match (kind, edition) {
+            (TokenKind::ForcedKeywordIdent, Edition::E2015 | Edition::E2018) => None,
+            _ => Some(error),
+        },
+        None => None,
     }
 }

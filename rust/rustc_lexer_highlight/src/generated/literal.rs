@@ -99,21 +99,16 @@ pub fn write_literal<W: fmt::Write>(
         shown: 0,
         at: begin,
     };
-    if is_single(mode) {
-        painter.write_single(mode, close, output)
-    } else {
+    if mode.in_double_quotes() {
         painter.write_string(mode, close, output)
+    } else {
+        painter.write_single(mode, close, output)
     }
-}
-
-/// Returns whether a literal of this mode has single quotes.
-pub fn is_single(mode: Mode) -> bool {
-    matches!(mode, Mode::Char | Mode::Byte)
 }
 
 /// Returns the quote of a literal of this mode.
 fn quote_of(mode: Mode) -> u8 {
-    if is_single(mode) { b'\'' } else { b'"' }
+    if mode.in_double_quotes() { b'"' } else { b'\'' }
 }
 
 /// Returns the offset of the first byte with this value, or the length of the text if there is none.

@@ -3,25 +3,36 @@
 
 use crate::generated::class::Class;
 use crate::generated::errors::TokenError;
-use crate::generated::escape::write_escaped;
+use crate::generated::escape::{entity, write_escaped};
 use crate::generated::format::{Format, class_close, class_open, close_error, open_error};
 use crate::generated::screen::write_seen;
 use core::fmt;
 use memchr::memchr2;
+use rustc_lexer::generated::TokenKind;
 
-/// Writes a token with an error. `next` is the text after it. If the token ends between the carriage return and the
-/// newline of a CRLF, the carriage return is written unchanged.
+/// A token in a text.
+#[derive(Clone, Copy)]
+pub struct TokenInText<'a> {
+    pub kind: TokenKind,
+    /// The text of the token.
+    pub text: &'a str,
+    /// The text after the token.
+    pub next: &'a str,
+}
+
+/// Writes a token with an error. The carriage return of a CRLF whose newline is in the next token is not part of the
+/// error.
 pub fn write_malformed<W: fmt::Write>(
     format: Format,
     error: TokenError,
     class: Class,
-    text: &str,
-    next: &str,
+    token: TokenInText<'_>,
     output: &mut W,
 ) -> fmt::Result {
-    if is_cut_line_end(text, next) {
+    let text = token.text;
+    if is_cut_line_end(text, token.next) {
         write_with_error(format, error, class, &text[..text.len() - 1], output)?;
-        return write_shown(format, Class::Comment, "\r", output);
+        return write_return(format, output);
     }
     write_with_error(format, error, class, text, output)
 }
@@ -29,6 +40,14 @@ pub fn write_malformed<W: fmt::Write>(
 /// Returns whether a token ends between the carriage return and the newline of a CRLF. `next` is the text after it.
 fn is_cut_line_end(text: &str, next: &str) -> bool {
     text.ends_with('\r') && next.starts_with('\n')
+}
+
+/// Writes the carriage return of a CRLF whose newline is in the next token.
+fn write_return<W: fmt::Write>(format: Format, output: &mut W) -> fmt::Result {
+    output.write_str(match format {
+        Format::Html => entity(b'\r'),
+        Format::Colours | Format::NoColours | Format::Raw => "\r",
+    })
 }
 
 /// Writes a part with an error. The markup of the error is around its first line, and the markup of the class around
@@ -40,11 +59,11 @@ pub fn write_with_error<W: fmt::Write>(
     text: &str,
     output: &mut W,
 ) -> fmt::Result {
-    let end = first_line(text);
+    let (line, rest) = text.split_at(first_line(text));
     open_error(format, error, output)?;
-    write_in_class(format, class, &text[..end], output)?;
+    write_in_class(format, class, line, output)?;
     close_error(format, error, output)?;
-    write_in_class(format, class, &text[end..], output)
+    write_in_class(format, class, rest, output)
 }
 
 /// Returns the length in bytes of the text before the first newline or carriage return.

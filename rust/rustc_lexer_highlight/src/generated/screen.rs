@@ -3,6 +3,7 @@
 
 use crate::generated::class::Class;
 use core::fmt;
+use rustc_literal_escaper::generated::split_first;
 
 /// Writes a text of a class with symbols in place of control characters other than tabs and line endings.
 pub fn write_seen<W: fmt::Write>(class: Class, text: &str, output: &mut W) -> fmt::Result {
@@ -33,13 +34,6 @@ fn first_replaceable(text: &[u8]) -> Option<usize> {
 fn may_begin_replaceable(byte: u8) -> bool {
     // The first test decides for most bytes.
     (byte < b' ' || byte > b'~') && matches!(byte, 0..=8 | 11..=31 | 127 | 0xC2)
-}
-
-/// Returns the first character and the text after it, or `None` if the text is empty.
-pub fn split_first(rest: &str) -> Option<(char, &str)> {
-    let mut chars = rest.chars();
-    let first = chars.next()?;
-    Some((first, chars.as_str()))
 }
 
 /// Returns a character as it is displayed, if `rest` follows it in its part: unchanged or as a symbol.

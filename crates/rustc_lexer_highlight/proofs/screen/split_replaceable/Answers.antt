@@ -1,5 +1,4 @@
 use Rattle.std.proofs.Common.{◌≡◌, ◌-◌, arith, take, List, ℕ, Some, ap, subst, ◌∙◌}
-use Rattle.std.proofs.lemmas.Str.{IsUtf8-past_char}
 use Rattle.memchr.specs.Find.{IsFirstByte}
 use Rattle.rustc_lexer_highlight.specs.Screen.{may_begin_replaceable}
 use Rattle.rustc_lexer_highlight.proofs.ScreenLemmas.{some_left, splits}
@@ -19,5 +18,5 @@ returns c =
     let all : c.in_ok-at.at - 0 ≡ c.in_ok-at.at = omega arith in
     let front = c.range.ensures.value ∙ ap (λ (k : ℕ). take k c.args.text.now) all in
     let parts = splits c.args.text.now c.range.result.now c.range_from.result.now c.in_ok-c.past.now c.in_ok-c.c
-    c.in_ok-at.at c.utf8.text found front c.range_from.ensures.value c.in_ok-c.ensures.0 c.in_ok-c.ensures.2 in
-    (parts.0, parts.1, parts.2, c.range.utf8, IsUtf8-past_char _ _ _ c.range_from.utf8 c.in_ok-c.ensures.1)
+    c.in_ok-at.at c.utf8.text found front c.range_from.ensures.value c.in_ok-c.ensures.0 c.in_ok-c.ensures.1 in
+    (parts.0, parts.1, parts.2, c.range.utf8, c.in_ok-c.ensures.2)
