@@ -40,7 +40,7 @@ value_past v qs = fold (λ value q. value * 16 + q % 16) v qs
 
 word-left : (v n : ℕ) (qs s : List ℕ) → n + length qs ≤ 6 → left_at v n (word qs ++ 125 ∷ s) ≡
     (Unicode (value_past v qs), s)
-word-left v n [] s few = left_at-brace v n 125 s refl ∙ rw (le-leb n 6 (omega arith)) refl
+word-left v n [] s few = left_at-brace v n 125 s refl (omega arith)
 word-left v n (q ∷ qs) s few =
     grind (
       arith,

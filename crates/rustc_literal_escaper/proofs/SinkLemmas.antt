@@ -1,10 +1,10 @@
 -- Sinks, which consume items one by one.
 use Rattle.std.proofs.Common.{◌≡◌, ℕ, Bool, true, false, List, [], ◌∷◌, ◌++◌, map, true≢false, Option, Some, None}
 use Rattle.std.proofs.Common.{MatchOption, ◌<◌, length, if◌then◌else◌, refl, sym, ap, subst, ◌∙◌, arith, append_assoc}
-use Rattle.rustc_literal_escaper.specs.declared.element.Element.{Element, TheVariants.{Diagnostic}}
+use Rattle.rustc_literal_escaper.specs.declared.element.Element.{Element, TheVariants.{Diagnostic, Plain}}
 use Rattle.rustc_literal_escaper.specs.declared.error.EscapeError.TheVariants.{MultipleSkippedLinesWarning}
 use Rattle.std.specs.List.{FoldsTo, list_any}
-use Rattle.std.proofs.lemmas.{Grind.{common_steps}, List.{map-append}}
+use Rattle.std.proofs.lemmas.{Bool.Decides.{nat_tests}, Grind.{common_steps}, List.{map-append}}
 use Rattle.rustc_literal_escaper.specs.Grammar.{is_newline, is_passed_over}
 use Rattle.rustc_literal_escaper.specs.model.Escape.{escape, front_run, past_run}
 use Rattle.rustc_literal_escaper.specs.{Grammar.{Error, Item}, Items.{TakesFirst}, Meaning.{error_of, errors_in, put}}
@@ -19,6 +19,10 @@ use Rattle.rustc_literal_escaper.specs.laws.Elements.{items-cons, items-one, lef
 pub raw_reads : (c : ℕ) (s : List ℕ) → raw_front c s ≡ one (raw_element c, s)
 unfolding raw_front
 raw_reads c s = refl
+
+pub raw_above : (c : ℕ) (s : List ℕ) → 13 < c → raw_front c s ≡ one (Plain c, s)
+unfolding raw_front
+raw_above c s above = grind (arith, common_steps, nat_tests)
 
 pub plain_reads : (c : ℕ) (s : List ℕ) → (c ≡ 92 → ⊥) → front c s ≡ one (unescaped c, s)
 unfolding front

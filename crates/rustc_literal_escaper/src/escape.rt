@@ -138,11 +138,14 @@ fn unicode<T: Text>(rest: &mut T) -> Element
     let Some(brace) = rest.next_char() else {
         return Element::Diagnostic(EscapeError::NoBraceInUnicodeEscape);
     };
-    if brace == '{' {
-        braced(rest)
-    } else {
-        Element::Diagnostic(EscapeError::NoBraceInUnicodeEscape)
+    if brace != '{' {
+        return Element::Diagnostic(EscapeError::NoBraceInUnicodeEscape);
     }
+    // The loop over the digits reads a copy, which stays in registers.
+    let mut ahead = rest.copy();
+    let element = braced(&mut ahead);
+    *rest = ahead;
+    element
 }
 
 /// Reads a number up to the closing brace.
@@ -180,45 +183,37 @@ fn digits<T: Text>(first: u32, rest: &mut T) -> Element
         let Some(c) = rest.next_char() else {
             return Element::Diagnostic(EscapeError::UnclosedUnicodeEscape);
         };
-        if c == '_' {
-            continue;
-        }
-        if c == '}' {
-            return number(value, count);
-        }
         let Some(digit) = hex_digit(c) else {
-            return Element::Diagnostic(EscapeError::InvalidCharInUnicodeEscape);
+            match c {
+                '_' => continue,
+                '}' => return Element::Unicode(value),
+                _ => return Element::Diagnostic(EscapeError::InvalidCharInUnicodeEscape),
+            }
         };
-        if count > MOST_DIGITS {
-            continue;
+        if count == MOST_DIGITS {
+            return overlong(rest);
         }
-        value = with_digit(value, count, digit);
+        value = value * 16 + digit;
         count += 1;
     }
 }
 
-/// Returns the element of a number with `count` digits and this value, or an error if it has too many digits.
-fn number(value: u32, count: usize) -> Element
-    ensures { result ≡ if nat_le count MOST_DIGITS then Element.Unicode value
-        else Element.Diagnostic EscapeError.OverlongUnicodeEscape }
+/// Reads the rest of a number with too many digits, up to the closing brace.
+#[inline(always)]
+#[tactic(auto, using(crate::proofs::DigitLemmas::digit_lemmas))]
+fn overlong<T: Text>(rest: &mut T) -> Element
+    ensures same { T.offset_of rest.new ≡ T.offset_of rest.old }
+    ensures read { (result, T.left rest.new) ≡ spec.overlong (T.left rest.old) }
 {
-    if count <= MOST_DIGITS {
-        Element::Unicode(value)
-    } else {
-        Element::Diagnostic(EscapeError::OverlongUnicodeEscape)
-    }
-}
-
-/// Returns the value of `count` digits and one more. It stays the same after the maximum number of digits.
-fn with_digit(value: u32, count: usize, digit: u32) -> u32
-    requires value { value < 16 ^ min count MOST_DIGITS }
-    requires digit { digit < 16 }
-    ensures value { result ≡ if nat_lt count MOST_DIGITS then value * 16 + digit else value }
-    ensures fits { result < 16 ^ min (count + 1) MOST_DIGITS }
-{
-    if count < MOST_DIGITS {
-        value * 16 + digit
-    } else {
-        value
+    'digits: loop {
+        let Some(c) = rest.next_char() else {
+            return Element::Diagnostic(EscapeError::UnclosedUnicodeEscape);
+        };
+        if c == '}' {
+            return Element::Diagnostic(EscapeError::OverlongUnicodeEscape);
+        }
+        if c != '_' && hex_digit(c).is_none() {
+            return Element::Diagnostic(EscapeError::InvalidCharInUnicodeEscape);
+        }
     }
 }

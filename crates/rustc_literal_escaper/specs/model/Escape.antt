@@ -62,6 +62,13 @@ closed digits (c ∷ s) =
 abbrev pub closed_at_run : List ℕ → Element × List ℕ
 closed_at_run s = closed (front_run is_digit_or_underscore s) (past_run is_digit_or_underscore s)
 
+-- Reads the text after too many digits.
+abbrev pub overlong : List ℕ → Element × List ℕ
+overlong [] = (Diagnostic UnclosedUnicodeEscape, [])
+overlong (c ∷ s) =
+    if is_digit_or_underscore c then overlong s else
+    (if c == byte "}" then Diagnostic OverlongUnicodeEscape else Diagnostic InvalidCharInUnicodeEscape, s)
+
 abbrev pub braced : List ℕ → Element × List ℕ
 braced [] = (Diagnostic UnclosedUnicodeEscape, [])
 braced (c ∷ s) =

@@ -45,7 +45,7 @@ fn each_escaped<T: Text, S: Sink>(rest: &mut T, sink: &mut S) -> Option<usize> {
             return None;
         };
         if c != '\\' {
-            if !sink.take(start..rest.offset(), unescaped(c)) {
+            if !take_unescaped(start..rest.offset(), c, sink) {
                 return None;
             }
             continue;
@@ -75,10 +75,27 @@ fn each_raw<T: Text, S: Sink>(rest: &mut T, sink: &mut S) {
         let Some(c) = rest.next_char() else {
             return;
         };
+        // Most characters need only this comparison, and `sink` sees a plain character.
+        if c > '\r' {
+            if !sink.take(start..rest.offset(), Element::Plain(c)) {
+                return;
+            }
+            continue;
+        }
         if !sink.take(start..rest.offset(), raw_element(c)) {
             return;
         }
     }
+}
+
+/// Passes an unescaped character of a string that is not raw to `sink`. Returns whether `sink` wants more.
+#[inline(always)]
+fn take_unescaped<S: Sink>(range: Range<usize>, c: char, sink: &mut S) -> bool {
+    // Most characters need only this comparison, and `sink` sees a plain character.
+    if c > '"' {
+        return sink.take(range, Element::Plain(c));
+    }
+    sink.take(range, unescaped(c))
 }
 
 /// Passes the second warning of a skipped line ending to `sink` if the last call stopped before it. Returns whether

@@ -27,6 +27,7 @@ impl<'a> EscapeErrors<'a> {
     /// Returns an iterator over the errors and warnings in a literal of this kind.
     ///
     /// `src` is the text between the quotes.
+    #[cfg_attr(not(debug_assertions), inline(always))]
     pub fn new(src: &'a str, mode: Mode) -> EscapeErrors<'a> {
         if !mode.in_double_quotes() {
             return EscapeErrors {

@@ -1,6 +1,5 @@
 use Rattle.std.proofs.Common.{◌≡◌, List, ℕ, false, sym, ap, ◌∙◌, rules}
-use Rattle.rustc_literal_escaper.specs.{declared.element.Element.{Element}}
-use Rattle.rustc_literal_escaper.specs.model.{Elements.{Front, front, one}, Escape.{escape}}
+use Rattle.rustc_literal_escaper.specs.model.{Elements.{Front, front, one, unescaped}, Escape.{escape}}
 use Rattle.rustc_literal_escaper.proofs.SinkLemmas.{at_end, at_same, escape_reads, items_line, less_left, line_reads}
 use Rattle.rustc_literal_escaper.proofs.SinkLemmas.{one_enough, one_more, plain_reads, takes_enough, takes_more}
 use Rattle.rustc_literal_escaper.proofs.elements.each_escaped.Goals as goal
@@ -10,31 +9,30 @@ returns-in_default-clause-runs g c =
     c.elements.invariant.2 _ _
     (at_end g.S.Sink.took _ false _ _ _ c.in_default.ensures.left.0 c.in_default.ensures.left.1)
 
-pub returns-then-not-take-clause-runs : goal.returns-then-not-take-clause-runs
-returns-then-not-take-clause-runs g c =
+pub returns-then-not-take_unescaped-clause-runs : goal.returns-then-not-take_unescaped-clause-runs
+returns-then-not-take_unescaped-clause-runs g c =
     let ys : List ℕ = g.T.Text.left c.next_char.new.self in
     c.elements.invariant.2 _ _
-    (one_enough g.S.Sink.took false (g.T.Text.offset_of c.args.rest.now) c.take.result _ _ c.offset-start.result
-    c.offset.result _ ys ys c.in-Some.c c.unescaped.result
+    (one_enough g.S.Sink.took false (g.T.Text.offset_of c.args.rest.now) c.take_unescaped.result _ _
+    c.offset-start.result c.offset.result _ ys ys c.in-Some.c (unescaped c.in-Some.c)
     c.in-Some.ensures.left
-    (plain_reads c.in-Some.c ys c.if-c-ne92.true ∙ ap (λ (e : Element). one (e, ys)) (sym c.unescaped.ensures))
+    (plain_reads c.in-Some.c ys c.if-c-ne92.true)
     (at_same _ c.offset-start.ensures c.elements.invariant.1)
-    (at_same ys c.offset.ensures (c.in-Some.ensures.same ∙ c.elements.invariant.1)) c.take.ensures.took
+    (at_same ys c.offset.ensures (c.in-Some.ensures.same ∙ c.elements.invariant.1)) c.take_unescaped.ensures.took
     (search rules))
 
 pub elements-preserved-then-c-ne92 : goal.elements-preserved-then-c-ne92
 elements-preserved-then-c-ne92 g c =
     let ys : List ℕ = g.T.Text.left c.next_char.new.self in (
-      c.take.ensures.ready,
+      c.take_unescaped.ensures.ready,
       c.in-Some.ensures.same ∙ c.elements.invariant.1,
       λ last left runs. c.elements.invariant.2 last left
-          (one_more g.S.Sink.took false (g.T.Text.offset_of c.args.rest.now) c.take.result _ _ c.offset-start.result
-          c.offset.result _ ys ys c.in-Some.c c.unescaped.result
+          (one_more g.S.Sink.took false (g.T.Text.offset_of c.args.rest.now) c.take_unescaped.result _ _
+          c.offset-start.result c.offset.result _ ys ys c.in-Some.c (unescaped c.in-Some.c)
           c.in-Some.ensures.left
-          (plain_reads c.in-Some.c ys c.if-c-ne92.true
-          ∙ ap (λ (e : Element). one (e, ys)) (sym c.unescaped.ensures))
+          (plain_reads c.in-Some.c ys c.if-c-ne92.true)
           (at_same _ c.offset-start.ensures c.elements.invariant.1)
-          (at_same ys c.offset.ensures (c.in-Some.ensures.same ∙ c.elements.invariant.1)) c.take.ensures.took
+          (at_same ys c.offset.ensures (c.in-Some.ensures.same ∙ c.elements.invariant.1)) c.take_unescaped.ensures.took
           (search rules) last left runs),
     )
 
@@ -98,8 +96,8 @@ elements-preserved-then-skip_newline g c =
           (search rules) runs))),
     )
 
-pub returns-then-not-take-2-clause-runs : goal.returns-then-not-take-2-clause-runs
-returns-then-not-take-2-clause-runs g c =
+pub returns-then-not-take-clause-runs : goal.returns-then-not-take-clause-runs
+returns-then-not-take-clause-runs g c =
     let ys : List ℕ = g.T.Text.left c.next_char.new.self in
     let other = c.skip_newline.ensures.none c.if-skip_newline.false in
     let reads : front c.in-Some.c ys ≡
@@ -109,10 +107,10 @@ returns-then-not-take-2-clause-runs g c =
     let same = c.read_escape-element.ensures.same
     ∙ (c.skip_newline.ensures.same ∙ (c.in-Some.ensures.same ∙ c.elements.invariant.1)) in
     c.elements.invariant.2 _ _
-    (one_enough g.S.Sink.took false (g.T.Text.offset_of c.args.rest.now) c.take-in-elements.result _ _
+    (one_enough g.S.Sink.took false (g.T.Text.offset_of c.args.rest.now) c.take.result _ _
     c.offset-start.result c.offset-in-elements.result _ ys _ c.in-Some.c c.read_escape-element.result
     c.in-Some.ensures.left reads (at_same _ c.offset-start.ensures c.elements.invariant.1)
-    (at_same _ c.offset-in-elements.ensures same) c.take-in-elements.ensures.took (search rules))
+    (at_same _ c.offset-in-elements.ensures same) c.take.ensures.took (search rules))
 
 pub elements-smaller : goal.elements-smaller
 elements-smaller g c =
@@ -134,12 +132,12 @@ elements-preserved g c =
     (c.read_escape-element.ensures.read ∙ ap escape other.1) in
     let same = c.read_escape-element.ensures.same
     ∙ (c.skip_newline.ensures.same ∙ (c.in-Some.ensures.same ∙ c.elements.invariant.1)) in (
-      c.take-in-elements.ensures.ready,
+      c.take.ensures.ready,
       same,
       λ last rest runs. c.elements.invariant.2 last rest
-          (one_more g.S.Sink.took false (g.T.Text.offset_of c.args.rest.now) c.take-in-elements.result _ _
+          (one_more g.S.Sink.took false (g.T.Text.offset_of c.args.rest.now) c.take.result _ _
           c.offset-start.result c.offset-in-elements.result _ ys _ c.in-Some.c c.read_escape-element.result
           c.in-Some.ensures.left reads (at_same _ c.offset-start.ensures c.elements.invariant.1)
-          (at_same _ c.offset-in-elements.ensures same) c.take-in-elements.ensures.took
+          (at_same _ c.offset-in-elements.ensures same) c.take.ensures.took
           (search rules) last rest runs),
     )
