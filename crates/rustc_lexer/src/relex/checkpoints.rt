@@ -60,9 +60,12 @@ impl Checkpoints {
         ensures { Contains self.now.bounds result }
     {
         let mut nearest = self.bounds[0];
+        let mut nearest_distance = nearest.offset.abs_diff(offset);
         for bound in &self.bounds {
-            if bound.offset.abs_diff(offset) < nearest.offset.abs_diff(offset) {
+            let distance = bound.offset.abs_diff(offset);
+            if distance < nearest_distance {
                 nearest = *bound;
+                nearest_distance = distance;
             }
         }
         nearest

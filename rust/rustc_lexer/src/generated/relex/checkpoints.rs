@@ -46,9 +46,12 @@ impl Checkpoints {
     /// Returns the checkpoint nearest to `offset`.
     pub(crate) fn nearest(&self, offset: usize) -> TokenStart {
         let mut nearest = self.bounds[0];
+        let mut nearest_distance = nearest.offset.abs_diff(offset);
         for bound in &self.bounds {
-            if bound.offset.abs_diff(offset) < nearest.offset.abs_diff(offset) {
+            let distance = bound.offset.abs_diff(offset);
+            if distance < nearest_distance {
                 nearest = *bound;
+                nearest_distance = distance;
             }
         }
         nearest
