@@ -74,17 +74,16 @@ pub(crate) struct Replacement {
     pub tokens: Vec<Token>,
     /// The old tokens from `at.front` up to `at.back` are replaced.
     pub at: Relexing,
-    /// Boundaries of the tokens of the new text, at the ends of the blocks that were lexed.
-    pub bounds: Checkpoints,
 }
 
 /// Lexes the text from the end of the kept front until it meets the old tokens. The search for the front starts at
-/// `near`.
+/// `near`. The ends of the blocks that were lexed become checkpoints in `lexed_bounds`.
 pub(crate) fn relex<S: Stepper>(
     alloc: Global,
     stepper: &mut S,
     edited: &EditedText<'_, Token>,
     near: TokenStart,
+    lexed_bounds: &mut Checkpoints,
 ) -> Result<Replacement, AllocError>
     requires is_text { IsText edited.now.text.now }
     requires change { IsChange edited.now.text.now edited.now.change }
@@ -96,8 +95,9 @@ pub(crate) fn relex<S: Stepper>(
     ensures lexed { IfOk result (λ r. ForEachOldText (S.grammar stepper.old).first edited.now near
         (λ before insert. IsLexed (S.grammar stepper.old).first before edited.now.change edited.now.text.now
         r.tokens.items r.at)) }
-    ensures bounds { IfOk result (λ r. ForEachOldText (S.grammar stepper.old).first edited.now near
-        (λ before insert. AreBounds (tokens_by (S.grammar stepper.old).first edited.now.text.now) r.bounds)) }
+    ensures bounds { IfOk result (λ _. ForEachOldText (S.grammar stepper.old).first edited.now near
+        (λ before insert. AreBounds (tokens_by (S.grammar stepper.old).first edited.now.text.now) lexed_bounds.old
+        → AreBounds (tokens_by (S.grammar stepper.old).first edited.now.text.now) lexed_bounds.new)) }
     ensures can_continue { IfOk result (λ r. CanContinue edited.now.text.now (length edited.now.old_tokens.now) r.at) }
 
     // The number of steps, even if an allocation fails.
@@ -111,10 +111,9 @@ pub(crate) fn relex<S: Stepper>(
         → S.count stepper.new ≤ S.count stepper.old + r.lexed)) }
 {
     let mut tokens = Vec::new(alloc);
-    let mut bounds = Checkpoints::new();
     let mut at = Relexing::begin(edited, near);
     let Some(token) = at.next(stepper, edited) else {
-        return Ok(Replacement { tokens, at, bounds });
+        return Ok(Replacement { tokens, at });
     };
     tokens.push(token)?;
     let mut buffer = [Token {
@@ -124,9 +123,9 @@ pub(crate) fn relex<S: Stepper>(
     'left: while !at.is_done(edited.text) {
         let count = at.block(stepper, edited, &mut buffer);
         tokens.extend_from_slice(&buffer[..count])?;
-        bounds.remember(end_of(at), edited.text.len());
+        lexed_bounds.remember(end_of(at), edited.text.len());
     }
-    Ok(Replacement { tokens, at, bounds })
+    Ok(Replacement { tokens, at })
 }
 
 /// Returns the end of the last token that was lexed.
@@ -143,12 +142,17 @@ fn end_of(at: Relexing) -> TokenStart
 impl Replacement {
     /// Returns the checkpoints of the new text, which has `len` bytes. `old` has the checkpoints of the text before the
     /// edit. The end of the kept front becomes a checkpoint, and so do the boundaries in a long run of lexed tokens.
-    pub(crate) fn checkpoints(&self, old: &Checkpoints, len: usize) -> Checkpoints
+    pub(crate) fn checkpoints(
+        &self,
+        old: &Checkpoints,
+        lexed_bounds: &Checkpoints,
+        len: usize,
+    ) -> Checkpoints
         requires small { known self.now.at < 2 ^ 64 }
         requires movable { All (IsMovable self.now.at.back (end_of self.now.at)) old.now.bounds }
         ensures { (before after : List Token)
             → IsReplaced before after self.now.at.front self.now.at.back (end_of self.now.at)
-            → AreBounds before old.now → AreBounds after self.now.bounds → AreBounds after result }
+            → AreBounds before old.now → AreBounds after lexed_bounds.now → AreBounds after result }
     {
         let at = self.at;
         let mut moved = old.after(at.front, at.back, end_of(at));
@@ -156,7 +160,7 @@ impl Replacement {
             moved.remember(at.front, len);
             return moved;
         }
-        let mut all = moved.joined(&self.bounds, len);
+        let mut all = moved.joined(lexed_bounds, len);
         if at.front.index == 0 {
             return all;
         }

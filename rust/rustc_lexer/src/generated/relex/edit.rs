@@ -50,23 +50,21 @@ pub(crate) struct Replacement {
     pub tokens: Vec<Token>,
     /// The old tokens from `at.front` up to `at.back` are replaced.
     pub at: Relexing,
-    /// Boundaries of the tokens of the new text, at the ends of the blocks that were lexed.
-    pub bounds: Checkpoints,
 }
 
 /// Lexes the text from the end of the kept front until it meets the old tokens. The search for the front starts at
-/// `near`.
+/// `near`. The ends of the blocks that were lexed become checkpoints in `lexed_bounds`.
 pub(crate) fn relex<S: Stepper>(
     alloc: Global,
     stepper: &mut S,
     edited: &EditedText<'_, Token>,
     near: TokenStart,
+    lexed_bounds: &mut Checkpoints,
 ) -> Result<Replacement, AllocError> {
     let mut tokens = Vec::new(alloc);
-    let mut bounds = Checkpoints::new();
     let mut at = Relexing::begin(edited, near);
     let Some(token) = at.next(stepper, edited) else {
-        return Ok(Replacement { tokens, at, bounds });
+        return Ok(Replacement { tokens, at });
     };
     tokens.push(token)?;
     let mut buffer = [Token {
@@ -76,9 +74,9 @@ pub(crate) fn relex<S: Stepper>(
     while !at.is_done(edited.text) {
         let count = at.block(stepper, edited, &mut buffer);
         tokens.extend_from_slice(&buffer[..count])?;
-        bounds.remember(end_of(at), edited.text.len());
+        lexed_bounds.remember(end_of(at), edited.text.len());
     }
-    Ok(Replacement { tokens, at, bounds })
+    Ok(Replacement { tokens, at })
 }
 
 /// Returns the end of the last token that was lexed.
@@ -92,14 +90,19 @@ fn end_of(at: Relexing) -> TokenStart {
 impl Replacement {
     /// Returns the checkpoints of the new text, which has `len` bytes. `old` has the checkpoints of the text before the
     /// edit. The end of the kept front becomes a checkpoint, and so do the boundaries in a long run of lexed tokens.
-    pub(crate) fn checkpoints(&self, old: &Checkpoints, len: usize) -> Checkpoints {
+    pub(crate) fn checkpoints(
+        &self,
+        old: &Checkpoints,
+        lexed_bounds: &Checkpoints,
+        len: usize,
+    ) -> Checkpoints {
         let at = self.at;
         let mut moved = old.after(at.front, at.back, end_of(at));
         if at.lexed <= BUFFER_LEN {
             moved.remember(at.front, len);
             return moved;
         }
-        let mut all = moved.joined(&self.bounds, len);
+        let mut all = moved.joined(lexed_bounds, len);
         if at.front.index == 0 {
             return all;
         }

@@ -42,8 +42,15 @@ pub(crate) fn renew<S: Stepper, E: Extent>(
         change: head.body_change(edit),
     };
     let near = kept.checkpoints.nearest(edited.change.start);
-    let lexed = relex(kept.alloc, &mut kept.stepper, &edited, near)?;
-    let checkpoints = lexed.checkpoints(&kept.checkpoints, edited.text.len());
+    let mut lexed_bounds = Checkpoints::new();
+    let lexed = relex(
+        kept.alloc,
+        &mut kept.stepper,
+        &edited,
+        near,
+        &mut lexed_bounds,
+    )?;
+    let checkpoints = lexed.checkpoints(&kept.checkpoints, &lexed_bounds, edited.text.len());
     let counts = lexed.at.counts(edited.old_tokens.len());
     lexed.put_into(kept.alloc, &mut kept.tokens, head)?;
     kept.head = now;

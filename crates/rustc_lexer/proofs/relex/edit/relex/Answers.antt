@@ -24,11 +24,6 @@ returns-in_default-clause-lexed g c = λ before insert is near.
           (sym lexed);
     }
 
-pub returns-in_default-clause-bounds : goal.returns-in_default-clause-bounds
-returns-in_default-clause-bounds g c =
-    λ before insert is near. c.new-bounds.ensures
-    (tokens_by (g.S.Stepper.grammar c.args.stepper.now).first c.args.edited.now.text.now)
-
 pub returns-in_err-push-clause-few : goal.returns-in_err-push-clause-few
 returns-in_err-push-clause-few g c =
     let law = g.S.Stepper.law c.args.stepper.now in
@@ -58,7 +53,7 @@ left-init g c =
             next.0,
             items ∙ more_lexed new _ [] (token ∷ []) c.begin-at.result c.next.new.self 1 steps.front steps.lexed
                 none (sym next.1) refl,
-            c.new-bounds.ensures new,
+            λ are. are,
           );
     }
 
@@ -104,7 +99,7 @@ left-preserved g c =
             goes.0,
             items ∙ more_lexed (tokens_by first text) left c.left.tokens.items block at past count steps.front
                 steps.lexed so.1 here written.front,
-            c.remember.ensures (tokens_by first text) so.2
+            λ are. c.remember.ensures (tokens_by first text) (so.2 are)
                 (subst (λ (b : TokenStart). IsBound (tokens_by first text) b) (sym c.end_of.ensures)
                 (goes.0.inside, goes.0.offset)),
           );

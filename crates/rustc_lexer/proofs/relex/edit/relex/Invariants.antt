@@ -14,7 +14,8 @@ invariant-left g l = record {
       × (l.tokens.items ≡
       take l.at.lexed (drop l.at.front.index
       (tokens_by (g.S.Stepper.grammar l.fn.stepper).first l.fn.edited.text.now)))
-      × AreBounds (tokens_by (g.S.Stepper.grammar l.fn.stepper).first l.fn.edited.text.now) l.bounds);
+      × (AreBounds (tokens_by (g.S.Stepper.grammar l.fn.stepper).first l.fn.edited.text.now) l.fn.lexed_bounds
+      → AreBounds (tokens_by (g.S.Stepper.grammar l.fn.stepper).first l.fn.edited.text.now) l.lexed_bounds));
 }
 
 abbrev pub decreases-left : goal.decreases-left

@@ -101,7 +101,8 @@ returns-clause-renewed g c before insert p =
         rw (new_behind law p now_is stays l put)
             (c.checkpoints-checkpoints.ensures _ _ moved.1 (rw (old_behind law p) at p.kept.4)
             (rw (c.range_from.ensures.value, text) at
-            (c.in_ok-lexed.ensures.bounds _ _ made (near_behind law p c.nearest-near.ensures)))),
+            (c.in_ok-lexed.ensures.bounds _ _ made (near_behind law p c.nearest-near.ensures)
+            (c.new-lexed_bounds.ensures _)))),
       ),
       record {
         text = p.edit_of.made;
