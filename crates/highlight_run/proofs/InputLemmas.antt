@@ -1,6 +1,6 @@
 -- Lemmas about showing several inputs, one after another.
-use Rattle.std.proofs.Common.{◌≡◌, ◌≤◌, ◌<◌, ◌+◌, ℕ, false, true, List, [], ◌∷◌, Option, Result, add-one, arith, drop, get_or, length}
-use Rattle.std.proofs.Common.{map, refl, subst, sym}
+use Rattle.std.proofs.Common.{◌≡◌, ◌≤◌, ◌<◌, ◌+◌, ℕ, false, true, List, [], ◌∷◌, Option, Result, add-one, arith, drop}
+use Rattle.std.proofs.Common.{get_or, length, map, refl, subst, sym}
 use Rattle.std.proofs.{lemmas.Grind.{common_steps}, lemmas.List.{drop_all}, Math.Seq.{drop-cons}}
 use Rattle.std.specs.List.{FoldsTo}
 use Rattle.std.specs.declared.io.Error.{Error}
@@ -26,13 +26,13 @@ pub fold_skip : {P A B : Type 0} (R : P → B → P → Type 0) (f : A → B) (x
 fold_skip R f [] i s last lt skip later = absurd (grind (arith, common_steps))
 fold_skip R f (x ∷ xs) i s last lt skip later = fold_next R f (x ∷ xs) i x s s last lt (skip _) later
 
-module _ {S W E : Type 0} (unread : S → Option (List ℕ)) (written : W → Option (List ℕ)) (said : E → Option (List ℕ))
+module _ {S W E : Type 0} (input_of : S → Option (List ℕ)) (output_of : W → Option (List ℕ)) (errors_of : E → Option (List ℕ))
     (Opens : List ℕ → Result S Error → Type 0) (view : View) (s : State W E) where
   pub next_shown : (name : List ℕ) (s' : State W E) (exit : ℕ) → has_failed s.streams.output ≡ false
-      → ShowsInput unread written said Opens view s.streams name s'.streams exit
-      → s'.status ≡ first_status s.status exit → ShowsNext unread written said Opens view s name s'
+      → ShowsInput input_of output_of errors_of Opens view s.streams name s'.streams exit
+      → s'.status ≡ first_status s.status exit → ShowsNext input_of output_of errors_of Opens view s name s'
   next_shown name s' exit sound shows status = rw (sound) (exit, shows, status)
 
   pub next_skipped : has_failed s.streams.output ≡ true → (name : List ℕ)
-      → ShowsNext unread written said Opens view s name s
+      → ShowsNext input_of output_of errors_of Opens view s name s
   next_skipped failed name = rw (failed) refl

@@ -1,5 +1,8 @@
 -- The output, the messages and the exit status for several inputs.
-use Rattle.std.specs.Prelude.{ℕ, ◌≡◌, ◌==◌, Bool, true, false, if◌then◌else◌, List, [], codes, Option, Result, Ok, Err}
+use Rattle.std.specs.Prelude.{ℕ, ◌≡◌, ◌==◌, Bool, true, false, if◌then◌else◌, List, [], ◌∷◌, codes, Option}
+use Rattle.std.specs.Prelude.{Result, Ok, Err}
+use Rattle.std.specs.List.{FoldsTo}
+use Rattle.std.proofs.Common.{subst, sym, true≢false}
 use Rattle.std.specs.IoError.{error_kind}
 use Rattle.std.specs.declared.io.Error.{Error}
 use Rattle.std.specs.declared.io.ErrorKind.{ErrorKind}
@@ -15,7 +18,7 @@ use Rattle.highlight_run.specs.declared.inputs.Input.TheVariants.{Standard, File
 use Rattle.highlight_run.specs.declared.inputs.Streams.{Streams}
 use Rattle.highlight_run.specs.declared.job.View.{View}
 
--- The known bytes of standard input or of a file, still unread.
+-- The known bytes that standard input or a file has yet to return.
 abbrev pub remaining_of : {R S : Type 0} → (R → Option (List ℕ)) → (S → Option (List ℕ)) → Input R S
     → Option (List ℕ)
 remaining_of input file (Standard reader) = input reader
@@ -41,34 +44,34 @@ pub record State (W E : Type 0) : Type 0 where
   pub status : ℕ
 
 -- Holds for the outcome of showing an input: the whole output for its text was written, or a prefix of it if the output
--- failed; after any other fault, nothing was written. With `Err`, the input could not be opened. The first two
--- parameters return the known bytes of an input (unread) and of the output (written).
+-- failed; after any other fault, nothing was written. With `Err`, the input could not be opened. `input_of`
+-- returns the known bytes that an input has yet to return, and `output_of` those that were written.
 abbrev pub IsShown : {S W : Type 0} → (S → Option (List ℕ)) → (W → Option (List ℕ)) → View
     → Result S Error → Watch W → Watch W → Result (Unit {0}) Fault → Type 0
-IsShown {S} unread written view (Ok start) output output' outcome =
-    (input : Watch S) × Leaves input output' (written output.inner) (written output'.inner) outcome
-    × Makes (printed view.format view.edition) (unread start) (written output.inner)
-    (written output'.inner) outcome
-IsShown unread written view (Err error) output output' outcome =
+IsShown {S} input_of output_of view (Ok start) output output' outcome =
+    (input : Watch S) × Leaves input output' (output_of output.inner) (output_of output'.inner) outcome
+    × Makes (printed view.format view.edition) (input_of start) (output_of output.inner)
+    (output_of output'.inner) outcome
+IsShown input_of output_of view (Err error) output output' outcome =
     (outcome ≡ Err Arguments) × (output' ≡ output)
 
--- Holds if an outcome was reported, with a message about the subject. `said` returns the known bytes of the errors. If
--- nobody reads the output any more, a failed write is not reported.
-abbrev pub Tells : {W E : Type 0} → (E → Option (List ℕ)) → List ℕ → List ℕ → Result (Unit {0}) Fault → Streams W E
+-- Holds if an outcome was reported, with a message about the subject. `errors_of` returns the known bytes of the error
+-- stream. If nobody reads the output any more, a failed write is not reported.
+abbrev pub Reports : {W E : Type 0} → (E → Option (List ℕ)) → List ℕ → List ℕ → Result (Unit {0}) Fault → Streams W E
     → Streams W E → ℕ → Type 0
-Tells said subject reason outcome s s' exit =
+Reports errors_of subject reason outcome s s' exit =
     IsReported (fault_line (line_start (codes "highlight: ") subject) reason) outcome (is_closed s'.output) exit
-    (has_failed s'.errors ≡ false) s'.errors.flushed (said s.errors.inner) (said s'.errors.inner)
+    (has_failed s'.errors ≡ false) s'.errors.flushed (errors_of s.errors.inner) (errors_of s'.errors.inner)
 
--- The first three parameters return the known bytes of an input (unread), and of the output and the errors (written).
+-- `input_of`, `output_of` and `errors_of` return the known bytes of an input, of the output and of the error stream.
 -- `Opens` holds for a name and a result of opening the input with this name.
-module _ {S W E : Type 0} (unread : S → Option (List ℕ)) (written : W → Option (List ℕ))
-    (said : E → Option (List ℕ)) (Opens : List ℕ → Result S Error → Type 0) (view : View) where
+module _ {S W E : Type 0} (input_of : S → Option (List ℕ)) (output_of : W → Option (List ℕ))
+    (errors_of : E → Option (List ℕ)) (Opens : List ℕ → Result S Error → Type 0) (view : View) where
   -- Holds if an input was opened and shown, and the outcome was reported. The message names the input.
   abbrev pub ShowsInput : Streams W E → List ℕ → Streams W E → ℕ → Type 0
   ShowsInput s name s' exit =
       (opened : Result S Error) × (outcome : Result (Unit {0}) Fault) × Opens name opened
-      × IsShown unread written view opened s.output s'.output outcome × Tells said name (reason opened) outcome s s' exit
+      × IsShown input_of output_of view opened s.output s'.output outcome × Reports errors_of name (reason opened) outcome s s' exit
 
   -- Holds if the next input was shown, or if the output had failed (`true`) and nothing changed.
   abbrev pub ShowsUnless : Bool → State W E → List ℕ → State W E → Type 0
@@ -80,3 +83,16 @@ module _ {S W E : Type 0} (unread : S → Option (List ℕ)) (written : W → Op
   -- Holds if the next input was shown, unless the output had failed before.
   abbrev pub ShowsNext : State W E → List ℕ → State W E → Type 0
   ShowsNext s name s' = ShowsUnless (has_failed s.streams.output) s name s'
+
+  shown_alone : (b : Bool) (s : Streams W E) (name : List ℕ) (j : State W E) → b ≡ false
+      → ShowsUnless b (record { streams = s; status = 0 }) name j → ShowsInput s name j.streams j.status
+  shown_alone false s name j sound shows = subst (ShowsInput s name j.streams) (sym shows.2) shows.1
+  shown_alone true s name j sound shows = absurd (true≢false sound)
+
+  -- For a single input, the status is that of the input.
+  pub single_input : (s s' : Streams W E) (name : List ℕ) (exit : ℕ) → has_failed s.output ≡ false
+      → FoldsTo ShowsNext (record { streams = s; status = 0 }) (name ∷ []) (record { streams = s'; status = exit })
+      → ShowsInput s name s' exit
+  single_input s s' name exit sound fold =
+      subst (λ (j : State W E). ShowsInput s name j.streams j.status) fold.2
+      (shown_alone (has_failed s.output) s name fold.0 sound fold.1)

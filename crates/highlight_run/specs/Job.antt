@@ -1,7 +1,7 @@
 -- The job and the inputs that the arguments after the program's name ask for. A rejection consists of the argument that
 -- it is about and the reason.
-use Rattle.std.specs.Prelude.{ℕ, ◌<◌, ◌≡◌, ◌≢◌, nat_eq, nat_lt, Bool, true, false, not, ◌||◌, if◌then◌else◌, List, [], ◌∷◌, ◌++◌, codes}
-use Rattle.std.specs.Prelude.{length, Option, Some, None, is_none, is_some, unwrap_or, Result, Ok, Err}
+use Rattle.std.specs.Prelude.{ℕ, ◌≡◌, ◌≢◌, nat_eq, nat_lt, Bool, true, false, ◌||◌, if◌then◌else◌, List, [], ◌∷◌, ◌++◌}
+use Rattle.std.specs.Prelude.{codes, length, Option, Some, None, is_none, unwrap_or, Result, Ok, Err}
 use Rattle.std.specs.Str.{bytes_eq}
 use denote.Ref.{Bor}
 use Rattle.program_io.specs.declared.fault.Fault.TheVariants.{Arguments, Memory}
@@ -86,7 +86,8 @@ with_word_alone options word =
     else (if bytes_eq word (codes "--color") then Ok record options { next = next.When }
     else (if bytes_eq word (codes "--html") then with_format options word Html
     else (if bytes_eq word (codes "--raw") then with_format options word Raw
-    else (if is_help word || is_version word then Err (word, codes "cannot be combined with other arguments")
+    else (if is_help word || is_version word then
+    Err (word, codes "cannot be combined with other arguments")
     else Err (word, codes "unknown option"))))))
 
 -- The value of `--edition=` or `--color=` follows the equals sign.
@@ -176,8 +177,8 @@ job_of words colours =
     (view_of p.0 (length p.1) colours)) (options_of no_options [] words))
 
 -- The bytes of a borrowed text.
-abbrev pub shown : Bor (List ℕ) → List ℕ
-shown text = text.now
+abbrev pub bytes_of : Bor (List ℕ) → List ℕ
+bytes_of text = text.now
 
 -- Holds if the arguments were rejected like this. After a failed allocation nothing is stated about them.
 abbrev pub IsRejected : {T : Type 0} → Reading T → Rejection → Type 0

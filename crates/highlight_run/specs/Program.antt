@@ -1,5 +1,5 @@
 -- What the program does, by its arguments and the bytes that it reads.
-use Rattle.std.specs.Prelude.{ℕ, ◌≡◌, ◌≢◌, ◌==◌, Bool, true, false, not, ◌&&◌, List, [], codes, drop, map, Option, Some}
+use Rattle.std.specs.Prelude.{ℕ, ◌≡◌, ◌==◌, Bool, true, false, not, ◌&&◌, List, [], codes, drop, map, Option, Some}
 use Rattle.std.specs.Prelude.{None, Result, Ok, Err, length, string_bytes, ◌↔◌, IfOk, IsErrOf, IsTrue, Vec}
 use Rattle.std.specs.Global.{Global}
 use denote.Ref.{Bor}
@@ -22,8 +22,8 @@ use Rattle.highlight_run.specs.declared.job.Job.{Job}
 use Rattle.highlight_run.specs.declared.job.Job.TheVariants.{Show, Help, Version}
 use Rattle.highlight_run.specs.declared.job.Rejection.{Rejection}
 use Rattle.highlight_run.specs.declared.program.TheConstants.{HELP, VERSION}
-use Rattle.highlight_run.specs.Inputs.{ShowsNext, Tells}
-use Rattle.highlight_run.specs.Job.{and_on, job_of, shown, IsRejected, Reading}
+use Rattle.highlight_run.specs.Inputs.{ShowsNext, Reports}
+use Rattle.highlight_run.specs.Job.{and_on, job_of, bytes_of, IsRejected, Reading}
 
 -- Whether the variable is unset or empty. The result is `None` if an allocation for its value failed.
 abbrev pub is_unset : Result (String Global) VarError → Option Bool
@@ -50,13 +50,13 @@ abbrev pub colours_of : Result (String Global) VarError → Result (String Globa
     → Option Bool
 colours_of no_color term is_terminal = colours_on (is_unset no_color) (is_dumb term) is_terminal
 
--- These are the bytes of the texts.
-abbrev pub texts : Vec (String Global) Global → List (List ℕ)
-texts words = map string_bytes words.items
+-- These are the bytes of the shown_each.
+abbrev pub bytes_of_each : Vec (String Global) Global → List (List ℕ)
+bytes_of_each words = map string_bytes words.items
 
--- These are the job and the inputs to show.
+-- The result is the job and the bytes of the inputs.
 abbrev pub with_inputs : Job × Vec (Bor (List ℕ)) Global → Job × List (List ℕ)
-with_inputs p = (p.0, map shown p.1.items)
+with_inputs p = (p.0, map bytes_of p.1.items)
 
 -- The words are the arguments after the program's name. The result is `None` if an allocation for them failed.
 abbrev pub words_in : Result (IntoIter (String Global) Global) ErrorKind → Option (Reading (List (List ℕ)))
@@ -69,37 +69,38 @@ abbrev pub asked : Option (Reading (List (List ℕ))) → Option Bool → Option
 asked (Some words) (Some colours) = Some (and_on (λ w. job_of w colours) words)
 asked words colours = None
 
--- Holds for the result of reading, which is seen by `view`. With `None`, an allocation failed.
+-- Holds for the result of a function that reads: `read` is what the arguments mean, or `None` if an allocation failed,
+-- and `view` returns what the definitions see of a result.
 abbrev pub IsRead : {S T : Type 0} → (S → T) → Option (Reading T) → Result S Rejection → Type 0
 IsRead view None (Ok x) = ⊥
 IsRead view None (Err why) = why.fault ≡ Memory
 IsRead view (Some read) (Ok x) = read ≡ Ok (view x)
 IsRead view (Some read) (Err why) = IsRejected read why
 
--- Holds if a fixed text was written, or a prefix of it if the output failed, and the outcome was reported. The first
--- two parameters return the known bytes of the output and of the errors.
+-- Holds if a fixed text was written, or a prefix of it if the output failed, and the outcome was reported. `output_of`
+-- and `errors_of` return the known bytes of the output and of the error stream.
 abbrev pub Prints : {W E : Type 0} → (W → Option (List ℕ)) → (E → Option (List ℕ)) → List ℕ
     → Streams W E → Streams W E → ℕ → Type 0
-Prints written said text s s' exit =
+Prints output_of errors_of text s s' exit =
     (outcome : Result (Unit {0}) Fault)
-    × Writes text (written s.output.inner) (written s'.output.inner) outcome
+    × Writes text (output_of s.output.inner) (output_of s'.output.inner) outcome
     × (IsErrOf outcome Write ↔ IsTrue (has_failed s'.output)) × IfOk outcome (λ _. s'.output.flushed ≡ true)
-    × Tells said [] [] outcome s s' exit
+    × Reports errors_of [] [] outcome s s' exit
 
--- The first three parameters return the known bytes of an input (unread), and of the output and the errors (written).
+-- `input_of`, `output_of` and `errors_of` return the known bytes of an input, of the output and of the error stream.
 -- `Opens` holds for a name and a result of opening the input with this name.
-module _ {S W E : Type 0} (unread : S → Option (List ℕ)) (written : W → Option (List ℕ))
-    (said : E → Option (List ℕ)) (Opens : List ℕ → Result S Error → Type 0) where
+module _ {S W E : Type 0} (input_of : S → Option (List ℕ)) (output_of : W → Option (List ℕ))
+    (errors_of : E → Option (List ℕ)) (Opens : List ℕ → Result S Error → Type 0) where
   -- Holds if the program did its job: it printed a text, or showed the inputs. If it has a fault instead of a job, it
   -- reported the fault and wrote nothing else.
   abbrev pub Does : Result (Job × List (List ℕ)) Rejection → Streams W E → Streams W E → ℕ → Type 0
-  Does (Ok (Help, inputs)) s s' exit = Prints written said HELP.now s s' exit
-  Does (Ok (Version, inputs)) s s' exit = Prints written said VERSION.now s s' exit
+  Does (Ok (Help, inputs)) s s' exit = Prints output_of errors_of HELP.now s s' exit
+  Does (Ok (Version, inputs)) s s' exit = Prints output_of errors_of VERSION.now s s' exit
   Does (Ok (Show view, inputs)) s s' exit =
-      FoldsTo (ShowsNext unread written said Opens view) (record { streams = s; status = 0 }) inputs
+      FoldsTo (ShowsNext input_of output_of errors_of Opens view) (record { streams = s; status = 0 }) inputs
       (record { streams = s'; status = exit })
   Does (Err why) s s' exit =
-      (s'.output ≡ s.output) × Tells said why.subject.now why.reason.now (Err why.fault) s s' exit
+      (s'.output ≡ s.output) × Reports errors_of why.subject.now why.reason.now (Err why.fault) s s' exit
 
   -- Holds for a run of the program: it chose a job or a fault by what is asked for, and did the job or reported the
   -- fault.

@@ -3,8 +3,8 @@ ghost use Rattle.std.specs.Prelude.{◌≡◌, false, map};
 ghost use Rattle.std.specs.Fn.{FnReturnsAt};
 ghost use Rattle.std.specs.List.{FoldsTo};
 ghost use Rattle.program_io.specs.Watch.{has_failed};
-ghost use Rattle.highlight_run.specs.Inputs.{first_status, reason, IsShown, ShowsInput, ShowsNext, Tells};
-ghost use Rattle.highlight_run.specs.Job.{shown};
+ghost use Rattle.highlight_run.specs.Inputs.{first_status, reason, IsShown, ShowsInput, ShowsNext, Reports};
+ghost use Rattle.highlight_run.specs.Job.{bytes_of};
 
 use crate::job::View;
 use crate::run::run;
@@ -52,7 +52,7 @@ pub fn show_inputs<S: Read + Drop, F: Fn(&str) -> io::Result<S>, W: Write, E: Wr
     requires opens { F.IsAlwaysCallable open_input.now }
     ensures { FoldsTo (ShowsNext S.remaining W.contents E.contents
         (λ name answer. FnReturnsAt F.Fn open_input.now name answer) view)
-        (record { streams = streams.old; status = 0 }) (map shown names.now)
+        (record { streams = streams.old; status = 0 }) (map bytes_of names.now)
         (record { streams = streams.new; status = result }) }
 {
     let mut exit = 0;
@@ -90,19 +90,19 @@ fn show_input<S: Read + Drop, F: Fn(&str) -> io::Result<S>, W: Write, E: Write>(
     let opened = open_input(name);
     let reason = reason(&opened);
     let outcome = show(alloc, view, opened, &mut streams.output);
-    tell(name, reason, &outcome, streams)
+    report_outcome(name, reason, &outcome, streams)
 }
 
 /// Reports an error, unless it is that nobody reads the output any more. `subject` is the argument or the input that
 /// the message is about, or "". Returns the exit status.
-pub fn tell<W: Write, E: Write>(
+pub fn report_outcome<W: Write, E: Write>(
     subject: &str,
     reason: &str,
     outcome: &Result<(), Fault>,
     streams: &mut Streams<W, E>,
 ) -> u8
     ensures output { streams.new.output ≡ streams.old.output }
-    ensures told { Tells E.contents subject.now reason.now outcome.now streams.old
+    ensures reported { Reports E.contents subject.now reason.now outcome.now streams.old
         streams.new result }
 {
     let message = Message {

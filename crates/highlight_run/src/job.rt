@@ -2,12 +2,14 @@
 ghost use Rattle.std.specs.Prelude.{◌≡◌, [], map, string_bytes, IfErr, IfOk, Ok};
 ghost use Rattle.std.specs.Option.{option_map};
 ghost use Rattle.program_io.specs.declared.fault.Fault.TheVariants.{Arguments, Memory};
-ghost use Rattle.highlight_run.specs.Job.{format_of, is_file, is_help, is_version, job_alone, job_of, options_of, shown, strip, view_of, with_color, with_edition, with_format, with_option, with_word, IsRejected};
+ghost use Rattle.highlight_run.specs.Job.{bytes_of, format_of, is_file, is_help, is_version, job_alone, job_of, options_of};
+ghost use Rattle.highlight_run.specs.Job.{strip, view_of, with_color, with_edition, with_format, with_option, with_word};
+ghost use Rattle.highlight_run.specs.Job.{IsRejected};
 
 use program_io::Fault;
 use rustc_lexer::Edition;
 use rustc_lexer_highlight::Format;
-use std::alloc::{AllocError, AllocFailed, Global};
+use std::alloc::Global;
 use std::str::FromStr;
 
 /// A job that the arguments ask for.
@@ -96,7 +98,7 @@ pub fn read_job<'a>(
     colours: bool,
 ) -> Result<(Job, Vec<&'a str>), Rejection<'a>>
     ensures taken { IfOk result
-        (λ p. job_of (map string_bytes words.now) colours ≡ Ok (p.0, map shown p.1.items)) }
+        (λ p. job_of (map string_bytes words.now) colours ≡ Ok (p.0, map bytes_of p.1.items)) }
     ensures rejected { IfErr result (IsRejected (job_of (map string_bytes words.now) colours)) }
 {
     if let Some(job) = read_alone(words) {
@@ -105,7 +107,7 @@ pub fn read_job<'a>(
     let (options, mut inputs) = read_words(alloc, words)?;
     let view = read_view(options, inputs.len(), colours)?;
     if inputs.is_empty() {
-        inputs.push("-")?;
+        inputs.push("-").map_err(|_| OUT_OF_MEMORY)?;
     }
     Ok((Job::Show(view), inputs))
 }
@@ -147,7 +149,7 @@ fn read_words<'a>(
     words: &'a [String],
 ) -> Result<(Options, Vec<&'a str>), Rejection<'a>>
     ensures taken { IfOk result (λ p.
-        options_of NO_OPTIONS [] (map string_bytes words.now) ≡ Ok (p.0, map shown p.1.items)) }
+        options_of NO_OPTIONS [] (map string_bytes words.now) ≡ Ok (p.0, map bytes_of p.1.items)) }
     ensures rejected { IfErr result
         (IsRejected (options_of NO_OPTIONS [] (map string_bytes words.now))) }
 {
@@ -156,7 +158,7 @@ fn read_words<'a>(
     for word in words {
         let word = word.as_str();
         if is_file(options.next, word) {
-            files.push(word)?;
+            files.push(word).map_err(|_| OUT_OF_MEMORY)?;
         } else {
             options = with_word(options, word)?;
         }
@@ -336,20 +338,4 @@ fn strip<'a>(text: &'a str, part: &str) -> Option<&'a str>
     ensures { option_map (λ rest. rest.now) result ≡ strip part.now text.now }
 {
     text.strip_prefix(part)
-}
-
-impl From<AllocError> for Rejection<'_> {
-    ghost from_gives = { λ _ why. why.fault ≡ Memory };
-
-    fn from(_error: AllocError) -> Self {
-        OUT_OF_MEMORY
-    }
-}
-
-impl<T: Drop> From<AllocFailed<T>> for Rejection<'_> {
-    ghost from_gives = { λ _ why. why.fault ≡ Memory };
-
-    fn from(_error: AllocFailed<T>) -> Self {
-        OUT_OF_MEMORY
-    }
 }

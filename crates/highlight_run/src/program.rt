@@ -4,12 +4,13 @@ ghost use Rattle.std.specs.Fn.{FnReturnsAt};
 ghost use Rattle.program_io.specs.Watch.{has_failed};
 ghost use Rattle.highlight_run.specs.Job.{Reading};
 ghost use Rattle.highlight_run.specs.Page.{foot, head};
-ghost use Rattle.highlight_run.specs.Program.{asked, colours_of, is_dumb, is_unset, texts, with_inputs, words_in, IsRead, Prints, Ran};
+ghost use Rattle.highlight_run.specs.Program.{asked, bytes_of_each, colours_of, is_dumb, is_unset, with_inputs, words_in};
+ghost use Rattle.highlight_run.specs.Program.{IsRead, Prints, Ran};
 ghost use Rattle.highlight_run.specs.Texts.{IsFrame, NamesArguments};
 ghost use Rattle.highlight_run.specs.declared.program.TheConstants.{HELP};
 ghost use Rattle.rustc_lexer_highlight.specs.declared.format.Format.TheVariants.{Html};
 
-use crate::inputs::{Streams, show_inputs, tell};
+use crate::inputs::{Streams, report_outcome, show_inputs};
 use crate::job::{Job, OUT_OF_MEMORY, Rejection, read_job, reject};
 use program_io::{past_name, put};
 use std::alloc::Global;
@@ -88,7 +89,7 @@ pub fn program<S: Read + Drop, F: Fn(&str) -> io::Result<S>, W: Write, E: Write>
         }
         Ok((Job::Help, _)) => print(HELP, streams),
         Ok((Job::Version, _)) => print(VERSION, streams),
-        Err(why) => tell(why.subject, why.reason, &Err(why.fault), streams),
+        Err(why) => report_outcome(why.subject, why.reason, &Err(why.fault), streams),
     }
 }
 
@@ -98,7 +99,7 @@ fn print<W: Write, E: Write>(text: &str, streams: &mut Streams<W, E>) -> u8
     ensures { Prints W.contents E.contents text.now streams.old streams.new result }
 {
     let outcome = put(&mut streams.output, text);
-    tell("", "", &outcome, streams)
+    report_outcome("", "", &outcome, streams)
 }
 
 /// Returns the arguments after the program's name.
@@ -106,10 +107,10 @@ fn read_words(
     alloc: Global,
     args: Result<Args, ErrorKind>,
 ) -> Result<Vec<String>, Rejection<'static>>
-    ensures { IsRead texts (words_in args) result }
+    ensures { IsRead bytes_of_each (words_in args) result }
 {
     match args {
-        Ok(args) => Ok(past_name(alloc, args)?),
+        Ok(args) => past_name(alloc, args).map_err(|_| OUT_OF_MEMORY),
         Err(ErrorKind::InvalidData) => Err(reject("", "an argument is not UTF-8")),
         Err(_) => Err(OUT_OF_MEMORY),
     }
@@ -122,7 +123,7 @@ fn choose_job<'a>(
     words: &'a Result<Vec<String>, Rejection<'static>>,
     colours: Option<bool>,
 ) -> Result<(Job, Vec<&'a str>), Rejection<'a>>
-    ensures { (read : Option (Reading (List (List ℕ)))) → IsRead texts read words.now
+    ensures { (read : Option (Reading (List (List ℕ)))) → IsRead bytes_of_each read words.now
         → IsRead with_inputs (asked read colours) result }
 {
     let colours = colours.ok_or(OUT_OF_MEMORY)?;

@@ -98,11 +98,7 @@ fn is_told(fault: &Fault, quiet: bool) -> bool
 
 /// Writes the line that reports a fault, and flushes.
 #[tactic(auto, using(crate::proofs::KnownLemmas::front_first, crate::proofs::KnownLemmas::front_more))]
-fn tell<E: Write>(
-    message: Message<'_>,
-    fault: &Fault,
-    errors: &mut Watched<E>,
-) -> Result<(), Fault>
+fn tell<E: Write>(message: Message<'_>, fault: &Fault, errors: &mut Watched<E>) -> Result<(), Fault>
     ensures failed { has_failed errors.new ≡ (has_failed errors.old || is_err result) }
     ensures flushed { IfOk result (λ _. errors.new.flushed ≡ true) }
     ensures ok { OnOk result (Appends (E.contents errors.old.inner) (E.contents errors.new.inner)
@@ -113,7 +109,11 @@ fn tell<E: Write>(
         (fault_line (line_start message.entry.start.now message.entry.subject.now) message.entry.reason.now
         fault.now)) }
 {
-    let Message { start, subject, reason } = message;
+    let Message {
+        start,
+        subject,
+        reason,
+    } = message;
     write_texts(errors, start, subject, colon(subject))?;
     let mut buffer = Buffer::new();
     let (before, number, after) = text_of(fault, reason);

@@ -65,12 +65,12 @@ fn show_input<S: Read, F: Fn(&str) -> io::Result<S>, W: Write, E: Write>(
     let opened = open_input(name);
     let reason = reason(&opened);
     let outcome = show(alloc, view, opened, &mut streams.output);
-    tell(name, reason, &outcome, streams)
+    report_outcome(name, reason, &outcome, streams)
 }
 
 /// Reports an error, unless it is that nobody reads the output any more. `subject` is the argument or the input that
 /// the message is about, or "". Returns the exit status.
-pub fn tell<W: Write, E: Write>(
+pub fn report_outcome<W: Write, E: Write>(
     subject: &str,
     reason: &str,
     outcome: &Result<(), Fault>,

@@ -5,7 +5,7 @@ use rattle_std::prelude::String;
 use rattle_std::prelude::Vec;
 
 use program_io::Fault;
-use rattle_std::alloc::{AllocError, AllocFailed, Global};
+use rattle_std::alloc::Global;
 use rattle_std::str::FromStr;
 use rustc_lexer::generated::Edition;
 use rustc_lexer_highlight::Format;
@@ -101,7 +101,7 @@ pub fn read_job<'a>(
     let (options, mut inputs) = read_words(alloc, words)?;
     let view = read_view(options, inputs.len(), colours)?;
     if inputs.is_empty() {
-        inputs.push("-")?;
+        inputs.push("-").map_err(|_| OUT_OF_MEMORY)?;
     }
     Ok((Job::Show(view), inputs))
 }
@@ -141,7 +141,7 @@ fn read_words<'a>(
     for word in words {
         let word = word.as_str();
         if is_file(options.next, word) {
-            files.push(word)?;
+            files.push(word).map_err(|_| OUT_OF_MEMORY)?;
         } else {
             options = with_word(options, word)?;
         }
@@ -293,16 +293,4 @@ fn format_of(options: Options, colours: bool) -> Format {
 /// Returns the text after the prefix `part`, or `None` if it does not start with `part`.
 fn strip<'a>(text: &'a str, part: &str) -> Option<&'a str> {
     text.strip_prefix(part)
-}
-
-impl From<AllocError> for Rejection<'_> {
-    fn from(_error: AllocError) -> Self {
-        OUT_OF_MEMORY
-    }
-}
-
-impl<T> From<AllocFailed<T>> for Rejection<'_> {
-    fn from(_error: AllocFailed<T>) -> Self {
-        OUT_OF_MEMORY
-    }
 }

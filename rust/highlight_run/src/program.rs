@@ -4,7 +4,7 @@ use rattle_std::prelude::String;
 
 use rattle_std::prelude::Vec;
 
-use crate::inputs::{Streams, show_inputs, tell};
+use crate::inputs::{Streams, report_outcome, show_inputs};
 use crate::job::{Job, OUT_OF_MEMORY, Rejection, read_job, reject};
 use program_io::{past_name, put};
 use rattle_std::alloc::Global;
@@ -73,14 +73,14 @@ pub fn program<S: Read, F: Fn(&str) -> io::Result<S>, W: Write, E: Write>(
         }
         Ok((Job::Help, _)) => print(HELP, streams),
         Ok((Job::Version, _)) => print(VERSION, streams),
-        Err(why) => tell(why.subject, why.reason, &Err(why.fault), streams),
+        Err(why) => report_outcome(why.subject, why.reason, &Err(why.fault), streams),
     }
 }
 
 /// Prints the help or the version, and reports an error. Returns the exit status.
 fn print<W: Write, E: Write>(text: &str, streams: &mut Streams<W, E>) -> u8 {
     let outcome = put(&mut streams.output, text);
-    tell("", "", &outcome, streams)
+    report_outcome("", "", &outcome, streams)
 }
 
 /// Returns the arguments after the program's name.
@@ -89,7 +89,7 @@ fn read_words(
     args: Result<Args, ErrorKind>,
 ) -> Result<Vec<String>, Rejection<'static>> {
     match args {
-        Ok(args) => Ok(past_name(alloc, args)?),
+        Ok(args) => past_name(alloc, args).map_err(|_| OUT_OF_MEMORY),
         Err(ErrorKind::InvalidData) => Err(reject("", "an argument is not UTF-8")),
         Err(_) => Err(OUT_OF_MEMORY),
     }

@@ -6,6 +6,6 @@ returns g c = (
   c.open_input-opened.result,
   c.show-outcome.result,
   record { shown = c.args.name; shows = refl; says = record { met = c.open_input-opened.ensures } },
-  rw (c.tell.ensures.output) c.show-outcome.ensures,
-  rw (← c.reason-reason.ensures) c.tell.ensures.told,
+  rw (c.report_outcome.ensures.output) c.show-outcome.ensures,
+  rw (← c.reason-reason.ensures) c.report_outcome.ensures.reported,
 )

@@ -1,6 +1,6 @@
 use Rattle.std.proofs.Common.{◌≡◌, List, ℕ, Bool, Option, Some, None, Result, Ok, Err, map, refl, subst}
 use Rattle.highlight_run.specs.declared.job.Rejection.{Rejection}
-use Rattle.highlight_run.specs.Job.{shown, Reading}
+use Rattle.highlight_run.specs.Job.{bytes_of, Reading}
 use Rattle.highlight_run.specs.Program.{asked, with_inputs, IsRead}
 use Rattle.highlight_run.proofs.program.program.Goals as goal
 
@@ -17,7 +17,7 @@ read-err view (Some read) result why e is = rw e at is
 
 pub returns-in-Ok-Show-default-clause-ended : goal.returns-in-Ok-Show-default-clause-ended
 returns-in-Ok-Show-default-clause-ended g c = (
-  Ok (c.in-Ok-Show-default.field-0-0, map shown c.in-Ok-Show-default.inputs.items),
+  Ok (c.in-Ok-Show-default.field-0-0, map bytes_of c.in-Ok-Show-default.inputs.items),
   rw (← c.wants_colours-colours.ensures) (read-ok with_inputs _ _ (c.in-Ok-Show-default.field-0-0, c.in-Ok-Show-default.inputs)
       c.in-Ok-Show-default.is (c.choose_job.ensures _ c.read_words-words.ensures)),
   rw (c.in-Ok-Show-default.field-0-0-is, ← c.as_slice.ensures.value) c.show_inputs.ensures,
@@ -25,7 +25,7 @@ returns-in-Ok-Show-default-clause-ended g c = (
 
 pub returns-in-Ok-Help-default-clause-ended : goal.returns-in-Ok-Help-default-clause-ended
 returns-in-Ok-Help-default-clause-ended g c = (
-  Ok (c.in-Ok-Help-default.field-0-0, map shown c.in-Ok-Help-default.field-0-1.items),
+  Ok (c.in-Ok-Help-default.field-0-0, map bytes_of c.in-Ok-Help-default.field-0-1.items),
   rw (← c.wants_colours-colours.ensures) (read-ok with_inputs _ _ (c.in-Ok-Help-default.field-0-0, c.in-Ok-Help-default.field-0-1)
       c.in-Ok-Help-default.is (c.choose_job.ensures _ c.read_words-words.ensures)),
   rw (c.in-Ok-Help-default.field-0-0-is) c.print.ensures,
@@ -33,7 +33,7 @@ returns-in-Ok-Help-default-clause-ended g c = (
 
 pub returns-in-Ok-Version-default-clause-ended : goal.returns-in-Ok-Version-default-clause-ended
 returns-in-Ok-Version-default-clause-ended g c = (
-  Ok (c.in-Ok-Version-default.field-0-0, map shown c.in-Ok-Version-default.field-0-1.items),
+  Ok (c.in-Ok-Version-default.field-0-0, map bytes_of c.in-Ok-Version-default.field-0-1.items),
   rw (← c.wants_colours-colours.ensures) (read-ok with_inputs _ _ (c.in-Ok-Version-default.field-0-0, c.in-Ok-Version-default.field-0-1)
       c.in-Ok-Version-default.is (c.choose_job.ensures _ c.read_words-words.ensures)),
   rw (c.in-Ok-Version-default.field-0-0-is) c.print-in-Ok-Version-default.ensures,
@@ -44,5 +44,5 @@ returns-clause-ended g c = (
   Err c.in-Err.why,
   rw (← c.wants_colours-colours.ensures) (read-err with_inputs _ _ c.in-Err.why c.in-Err.is
       (c.choose_job.ensures _ c.read_words-words.ensures)),
-  (c.tell.ensures.output, c.tell.ensures.told),
+  (c.report_outcome.ensures.output, c.report_outcome.ensures.reported),
 )
