@@ -1,8 +1,8 @@
 //! Writes Rust source in colours, for a terminal or as a web page.
 #![tactic(auto)]
 
+use highlight_run::Streams;
 use highlight_run::program::{Start, program};
-use highlight_run::{Input, Streams};
 use program_io::Watched;
 use std::io::IsTerminal;
 use std::process::ExitCode;
@@ -15,14 +15,12 @@ fn main(rt: HostRuntime) -> ExitCode {
         term: env::var(&rt, "TERM"),
         is_terminal: rt.stdout().is_terminal(),
     };
-    let open_input = |name: &str| match name {
-        "-" => Ok(Input::Standard(rt.stdin())),
-        _ => fs::open(&rt, name).map(Input::File),
-    };
+    let open_file = |name: &str| fs::open(&rt, name);
     let mut streams = Streams {
+        input: Watched::new(rt.stdin()),
         output: Watched::new(rt.stdout()),
         errors: Watched::new(rt.stderr()),
     };
-    let status = program(rt.alloc(), start, &open_input, &mut streams);
+    let status = program(rt.alloc(), start, &open_file, &mut streams);
     ExitCode::from(status)
 }

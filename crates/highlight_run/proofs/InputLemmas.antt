@@ -5,7 +5,7 @@ use Rattle.std.proofs.{lemmas.Grind.{common_steps}, lemmas.List.{drop_all}, Math
 use Rattle.std.specs.List.{FoldsTo}
 use Rattle.std.specs.declared.io.Error.{Error}
 use Rattle.program_io.specs.Watch.{has_failed}
-use Rattle.highlight_run.specs.Inputs.{State, ShowsInput, ShowsNext, first_status}
+use Rattle.highlight_run.specs.Inputs.{State, ShowsInput, ShowsNext, first_status, is_input}
 use Rattle.highlight_run.specs.declared.job.View.{View}
 
 module _ {P A B : Type 0} (R : P → B → P → Type 0) (f : A → B) (xs : List A) (i : ℕ) where
@@ -26,13 +26,15 @@ pub fold_skip : {P A B : Type 0} (R : P → B → P → Type 0) (f : A → B) (x
 fold_skip R f [] i s last lt skip later = absurd (grind (arith, common_steps))
 fold_skip R f (x ∷ xs) i s last lt skip later = fold_next R f (x ∷ xs) i x s s last lt (skip _) later
 
-module _ {S W E : Type 0} (input_of : S → Option (List ℕ)) (output_of : W → Option (List ℕ)) (errors_of : E → Option (List ℕ))
-    (Opens : List ℕ → Result S Error → Type 0) (view : View) (s : State W E) where
-  pub next_shown : (name : List ℕ) (s' : State W E) (exit : ℕ) → has_failed s.streams.output ≡ false
-      → ShowsInput input_of output_of errors_of Opens view s.streams name s'.streams exit
-      → s'.status ≡ first_status s.status exit → ShowsNext input_of output_of errors_of Opens view s name s'
+module _ {R S W E : Type 0} (input_of : R → Option (List ℕ)) (file_of : S → Option (List ℕ))
+    (output_of : W → Option (List ℕ)) (errors_of : E → Option (List ℕ))
+    (Opens : List ℕ → Result S Error → Type 0) (view : View) (s : State R W E) where
+  pub next_shown : (name : List ℕ) (s' : State R W E) (exit : ℕ) → has_failed s.streams.output ≡ false
+      → ShowsInput input_of file_of output_of errors_of Opens view (is_input name) s.streams name s'.streams exit
+      → s'.status ≡ first_status s.status exit
+      → ShowsNext input_of file_of output_of errors_of Opens view s name s'
   next_shown name s' exit sound shows status = rw (sound) (exit, shows, status)
 
   pub next_skipped : has_failed s.streams.output ≡ true → (name : List ℕ)
-      → ShowsNext input_of output_of errors_of Opens view s name s
+      → ShowsNext input_of file_of output_of errors_of Opens view s name s
   next_skipped failed name = rw (failed) refl

@@ -1,15 +1,16 @@
 -- The job and the inputs that the arguments after the program's name ask for. A rejection consists of the argument that
 -- it is about and the reason.
-use Rattle.std.specs.Prelude.{ℕ, ◌≡◌, ◌≢◌, nat_eq, nat_lt, Bool, true, false, ◌||◌, if◌then◌else◌, List, [], ◌∷◌, ◌++◌}
+use Rattle.std.specs.Prelude.{ℕ, ◌≡◌, nat_eq, nat_lt, Bool, true, false, ◌||◌, if◌then◌else◌, List, [], ◌∷◌, ◌++◌}
 use Rattle.std.specs.Prelude.{codes, length, Option, Some, None, is_none, unwrap_or, Result, Ok, Err}
 use Rattle.std.specs.Str.{bytes_eq}
 use denote.Ref.{Bor}
-use Rattle.program_io.specs.declared.fault.Fault.TheVariants.{Arguments, Memory}
 use Rattle.rustc_lexer.specs.declared.edition.Edition.{Edition}
 use Rattle.rustc_lexer.specs.LanguageCalls.{edition_of}
 use Rattle.rustc_lexer.specs.LanguageText.{newest}
 use Rattle.highlight_run.specs.declared.job.Job.{Job}
 use Rattle.highlight_run.specs.declared.job.Job.TheVariants.{Show, Help, Version}
+use Rattle.highlight_run.specs.declared.job.JobError.{JobError}
+use Rattle.highlight_run.specs.declared.job.JobError.TheVariants.{OutOfMemory, Rejected}
 use Rattle.highlight_run.specs.declared.job.Next.{Next}
 use Rattle.highlight_run.specs.declared.job.Next.TheVariants as next
 use Rattle.highlight_run.specs.declared.job.Options.{Options}
@@ -180,7 +181,12 @@ job_of words colours =
 abbrev pub bytes_of : Bor (List ℕ) → List ℕ
 bytes_of text = text.now
 
--- Holds if the arguments were rejected like this. After a failed allocation nothing is stated about them.
-abbrev pub IsRejected : {T : Type 0} → Reading T → Rejection → Type 0
-IsRejected read why =
-    why.fault ≢ Memory → (why.fault ≡ Arguments) × (read ≡ Err (why.subject.now, why.reason.now))
+-- What a result means.
+abbrev pub reading : {T : Type 0} → Result T Rejection → Reading T
+reading (Ok x) = Ok x
+reading (Err why) = Err (why.subject.now, why.reason.now)
+
+-- Holds if reading can fail like this. After a failed allocation, nothing is stated about the arguments.
+abbrev pub IsRejected : {T : Type 0} → Reading T → JobError → Type 0
+IsRejected read (Rejected why) = read ≡ Err (why.subject.now, why.reason.now)
+IsRejected read OutOfMemory = Unit {0}

@@ -1,12 +1,11 @@
 //! Reads the arguments of the program.
 ghost use Rattle.std.specs.Prelude.{◌≡◌, [], map, string_bytes, IfErr, IfOk, Ok};
 ghost use Rattle.std.specs.Option.{option_map};
-ghost use Rattle.program_io.specs.declared.fault.Fault.TheVariants.{Arguments, Memory};
+ghost use Rattle.highlight_run.specs.declared.job.JobError.TheVariants.{Rejected};
 ghost use Rattle.highlight_run.specs.Job.{bytes_of, format_of, is_file, is_help, is_version, job_alone, job_of, options_of};
 ghost use Rattle.highlight_run.specs.Job.{strip, view_of, with_color, with_edition, with_format, with_option, with_word};
-ghost use Rattle.highlight_run.specs.Job.{IsRejected};
+ghost use Rattle.highlight_run.specs.Job.{reading, IsRejected};
 
-use program_io::Fault;
 use rustc_lexer::Edition;
 use rustc_lexer_highlight::Format;
 use std::alloc::Global;
@@ -32,15 +31,30 @@ pub struct View {
     pub edition: Edition,
 }
 
-/// The reason why the arguments were rejected, or why they could not be read.
+/// The reason why there is no job.
+#[derive(Clone, Copy, Debug, PartialEq, Eq)]
+pub enum JobError<'a> {
+    /// The arguments are not valid.
+    Rejected(Rejection<'a>),
+    /// An allocation failed.
+    OutOfMemory,
+}
+
+/// The reason why the arguments are not valid.
 #[derive(Clone, Copy, Debug, PartialEq, Eq)]
 pub struct Rejection<'a> {
-    /// `Fault::Arguments`, or `Fault::Memory` if an allocation failed.
-    pub fault: Fault,
     /// The rejected argument or value, or the option that is incomplete; "" if the message is about no single one.
     pub subject: &'a str,
     /// What is wrong with it.
     pub reason: &'static str,
+}
+
+impl<'a> From<Rejection<'a>> for JobError<'a> {
+    ghost from_gives = { λ why error. error ≡ Rejected why };
+
+    fn from(why: Rejection<'a>) -> JobError<'a> {
+        JobError::Rejected(why)
+    }
 }
 
 /// When to write colours.
@@ -89,14 +103,14 @@ const NO_OPTIONS: Options = Options {
 ///
 /// # Errors
 ///
-/// - Returns `Fault::Arguments` if an option is unknown, has an invalid value or no value, or repeats or contradicts an
-///   earlier option; if `--help` or `--version` is combined with other arguments; and if `--html` has several files.
-/// - Returns `Fault::Memory` if an allocation failed.
+/// - Returns `JobError::Rejected` if an option is unknown, has an invalid value or no value, or repeats or contradicts
+///   an earlier option; if `--help` or `--version` is combined with other arguments; and if `--html` has several files.
+/// - Returns `JobError::OutOfMemory` if an allocation failed.
 pub fn read_job<'a>(
     alloc: Global,
     words: &'a [String],
     colours: bool,
-) -> Result<(Job, Vec<&'a str>), Rejection<'a>>
+) -> Result<(Job, Vec<&'a str>), JobError<'a>>
     ensures taken { IfOk result
         (λ p. job_of (map string_bytes words.now) colours ≡ Ok (p.0, map bytes_of p.1.items)) }
     ensures rejected { IfErr result (IsRejected (job_of (map string_bytes words.now) colours)) }
@@ -107,7 +121,7 @@ pub fn read_job<'a>(
     let (options, mut inputs) = read_words(alloc, words)?;
     let view = read_view(options, inputs.len(), colours)?;
     if inputs.is_empty() {
-        inputs.push("-").map_err(|_| OUT_OF_MEMORY)?;
+        inputs.push("-").map_err(|_| JobError::OutOfMemory)?;
     }
     Ok((Job::Show(view), inputs))
 }
@@ -147,7 +161,7 @@ fn is_version(word: &str) -> bool
 fn read_words<'a>(
     alloc: Global,
     words: &'a [String],
-) -> Result<(Options, Vec<&'a str>), Rejection<'a>>
+) -> Result<(Options, Vec<&'a str>), JobError<'a>>
     ensures taken { IfOk result (λ p.
         options_of NO_OPTIONS [] (map string_bytes words.now) ≡ Ok (p.0, map bytes_of p.1.items)) }
     ensures rejected { IfErr result
@@ -158,7 +172,7 @@ fn read_words<'a>(
     for word in words {
         let word = word.as_str();
         if is_file(options.next, word) {
-            files.push(word).map_err(|_| OUT_OF_MEMORY)?;
+            files.push(word).map_err(|_| JobError::OutOfMemory)?;
         } else {
             options = with_word(options, word)?;
         }
@@ -179,8 +193,7 @@ fn is_file(next: Next, word: &str) -> bool
 
 /// Adds an argument that is not a file.
 fn with_word(options: Options, word: &str) -> Result<Options, Rejection<'_>>
-    ensures taken { IfOk result (λ all. with_word options.next options word.now ≡ Ok all) }
-    ensures rejected { IfErr result (IsRejected (with_word options.next options word.now)) }
+    ensures { reading result ≡ with_word options.next options word.now }
 {
     match options.next {
         Next::Year => with_edition(options, word),
@@ -191,8 +204,7 @@ fn with_word(options: Options, word: &str) -> Result<Options, Rejection<'_>>
 
 /// Adds an argument that is an option, or `--`.
 fn with_option(options: Options, word: &str) -> Result<Options, Rejection<'_>>
-    ensures taken { IfOk result (λ all. with_option options word.now ≡ Ok all) }
-    ensures rejected { IfErr result (IsRejected (with_option options word.now)) }
+    ensures { reading result ≡ with_option options word.now }
 {
     if let Some(year) = strip(word, "--edition=") {
         return with_edition(options, year);
@@ -206,7 +218,7 @@ fn with_option(options: Options, word: &str) -> Result<Options, Rejection<'_>>
         "--color" => Ok(before(options, Next::When)),
         "--html" => with_format(options, word, Format::Html),
         "--raw" => with_format(options, word, Format::Raw),
-        "--help" | "-h" | "--version" | "-V" => {
+        _ if is_help(word) || is_version(word) => {
             Err(reject(word, "cannot be combined with other arguments"))
         }
         _ => Err(reject(word, "unknown option")),
@@ -222,8 +234,7 @@ fn before(options: Options, next: Next) -> Options
 
 /// Adds `--html` or `--raw`.
 fn with_format(options: Options, word: &str, format: Format) -> Result<Options, Rejection<'_>>
-    ensures taken { IfOk result (λ all. with_format options word.now format ≡ Ok all) }
-    ensures rejected { IfErr result (IsRejected (with_format options word.now format)) }
+    ensures { reading result ≡ with_format options word.now format }
 {
     if options.format.is_some() {
         return Err(reject(word, REPEATED));
@@ -236,8 +247,7 @@ fn with_format(options: Options, word: &str, format: Format) -> Result<Options, 
 
 /// Adds `--edition` with this year.
 fn with_edition(options: Options, year: &str) -> Result<Options, Rejection<'_>>
-    ensures taken { IfOk result (λ all. with_edition options year.now ≡ Ok all) }
-    ensures rejected { IfErr result (IsRejected (with_edition options year.now)) }
+    ensures { reading result ≡ with_edition options year.now }
 {
     let Ok(edition) = Edition::from_str(year) else {
         return Err(reject(year, "--edition must be 2015, 2018, 2021 or 2024"));
@@ -254,8 +264,7 @@ fn with_edition(options: Options, year: &str) -> Result<Options, Rejection<'_>>
 
 /// Adds `--color` with this value.
 fn with_color(options: Options, word: &str) -> Result<Options, Rejection<'_>>
-    ensures taken { IfOk result (λ all. with_color options word.now ≡ Ok all) }
-    ensures rejected { IfErr result (IsRejected (with_color options word.now)) }
+    ensures { reading result ≡ with_color options word.now }
 {
     let when = match word {
         "auto" => When::Auto,
@@ -276,28 +285,16 @@ fn with_color(options: Options, word: &str) -> Result<Options, Rejection<'_>>
 /// The reason to reject an option that was given before, and `--html` and `--raw` together.
 const REPEATED: &str = "repeats or contradicts an earlier option";
 
-/// The failure of an allocation.
-pub const OUT_OF_MEMORY: Rejection<'static> = Rejection {
-    fault: Fault::Memory,
-    subject: "",
-    reason: "",
-};
-
 /// Returns a rejection.
 pub fn reject<'a>(subject: &'a str, reason: &'static str) -> Rejection<'a>
-    ensures { result ≡ record { fault = Arguments; subject = subject.entry; reason = reason.entry } }
+    ensures { result ≡ record { subject = subject.entry; reason = reason.entry } }
 {
-    Rejection {
-        fault: Fault::Arguments,
-        subject,
-        reason,
-    }
+    Rejection { subject, reason }
 }
 
 /// Returns how to show the files, if all arguments were read and there are this many files.
 fn read_view(options: Options, files: usize, colours: bool) -> Result<View, Rejection<'static>>
-    ensures taken { IfOk result (λ view. view_of options files colours ≡ Ok view) }
-    ensures rejected { IfErr result (IsRejected (view_of options files colours)) }
+    ensures { reading result ≡ view_of options files colours }
 {
     match options.next {
         Next::Year => return Err(reject("--edition", "needs a value")),

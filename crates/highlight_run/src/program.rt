@@ -11,8 +11,8 @@ ghost use Rattle.highlight_run.specs.declared.program.TheConstants.{HELP};
 ghost use Rattle.rustc_lexer_highlight.specs.declared.format.Format.TheVariants.{Html};
 
 use crate::inputs::{Streams, report_outcome, show_inputs};
-use crate::job::{Job, OUT_OF_MEMORY, Rejection, read_job, reject};
-use program_io::{past_name, put};
+use crate::job::{Job, JobError, read_job, reject};
+use program_io::{Fault, past_name, put};
 use std::alloc::Global;
 use std::env::{Args, VarError};
 use std::io;
@@ -55,21 +55,21 @@ pub struct Start {
     pub is_terminal: bool,
 }
 
-/// Runs the program: reads the arguments and the inputs, writes the output, and reports errors. `open_input` opens an
-/// input by its name, and standard input if that is `-`.
+/// Runs the program: reads the arguments and the inputs, writes the output, and reports errors. `open_file` opens a file
+/// by its name.
 ///
 /// Returns the exit status. If inputs fail, it is the status of the first of them. If nobody reads the output any more,
 /// the program ends without a message about it, and this is not a failure.
-pub fn program<S: Read + Drop, F: Fn(&str) -> io::Result<S>, W: Write, E: Write>(
+pub fn program<R: Read, S: Read + Drop, F: Fn(&str) -> io::Result<S>, W: Write, E: Write>(
     alloc: Global,
     start: Start,
-    open_input: &F,
-    streams: &mut Streams<W, E>,
+    open_file: &F,
+    streams: &mut Streams<R, W, E>,
 ) -> u8
-    requires opens { F.IsAlwaysCallable open_input.now }
+    requires opens { F.IsAlwaysCallable open_file.now }
     requires writes { has_failed streams.old.output ≡ false }
-    ensures ended { Ran S.remaining W.contents E.contents
-        (λ name answer. FnReturnsAt F.Fn open_input.now name answer)
+    ensures ended { Ran R.remaining S.remaining W.contents E.contents
+        (λ name answer. FnReturnsAt F.Fn open_file.now name answer)
         (asked (words_in start.args) (colours_of start.no_color start.term start.is_terminal))
         streams.old streams.new result }
     ensures page { IsFrame (head Html) (foot Html) }
@@ -85,16 +85,19 @@ pub fn program<S: Read + Drop, F: Fn(&str) -> io::Result<S>, W: Write, E: Write>
     let words = read_words(alloc, args);
     match choose_job(alloc, &words, colours) {
         Ok((Job::Show(view), inputs)) => {
-            show_inputs(alloc, view, inputs.as_slice(), open_input, streams)
+            show_inputs(alloc, view, inputs.as_slice(), open_file, streams)
         }
         Ok((Job::Help, _)) => print(HELP, streams),
         Ok((Job::Version, _)) => print(VERSION, streams),
-        Err(why) => report_outcome(why.subject, why.reason, &Err(why.fault), streams),
+        Err(JobError::Rejected(why)) => {
+            report_outcome(why.subject, why.reason, &Err(Fault::Arguments), streams)
+        }
+        Err(JobError::OutOfMemory) => report_outcome("", "", &Err(Fault::Memory), streams),
     }
 }
 
 /// Prints the help or the version, and reports an error. Returns the exit status.
-fn print<W: Write, E: Write>(text: &str, streams: &mut Streams<W, E>) -> u8
+fn print<R, W: Write, E: Write>(text: &str, streams: &mut Streams<R, W, E>) -> u8
     requires writes { has_failed streams.old.output ≡ false }
     ensures { Prints W.contents E.contents text.now streams.old streams.new result }
 {
@@ -106,13 +109,15 @@ fn print<W: Write, E: Write>(text: &str, streams: &mut Streams<W, E>) -> u8
 fn read_words(
     alloc: Global,
     args: Result<Args, ErrorKind>,
-) -> Result<Vec<String>, Rejection<'static>>
+) -> Result<Vec<String>, JobError<'static>>
     ensures { IsRead bytes_of_each (words_in args) result }
 {
     match args {
-        Ok(args) => past_name(alloc, args).map_err(|_| OUT_OF_MEMORY),
-        Err(ErrorKind::InvalidData) => Err(reject("", "an argument is not UTF-8")),
-        Err(_) => Err(OUT_OF_MEMORY),
+        Ok(args) => past_name(alloc, args).map_err(|_| JobError::OutOfMemory),
+        Err(ErrorKind::InvalidData) => {
+            Err(JobError::Rejected(reject("", "an argument is not UTF-8")))
+        }
+        Err(_) => Err(JobError::OutOfMemory),
     }
 }
 
@@ -120,13 +125,13 @@ fn read_words(
 /// value of a variable failed.
 fn choose_job<'a>(
     alloc: Global,
-    words: &'a Result<Vec<String>, Rejection<'static>>,
+    words: &'a Result<Vec<String>, JobError<'static>>,
     colours: Option<bool>,
-) -> Result<(Job, Vec<&'a str>), Rejection<'a>>
+) -> Result<(Job, Vec<&'a str>), JobError<'a>>
     ensures { (read : Option (Reading (List (List ℕ)))) → IsRead bytes_of_each read words.now
         → IsRead with_inputs (asked read colours) result }
 {
-    let colours = colours.ok_or(OUT_OF_MEMORY)?;
+    let colours = colours.ok_or(JobError::OutOfMemory)?;
     match words {
         Ok(words) => read_job(alloc, words.as_slice(), colours),
         Err(why) => Err(*why),

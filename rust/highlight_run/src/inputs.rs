@@ -8,42 +8,31 @@ use rattle_std::alloc::Global;
 use rattle_std::io;
 use rattle_std::io::{ErrorKind, Read, Write};
 
-/// Standard input, or a file.
-pub enum Input<R, S> {
-    Standard(R),
-    File(S),
-}
-
-impl<R: Read, S: Read> Read for Input<R, S> {
-    fn read(&mut self, buf: &mut [u8]) -> io::Result<usize> {
-        match self {
-            Input::Standard(input) => input.read(buf),
-            Input::File(file) => file.read(buf),
-        }
-    }
-}
-
-/// The streams that the program writes.
-pub struct Streams<W, E> {
+/// The standard streams.
+pub struct Streams<R, W, E> {
+    /// Standard input, which the program reads for an input that is named `-`.
+    pub input: Watched<R>,
+    /// The output.
     pub output: Watched<W>,
+    /// The error stream, which the messages go to.
     pub errors: Watched<E>,
 }
 
-/// Shows the inputs with these names, in order. Once the output has failed, no more of them are opened. Returns the
-/// exit status of the first input that failed, or 0.
-pub fn show_inputs<S: Read, F: Fn(&str) -> io::Result<S>, W: Write, E: Write>(
+/// Shows the inputs with these names, in order. Once the output has failed, no more of them are opened or read. Returns
+/// the exit status of the first input that failed, or 0.
+pub fn show_inputs<R: Read, S: Read, F: Fn(&str) -> io::Result<S>, W: Write, E: Write>(
     alloc: Global,
     view: View,
     names: &[&str],
-    open_input: &F,
-    streams: &mut Streams<W, E>,
+    open_file: &F,
+    streams: &mut Streams<R, W, E>,
 ) -> u8 {
     let mut exit = 0;
     for name in names {
         if streams.output.failed() {
             continue;
         }
-        let next = show_input(alloc, view, name, open_input, streams);
+        let next = show_input(alloc, view, name, open_file, streams);
         exit = first_status(exit, next);
     }
     exit
@@ -54,27 +43,36 @@ fn first_status(before: u8, next: u8) -> u8 {
     if before == 0 { next } else { before }
 }
 
-/// Opens an input and shows it, and reports an error. Returns the exit status.
-fn show_input<S: Read, F: Fn(&str) -> io::Result<S>, W: Write, E: Write>(
+/// Shows standard input or a file, and reports an error. Returns the exit status.
+fn show_input<R: Read, S: Read, F: Fn(&str) -> io::Result<S>, W: Write, E: Write>(
     alloc: Global,
     view: View,
     name: &str,
-    open_input: &F,
-    streams: &mut Streams<W, E>,
+    open_file: &F,
+    streams: &mut Streams<R, W, E>,
 ) -> u8 {
-    let opened = open_input(name);
+    if is_input(name) {
+        let outcome = show(alloc, view, &mut streams.input, &mut streams.output);
+        return report_outcome(name, "", &outcome, streams);
+    }
+    let opened = open_file(name);
     let reason = reason(&opened);
-    let outcome = show(alloc, view, opened, &mut streams.output);
+    let outcome = show_file(alloc, view, opened, &mut streams.output);
     report_outcome(name, reason, &outcome, streams)
+}
+
+/// Returns whether an input is standard input.
+fn is_input(name: &str) -> bool {
+    name == "-"
 }
 
 /// Reports an error, unless it is that nobody reads the output any more. `subject` is the argument or the input that
 /// the message is about, or "". Returns the exit status.
-pub fn report_outcome<W: Write, E: Write>(
+pub fn report_outcome<R, W: Write, E: Write>(
     subject: &str,
     reason: &str,
     outcome: &Result<(), Fault>,
-    streams: &mut Streams<W, E>,
+    streams: &mut Streams<R, W, E>,
 ) -> u8 {
     let message = Message {
         start: "highlight: ",
@@ -85,7 +83,7 @@ pub fn report_outcome<W: Write, E: Write>(
     report(message, outcome, quiet, &mut streams.errors)
 }
 
-/// Returns the reason why an input could not be opened, or "".
+/// Returns the reason why a file could not be opened, or "".
 fn reason<S>(opened: &io::Result<S>) -> &'static str {
     match opened {
         Ok(_) => "",
@@ -97,21 +95,28 @@ fn reason<S>(opened: &io::Result<S>) -> &'static str {
     }
 }
 
-/// Shows the text of an input.
-fn show<S: Read, W: Write>(
+/// Shows the text of a file.
+fn show_file<S: Read, W: Write>(
     alloc: Global,
     view: View,
     opened: io::Result<S>,
     output: &mut Watched<W>,
 ) -> Result<(), Fault> {
     match opened {
-        Ok(input) => run(
-            alloc,
-            view.format,
-            view.edition,
-            &mut Watched::new(input),
-            output,
-        ),
+        Ok(file) => show(alloc, view, &mut Watched::new(file), output),
         Err(_) => Err(Fault::Arguments),
     }
+}
+
+/// Shows the text of a reader. One that has failed is not read again, since the inputs can name standard input twice.
+fn show<R: Read, W: Write>(
+    alloc: Global,
+    view: View,
+    input: &mut Watched<R>,
+    output: &mut Watched<W>,
+) -> Result<(), Fault> {
+    if input.failed() {
+        return Err(Fault::Read);
+    }
+    run(alloc, view.format, view.edition, input, output)
 }

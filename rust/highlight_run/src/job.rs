@@ -4,7 +4,6 @@ use rattle_std::prelude::String;
 
 use rattle_std::prelude::Vec;
 
-use program_io::Fault;
 use rattle_std::alloc::Global;
 use rattle_std::str::FromStr;
 use rustc_lexer::generated::Edition;
@@ -30,15 +29,28 @@ pub struct View {
     pub edition: Edition,
 }
 
-/// The reason why the arguments were rejected, or why they could not be read.
+/// The reason why there is no job.
+#[derive(Clone, Copy, Debug, PartialEq, Eq)]
+pub enum JobError<'a> {
+    /// The arguments are not valid.
+    Rejected(Rejection<'a>),
+    /// An allocation failed.
+    OutOfMemory,
+}
+
+/// The reason why the arguments are not valid.
 #[derive(Clone, Copy, Debug, PartialEq, Eq)]
 pub struct Rejection<'a> {
-    /// `Fault::Arguments`, or `Fault::Memory` if an allocation failed.
-    pub fault: Fault,
     /// The rejected argument or value, or the option that is incomplete; "" if the message is about no single one.
     pub subject: &'a str,
     /// What is wrong with it.
     pub reason: &'static str,
+}
+
+impl<'a> From<Rejection<'a>> for JobError<'a> {
+    fn from(why: Rejection<'a>) -> JobError<'a> {
+        JobError::Rejected(why)
+    }
 }
 
 /// When to write colours.
@@ -87,21 +99,21 @@ const NO_OPTIONS: Options = Options {
 ///
 /// # Errors
 ///
-/// - Returns `Fault::Arguments` if an option is unknown, has an invalid value or no value, or repeats or contradicts an
-///   earlier option; if `--help` or `--version` is combined with other arguments; and if `--html` has several files.
-/// - Returns `Fault::Memory` if an allocation failed.
+/// - Returns `JobError::Rejected` if an option is unknown, has an invalid value or no value, or repeats or contradicts
+///   an earlier option; if `--help` or `--version` is combined with other arguments; and if `--html` has several files.
+/// - Returns `JobError::OutOfMemory` if an allocation failed.
 pub fn read_job<'a>(
     alloc: Global,
     words: &'a [String],
     colours: bool,
-) -> Result<(Job, Vec<&'a str>), Rejection<'a>> {
+) -> Result<(Job, Vec<&'a str>), JobError<'a>> {
     if let Some(job) = read_alone(words) {
         return Ok((job, Vec::new(alloc)));
     }
     let (options, mut inputs) = read_words(alloc, words)?;
     let view = read_view(options, inputs.len(), colours)?;
     if inputs.is_empty() {
-        inputs.push("-").map_err(|_| OUT_OF_MEMORY)?;
+        inputs.push("-").map_err(|_| JobError::OutOfMemory)?;
     }
     Ok((Job::Show(view), inputs))
 }
@@ -135,13 +147,13 @@ fn is_version(word: &str) -> bool {
 fn read_words<'a>(
     alloc: Global,
     words: &'a [String],
-) -> Result<(Options, Vec<&'a str>), Rejection<'a>> {
+) -> Result<(Options, Vec<&'a str>), JobError<'a>> {
     let mut options = NO_OPTIONS;
     let mut files = Vec::new(alloc);
     for word in words {
         let word = word.as_str();
         if is_file(options.next, word) {
-            files.push(word).map_err(|_| OUT_OF_MEMORY)?;
+            files.push(word).map_err(|_| JobError::OutOfMemory)?;
         } else {
             options = with_word(options, word)?;
         }
@@ -181,7 +193,7 @@ fn with_option(options: Options, word: &str) -> Result<Options, Rejection<'_>> {
         "--color" => Ok(before(options, Next::When)),
         "--html" => with_format(options, word, Format::Html),
         "--raw" => with_format(options, word, Format::Raw),
-        "--help" | "-h" | "--version" | "-V" => {
+        _ if is_help(word) || is_version(word) => {
             Err(reject(word, "cannot be combined with other arguments"))
         }
         _ => Err(reject(word, "unknown option")),
@@ -240,20 +252,9 @@ fn with_color(options: Options, word: &str) -> Result<Options, Rejection<'_>> {
 /// The reason to reject an option that was given before, and `--html` and `--raw` together.
 const REPEATED: &str = "repeats or contradicts an earlier option";
 
-/// The failure of an allocation.
-pub const OUT_OF_MEMORY: Rejection<'static> = Rejection {
-    fault: Fault::Memory,
-    subject: "",
-    reason: "",
-};
-
 /// Returns a rejection.
 pub fn reject<'a>(subject: &'a str, reason: &'static str) -> Rejection<'a> {
-    Rejection {
-        fault: Fault::Arguments,
-        subject,
-        reason,
-    }
+    Rejection { subject, reason }
 }
 
 /// Returns how to show the files, if all arguments were read and there are this many files.

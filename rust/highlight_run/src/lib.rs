@@ -8,6 +8,6 @@ mod page;
 pub mod program;
 pub mod run;
 
-pub use inputs::{Input, Streams};
-pub use job::{Job, Rejection, View, read_job};
+pub use inputs::Streams;
+pub use job::{Job, JobError, Rejection, View, read_job};
 pub use program_io::Fault;

@@ -5,8 +5,8 @@ use rattle_std::prelude::String;
 use rattle_std::prelude::Vec;
 
 use crate::inputs::{Streams, report_outcome, show_inputs};
-use crate::job::{Job, OUT_OF_MEMORY, Rejection, read_job, reject};
-use program_io::{past_name, put};
+use crate::job::{Job, JobError, read_job, reject};
+use program_io::{Fault, past_name, put};
 use rattle_std::alloc::Global;
 use rattle_std::env::{Args, VarError};
 use rattle_std::io;
@@ -48,16 +48,16 @@ pub struct Start {
     pub is_terminal: bool,
 }
 
-/// Runs the program: reads the arguments and the inputs, writes the output, and reports errors. `open_input` opens an
-/// input by its name, and standard input if that is `-`.
+/// Runs the program: reads the arguments and the inputs, writes the output, and reports errors. `open_file` opens a file
+/// by its name.
 ///
 /// Returns the exit status. If inputs fail, it is the status of the first of them. If nobody reads the output any more,
 /// the program ends without a message about it, and this is not a failure.
-pub fn program<S: Read, F: Fn(&str) -> io::Result<S>, W: Write, E: Write>(
+pub fn program<R: Read, S: Read, F: Fn(&str) -> io::Result<S>, W: Write, E: Write>(
     alloc: Global,
     start: Start,
-    open_input: &F,
-    streams: &mut Streams<W, E>,
+    open_file: &F,
+    streams: &mut Streams<R, W, E>,
 ) -> u8 {
     let Start {
         args,
@@ -69,16 +69,19 @@ pub fn program<S: Read, F: Fn(&str) -> io::Result<S>, W: Write, E: Write>(
     let words = read_words(alloc, args);
     match choose_job(alloc, &words, colours) {
         Ok((Job::Show(view), inputs)) => {
-            show_inputs(alloc, view, inputs.as_slice(), open_input, streams)
+            show_inputs(alloc, view, inputs.as_slice(), open_file, streams)
         }
         Ok((Job::Help, _)) => print(HELP, streams),
         Ok((Job::Version, _)) => print(VERSION, streams),
-        Err(why) => report_outcome(why.subject, why.reason, &Err(why.fault), streams),
+        Err(JobError::Rejected(why)) => {
+            report_outcome(why.subject, why.reason, &Err(Fault::Arguments), streams)
+        }
+        Err(JobError::OutOfMemory) => report_outcome("", "", &Err(Fault::Memory), streams),
     }
 }
 
 /// Prints the help or the version, and reports an error. Returns the exit status.
-fn print<W: Write, E: Write>(text: &str, streams: &mut Streams<W, E>) -> u8 {
+fn print<R, W: Write, E: Write>(text: &str, streams: &mut Streams<R, W, E>) -> u8 {
     let outcome = put(&mut streams.output, text);
     report_outcome("", "", &outcome, streams)
 }
@@ -87,11 +90,13 @@ fn print<W: Write, E: Write>(text: &str, streams: &mut Streams<W, E>) -> u8 {
 fn read_words(
     alloc: Global,
     args: Result<Args, ErrorKind>,
-) -> Result<Vec<String>, Rejection<'static>> {
+) -> Result<Vec<String>, JobError<'static>> {
     match args {
-        Ok(args) => past_name(alloc, args).map_err(|_| OUT_OF_MEMORY),
-        Err(ErrorKind::InvalidData) => Err(reject("", "an argument is not UTF-8")),
-        Err(_) => Err(OUT_OF_MEMORY),
+        Ok(args) => past_name(alloc, args).map_err(|_| JobError::OutOfMemory),
+        Err(ErrorKind::InvalidData) => {
+            Err(JobError::Rejected(reject("", "an argument is not UTF-8")))
+        }
+        Err(_) => Err(JobError::OutOfMemory),
     }
 }
 
@@ -99,10 +104,10 @@ fn read_words(
 /// value of a variable failed.
 fn choose_job<'a>(
     alloc: Global,
-    words: &'a Result<Vec<String>, Rejection<'static>>,
+    words: &'a Result<Vec<String>, JobError<'static>>,
     colours: Option<bool>,
-) -> Result<(Job, Vec<&'a str>), Rejection<'a>> {
-    let colours = colours.ok_or(OUT_OF_MEMORY)?;
+) -> Result<(Job, Vec<&'a str>), JobError<'a>> {
+    let colours = colours.ok_or(JobError::OutOfMemory)?;
     match words {
         Ok(words) => read_job(alloc, words.as_slice(), colours),
         Err(why) => Err(*why),

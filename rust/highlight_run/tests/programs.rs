@@ -6,7 +6,7 @@ mod failing;
 use failing::{BYTES, Program, Reader, Script, Turn, WHOLE, words_of};
 use highlight_run::program::{Start, program};
 use highlight_run::run::run;
-use highlight_run::{Fault, Job, Rejection, Streams, View, read_job};
+use highlight_run::{Job, JobError, Rejection, Streams, View, read_job};
 use program_io::Watched;
 use rattle_std::alloc::Global;
 use rattle_std::env::VarError::{self, NotPresent, NotUnicode, OutOfMemory};
@@ -129,11 +129,7 @@ fn jobs() {
         assert_eq!(read(line, true), (job, String::new()), "{line}");
     }
     for (line, subject, reason) in REJECTED {
-        let why = Rejection {
-            fault: Fault::Arguments,
-            subject,
-            reason,
-        };
+        let why = JobError::Rejected(Rejection { subject, reason });
         let words = words_of(line);
         assert_eq!(read_job(Global, &words, true).unwrap_err(), why, "{line}");
     }
@@ -170,17 +166,13 @@ fn run_with(
     input: &[u8],
     writing: Script,
 ) -> (u8, Vec<u8>, Vec<u8>) {
-    let input = std::cell::Cell::new(input);
-    let open_input = |name: &str| match name {
-        "-" => Ok(reading.reader(input.take()).into_inner()),
-        _ => open_file(name),
-    };
     let mut streams = Streams {
+        input: reading.reader(input),
         output: writing.writer(),
         errors: WHOLE.writer(),
     };
-    let status = program(Global, start_of(process), &open_input, &mut streams);
-    let Streams { output, errors } = streams;
+    let status = program(Global, start_of(process), &open_file, &mut streams);
+    let (output, errors) = (streams.output, streams.errors);
     (status, output.into_inner().bytes, errors.into_inner().bytes)
 }
 
@@ -251,28 +243,26 @@ fn a_failed_output_ends_the_run() {
         (ErrorKind::Other, 7, "highlight: a: write failed\n"),
     ] {
         let opened = std::cell::Cell::new(0);
-        let open_input = |name: &str| {
+        let open_next = |name: &str| {
             opened.set(opened.get() + 1);
             open_file(name)
         };
         let mut streams = Streams {
+            input: WHOLE.reader(b""),
             output: BYTES.but_at(2, Turn::Fails(kind)).writer(),
             errors: WHOLE.writer(),
         };
-        let ended = program(Global, start_of(plain("a|b|a")), &open_input, &mut streams);
-        let Streams { output, errors } = streams;
-        let errors = errors.into_inner().bytes;
+        let ended = program(Global, start_of(plain("a|b|a")), &open_next, &mut streams);
+        let errors = streams.errors.into_inner().bytes;
         assert_eq!((ended, errors), (status, message.into()), "{kind:?}");
-        assert_eq!(
-            (opened.get(), output.into_inner().bytes),
-            (1, b"fn".to_vec())
-        );
+        let output = streams.output.into_inner().bytes;
+        assert_eq!((opened.get(), output), (1, b"fn".to_vec()));
     }
 }
 
-/// After a failed read of standard input, the next inputs are shown.
+/// Standard input that has failed is not read again, and the next inputs are shown.
 #[test]
-fn a_failed_input_does_not_end_the_run() {
+fn a_failed_input_is_not_read_again() {
     let failing = BYTES.but_at(0, Turn::Fails(ErrorKind::Other));
     let line = b"highlight: -: read failed\n";
     let wanted = (7, b"fn a".to_vec(), [&line[..], line].concat());
@@ -393,13 +383,12 @@ fn failing_streams() {
     Program {
         run: &|input, output, errors| {
             let process = (Ok(""), Err(NotPresent), Err(NotPresent), true);
-            let input = std::cell::RefCell::new(Some(Lent(input)));
-            let open_input = |_: &str| Ok(input.take().unwrap());
             let mut streams = Streams {
+                input: Watched::new(Lent(input)),
                 output: Watched::new(Lent(output)),
                 errors: Watched::new(Lent(errors)),
             };
-            program(Global, start_of(process), &open_input, &mut streams)
+            program(Global, start_of(process), &open_file, &mut streams)
         },
         text: b"fn a",
         output: b"\x1b[35mfn\x1b[0m a",

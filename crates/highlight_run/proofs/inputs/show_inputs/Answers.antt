@@ -7,7 +7,7 @@ pub loop-name-preserved-then-failed : goal.loop-name-preserved-then-failed
 loop-name-preserved-then-failed g c last later =
     c.loop-name.invariant last
     (fold_skip _ bytes_of c.args.names.now c.loop-name.name-index _ last c.loop-name-test.true
-    (next_skipped _ _ _ _ _ _ (grind (arith, common_steps, c.failed.ensures, c.if-failed.true))) later)
+    (next_skipped _ _ _ _ _ _ _ (grind (arith, common_steps, c.failed.ensures, c.if-failed.true))) later)
 
 pub loop-name-preserved : goal.loop-name-preserved
 loop-name-preserved g c last later =
@@ -16,7 +16,7 @@ loop-name-preserved g c last later =
     (record { streams = c.loop-name.streams; status = c.loop-name.exit })
     (record { streams = c.show_input-next.new.streams; status = c.first_status-exit.result }) last
     c.loop-name-test.true
-    (next_shown _ _ _ _ _ _ _ _ c.show_input-next.result
+    (next_shown _ _ _ _ _ _ _ _ _ c.show_input-next.result
     (grind (arith, common_steps, c.failed.ensures, c.if-failed.false)) c.show_input-next.ensures
     c.first_status-exit.ensures) later)
 

@@ -1,48 +1,59 @@
-use Rattle.std.proofs.Common.{◌≡◌, List, ℕ, Bool, Option, Some, None, Result, Ok, Err, map, refl, subst}
-use Rattle.highlight_run.specs.declared.job.Rejection.{Rejection}
-use Rattle.highlight_run.specs.Job.{bytes_of, Reading}
-use Rattle.highlight_run.specs.Program.{asked, with_inputs, IsRead}
+use Rattle.std.proofs.Common.{◌≡◌, Option, Some, None, Result, Ok, Err, refl}
+use Rattle.highlight_run.specs.declared.job.JobError.{JobError}
+use Rattle.highlight_run.specs.Job.{Reading}
+use Rattle.highlight_run.specs.Program.{with_inputs, IsRead}
 use Rattle.highlight_run.proofs.program.program.Goals as goal
 
--- What was read can be seen before it is stated.
-read-ok : {S T : Type 0} (view : S → T) (read : Option (Reading T)) (result : Result S Rejection) (x : S)
-    → result ≡ Ok x → IsRead view read result → IsRead (λ p. p) read (Ok (view x))
-read-ok view None result x e is = rw e at is
-read-ok view (Some read) result x e is = rw e at is
+-- The result, as the definitions see it.
+abbrev seen : {S T : Type 0} → (S → T) → Result S JobError → Result T JobError
+seen view (Ok x) = Ok (view x)
+seen view (Err error) = Err error
 
-read-err : {S T : Type 0} (view : S → T) (read : Option (Reading T)) (result : Result S Rejection) (why : Rejection)
-    → result ≡ Err why → IsRead view read result → IsRead (λ p. p) read (Err why)
-read-err view None result why e is = rw e at is
-read-err view (Some read) result why e is = rw e at is
+read_seen : {S T : Type 0} (view : S → T) (read : Option (Reading T)) (result : Result S JobError)
+    → IsRead view read result → IsRead (λ p. p) read (seen view result)
+read_seen view None result is = rw (is) refl
+read_seen view (Some read) (Ok x) is = is
+read_seen view (Some read) (Err error) is = is
 
 pub returns-in-Ok-Show-default-clause-ended : goal.returns-in-Ok-Show-default-clause-ended
 returns-in-Ok-Show-default-clause-ended g c = (
-  Ok (c.in-Ok-Show-default.field-0-0, map bytes_of c.in-Ok-Show-default.inputs.items),
-  rw (← c.wants_colours-colours.ensures) (read-ok with_inputs _ _ (c.in-Ok-Show-default.field-0-0, c.in-Ok-Show-default.inputs)
-      c.in-Ok-Show-default.is (c.choose_job.ensures _ c.read_words-words.ensures)),
-  rw (c.in-Ok-Show-default.field-0-0-is, ← c.as_slice.ensures.value) c.show_inputs.ensures,
+  seen with_inputs c.choose_job.result,
+  rw (← c.wants_colours-colours.ensures) (read_seen with_inputs _ _ (c.choose_job.ensures _ c.read_words-words.ensures)),
+  rw (c.in-Ok-Show-default.is, c.in-Ok-Show-default.field-0-0-is, ← c.as_slice.ensures.value) c.show_inputs.ensures,
 )
 
 pub returns-in-Ok-Help-default-clause-ended : goal.returns-in-Ok-Help-default-clause-ended
 returns-in-Ok-Help-default-clause-ended g c = (
-  Ok (c.in-Ok-Help-default.field-0-0, map bytes_of c.in-Ok-Help-default.field-0-1.items),
-  rw (← c.wants_colours-colours.ensures) (read-ok with_inputs _ _ (c.in-Ok-Help-default.field-0-0, c.in-Ok-Help-default.field-0-1)
-      c.in-Ok-Help-default.is (c.choose_job.ensures _ c.read_words-words.ensures)),
-  rw (c.in-Ok-Help-default.field-0-0-is) c.print.ensures,
+  seen with_inputs c.choose_job.result,
+  rw (← c.wants_colours-colours.ensures) (read_seen with_inputs _ _ (c.choose_job.ensures _ c.read_words-words.ensures)),
+  rw (c.in-Ok-Help-default.is, c.in-Ok-Help-default.field-0-0-is) c.print.ensures,
 )
 
 pub returns-in-Ok-Version-default-clause-ended : goal.returns-in-Ok-Version-default-clause-ended
 returns-in-Ok-Version-default-clause-ended g c = (
-  Ok (c.in-Ok-Version-default.field-0-0, map bytes_of c.in-Ok-Version-default.field-0-1.items),
-  rw (← c.wants_colours-colours.ensures) (read-ok with_inputs _ _ (c.in-Ok-Version-default.field-0-0, c.in-Ok-Version-default.field-0-1)
-      c.in-Ok-Version-default.is (c.choose_job.ensures _ c.read_words-words.ensures)),
-  rw (c.in-Ok-Version-default.field-0-0-is) c.print-in-Ok-Version-default.ensures,
+  seen with_inputs c.choose_job.result,
+  rw (← c.wants_colours-colours.ensures) (read_seen with_inputs _ _ (c.choose_job.ensures _ c.read_words-words.ensures)),
+  rw (c.in-Ok-Version-default.is, c.in-Ok-Version-default.field-0-0-is) c.print-in-Ok-Version-default.ensures,
+)
+
+pub returns-in-Err-Rejected-clause-ended : goal.returns-in-Err-Rejected-clause-ended
+returns-in-Err-Rejected-clause-ended g c = (
+  seen with_inputs c.choose_job.result,
+  rw (← c.wants_colours-colours.ensures) (read_seen with_inputs _ _ (c.choose_job.ensures _ c.read_words-words.ensures)),
+  rw (c.in-Err-Rejected.is, c.in-Err-Rejected.field-0-is) (
+    c.report_outcome.ensures.input,
+    c.report_outcome.ensures.output,
+    rw (c.in-Err-Rejected.why-is) at c.report_outcome.ensures.reported,
+  ),
 )
 
 pub returns-clause-ended : goal.returns-clause-ended
 returns-clause-ended g c = (
-  Err c.in-Err.why,
-  rw (← c.wants_colours-colours.ensures) (read-err with_inputs _ _ c.in-Err.why c.in-Err.is
-      (c.choose_job.ensures _ c.read_words-words.ensures)),
-  (c.report_outcome.ensures.output, c.report_outcome.ensures.reported),
+  seen with_inputs c.choose_job.result,
+  rw (← c.wants_colours-colours.ensures) (read_seen with_inputs _ _ (c.choose_job.ensures _ c.read_words-words.ensures)),
+  rw (c.in-Err-OutOfMemory.is, c.in-Err-OutOfMemory.field-0-is) (
+    c.report_outcome-in-Err-OutOfMemory.ensures.input,
+    c.report_outcome-in-Err-OutOfMemory.ensures.output,
+    c.report_outcome-in-Err-OutOfMemory.ensures.reported,
+  ),
 )
