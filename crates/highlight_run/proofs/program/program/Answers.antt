@@ -1,4 +1,4 @@
-use Rattle.std.proofs.Common.{◌≡◌, Option, Some, None, Result, Ok, Err, refl}
+use Rattle.std.proofs.Common.{Option, Some, None, Result, Ok, Err, refl}
 use Rattle.highlight_run.specs.declared.job.JobError.{JobError}
 use Rattle.highlight_run.specs.Job.{Reading}
 use Rattle.highlight_run.specs.Program.{with_inputs, IsRead}
