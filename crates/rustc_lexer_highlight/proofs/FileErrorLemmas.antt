@@ -1,6 +1,6 @@
 -- The errors of a literal in a file.
-use Rattle.std.proofs.Common.{◌≡◌, ℕ, zero, suc, ◌==◌, Bool, true, false, true≢false, List, [], ◌∷◌, ◌++◌, append-nil}
-use Rattle.std.proofs.Common.{length, map, refl, sym, ap, ◌∙◌, arith, Option, Some, None}
+use Rattle.std.proofs.Common.{◌≡◌, ℕ, zero, suc, ◌==◌, true, false, List, [], ◌∷◌, append-nil}
+use Rattle.std.proofs.Common.{length, map, refl, sym, ap, ◌∙◌, arith, Option}
 use Rattle.std.specs.{List.{position_or_len}, Option.{option_map, option_to_list}, Str.{chars, IsUtf8}}
 use Rattle.std.specs.declared.ops.Range.{Range}
 use Rattle.std.proofs.lemmas.{Bool.Decides.{nat_tests}, Str.{chars-nil}, Grind.{common_steps}}
