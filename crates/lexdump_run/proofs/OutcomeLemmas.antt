@@ -50,7 +50,7 @@ module _ {W : Type 0} (contents : W → Option (List ℕ)) (start end : BlockWri
       → OnOk result (Appends old new made) × OnErr result (AppendsFront old new made)
   finished mid old new result e f p q empty =
       rw (← e, ← f) (pushed_out result
-      (pushes_both contents start mid end made [] made result (sym (append-nil made)) p q) empty)
+      (pushes_both result (sym (append-nil made)) p q) empty)
 
 -- If everything was listed and the held bytes are written at the end, the run has the specified outcome.
 pub ends_listed : {W : Type 0} (contents : W → Option (List ℕ)) (job : Job) (known : Option (List ℕ)) (text : List ℕ)

@@ -20,7 +20,7 @@ left-preserved g c =
                 c.left.tokens.rest,
             c.left.invariant.within,
           );
-      lines = pushing_first _ _ _ _ _ _ _ _ c.left.invariant.lines
+      lines = pushing_first c.left.invariant.lines
           (buffer-split _ _ _ _ c.left.buffer _ _ c.as_str-in-left.ensures.rest c.as_str-in-left.utf8
           c.left.invariant.within c.requires
           (record { as_many = c.fill-count.ensures.count; tokens = c.fill-count.ensures.tokens }) _ _ leaves.tokens
@@ -39,8 +39,8 @@ left-smaller g c =
 
 pub returns-in_err-push_lines : goal.returns-in_err-push_lines
 returns-in_err-push_lines g c =
-    pushing_stopped _ _ _ _ _ _ _ _ c.left.invariant.lines
+    pushing_stopped _ _ c.left.invariant.lines
     (buffer-split _ _ _ _ c.left.buffer _ _ c.as_str-in-left.ensures.rest c.as_str-in-left.utf8
     c.left.invariant.within c.requires
     (record { as_many = c.fill-count.ensures.count; tokens = c.fill-count.ensures.tokens }) _ _ refl refl)
-    _ _ c.in_err-push_lines.ensures c.from_residual.ensures.1
+    c.in_err-push_lines.ensures c.from_residual.ensures.1

@@ -6,29 +6,26 @@ use Rattle.lexdump_run.proofs.listing.push_fields.Goals as goal
 pub returns-in_ok-push_field-in-BlockComment : goal.returns-in_ok-push_field-in-BlockComment
 unfolding fields_text
 returns-in_ok-push_field-in-BlockComment g c =
-    pushes_both _ _ _ _ _ _ _ _
-    (rw c.in-BlockComment.is (cc)) c.in_ok-push_field-in-BlockComment.ensures
+    pushes_both _ (rw c.in-BlockComment.is (cc)) c.in_ok-push_field-in-BlockComment.ensures
     c.push_field-in-BlockComment-2.ensures
 
 pub returns-in_err-push_field-in-Frontmatter : goal.returns-in_err-push_field-in-Frontmatter
 unfolding fields_text
 returns-in_err-push_field-in-Frontmatter g c =
-    pushes_first _ _ _ _ (field (codes "invalid_infostring") (bool_text c.in-Frontmatter.invalid_infostring)) _ _ _
+    pushes_first (field (codes "invalid_infostring") (bool_text c.in-Frontmatter.invalid_infostring)) _
     (rw c.in-Frontmatter.is (cc)) c.in_err-push_field-in-Frontmatter.ensures
     c.from_residual-in_err-push_field-in-Frontmatter.ensures.1
 
 pub returns-in_ok-push_field-in-Frontmatter : goal.returns-in_ok-push_field-in-Frontmatter
 unfolding fields_text
 returns-in_ok-push_field-in-Frontmatter g c =
-    pushes_both _ _ _ _ _ _ _ _
-    (rw c.in-Frontmatter.is (cc)) c.in_ok-push_field-in-Frontmatter.ensures
+    pushes_both _ (rw c.in-Frontmatter.is (cc)) c.in_ok-push_field-in-Frontmatter.ensures
     c.push_field-in-Frontmatter-2.ensures
 
 pub returns-in_ok-push_literal-in-Literal : goal.returns-in_ok-push_literal-in-Literal
 unfolding fields_text
 returns-in_ok-push_literal-in-Literal g c =
-    pushes_both _ _ _ _ _ _ _ _
-    (rw c.in-Literal.is (cc)) c.in_ok-push_literal-in-Literal.ensures c.push_field-in-Literal.ensures
+    pushes_both _ (rw c.in-Literal.is (cc)) c.in_ok-push_literal-in-Literal.ensures c.push_field-in-Literal.ensures
 
 pub returns-in-Lifetime : goal.returns-in-Lifetime
 unfolding fields_text

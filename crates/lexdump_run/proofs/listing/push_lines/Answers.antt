@@ -13,14 +13,14 @@ overflow_add-place g c =
 pub loop-token-preserved : goal.loop-token-preserved
 loop-token-preserved g c = record {
   place = ahead_is _ _ _ _ _ c.loop-token.invariant.place c.loop-token-test.true;
-  lines = pushing_first _ _ _ _ _ _ _ _ c.loop-token.invariant.lines
+  lines = pushing_first c.loop-token.invariant.lines
       (ap (listing_from c.loop-token.place)
       (drop_more _ _ _ c.loop-token-test.true)) c.in_ok-push_line.ensures;
 }
 
 pub returns-in_err-push_line : goal.returns-in_err-push_line
 returns-in_err-push_line g c =
-    pushing_stopped _ _ _ _ _ _ _ _ c.loop-token.invariant.lines
+    pushing_stopped _ _ c.loop-token.invariant.lines
     (ap (listing_from c.loop-token.place)
-    (drop_more _ _ _ c.loop-token-test.true)) _ _ c.in_err-push_line.ensures
+    (drop_more _ _ _ c.loop-token-test.true)) c.in_err-push_line.ensures
     c.from_residual.ensures.1
