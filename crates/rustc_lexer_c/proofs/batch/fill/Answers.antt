@@ -17,10 +17,8 @@ returns c =
     let text : List ℕ = c.args.text.now in
     let is : IsText text = record { utf8 = c.utf8.text; fits = c.requires.fits } in
     let from : c.tokenize_as-tokens.result ≡ state_at c.args.edition text c.args.place.now =
-    begun c.args.edition _ _ _ _ c.tokenize_as-tokens.result c.tokenize_as-tokens.ensures.state
-    c.range_from.ensures.value c.allowed_of-allowed.ensures in
-    batch_is c.args.edition text is c.args.place.now c.requires.boundary c.tokenize_as-tokens.result
-    c.fill-count.new.self c.args.buffer.now c.fill-count.new.buffer c.fill-count.result from
+    begun _ _ _ _ _ _ c.tokenize_as-tokens.ensures.state c.range_from.ensures.value c.allowed_of-allowed.ensures in
+    batch_is _ _ is _ c.requires.boundary _ _ _ _ _ from
     (record { as_many = c.fill-count.ensures.count; tokens = c.fill-count.ensures.tokens }) c.fill-count.ensures.state _
     c.frontmatter_allowed.result
     (ap (λ (xs : List ℕ). length text - length xs) c.as_str.ensures.rest) c.frontmatter_allowed.ensures
@@ -31,13 +29,11 @@ overflow_sub-place c =
     let text : List ℕ = c.args.text.now in
     let is : IsText text = record { utf8 = c.utf8.text; fits = c.requires.fits } in
     let from : c.tokenize_as-tokens.result ≡ state_at c.args.edition text c.args.place.now =
-    begun c.args.edition _ _ _ _ c.tokenize_as-tokens.result c.tokenize_as-tokens.ensures.state
-    c.range_from.ensures.value c.allowed_of-allowed.ensures in
+    begun _ _ _ _ _ _ c.tokenize_as-tokens.ensures.state c.range_from.ensures.value c.allowed_of-allowed.ensures in
     omega (
       arith,
       ap (λ (xs : List ℕ). length xs) c.as_str.ensures.rest,
-      left_within c.args.edition text is c.args.place.now c.requires.boundary c.tokenize_as-tokens.result
-          c.fill-count.new.self c.args.buffer.now c.fill-count.new.buffer c.fill-count.result from
+      left_within _ _ is _ c.requires.boundary _ _ _ _ _ from
           (record { as_many = c.fill-count.ensures.count; tokens = c.fill-count.ensures.tokens })
           c.fill-count.ensures.state,
     )
