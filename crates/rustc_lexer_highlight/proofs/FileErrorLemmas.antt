@@ -1,21 +1,19 @@
 -- The errors of a literal in a file.
-use Rattle.std.proofs.Common.{◌≡◌, ℕ, zero, suc, ◌==◌, true, false, List, [], ◌∷◌, append-nil}
-use Rattle.std.proofs.Common.{length, map, refl, sym, ap, ◌∙◌, arith, Option}
+use Rattle.std.proofs.Common.{◌≡◌, ℕ, zero, suc, ◌==◌, true, false, List, [], ◌∷◌, append-nil, length, map, refl, sym}
+use Rattle.std.proofs.{Common.{ap, ◌∙◌, arith, Option}, lemmas.{Bool.Decides.{nat_tests}, Str.{chars-nil}}}
+use Rattle.std.proofs.lemmas.Grind.{common_steps}
 use Rattle.std.specs.{List.{position_or_len}, Option.{option_map, option_to_list}, Str.{chars, IsUtf8}}
 use Rattle.std.specs.declared.ops.Range.{Range}
-use Rattle.std.proofs.lemmas.{Bool.Decides.{nat_tests}, Str.{chars-nil}, Grind.{common_steps}}
 use Rattle.rustc_literal_escaper.proofs.AnswerLemmas.{errors_of-read}
-use Rattle.rustc_literal_escaper.specs.{Answers.{errors_of, items_of}, Grammar.{Error, Item}}
-use Rattle.rustc_literal_escaper.specs.{Meaning.{error_of, errors_in, is_raw, is_single, put}, laws.Elements.{nothing}}
-use Rattle.rustc_literal_escaper.specs.model.Elements as reading
-use Rattle.rustc_literal_escaper.specs.model.Elements.{front_by, items_from}
-use Rattle.rustc_literal_escaper.specs.model.Single.{alone_error, read_errors, single, single_error}
-use Rattle.rustc_literal_escaper.specs.declared.{error.EscapeError.{EscapeError}, mode.Mode.{Mode}}
-use Rattle.rustc_literal_escaper.specs.declared.mode.Mode.TheVariants.{Str}
+use Rattle.rustc_literal_escaper.specs.{Answers.{errors_of, items_of}, Grammar.{Error, Item}, Meaning.{error_of}}
+use Rattle.rustc_literal_escaper.specs.{Meaning.{errors_in, is_raw, is_single, put}, laws.Elements.{nothing}}
+use Rattle.rustc_literal_escaper.specs.model.{Elements.{front_by, items_from}, Single.{alone_error, read_errors}}
+use Rattle.rustc_literal_escaper.specs.{model.Single.{single, single_error}, declared.error.EscapeError.{EscapeError}}
+use Rattle.rustc_literal_escaper.specs.declared.mode.Mode.{Mode, TheVariants.{Str}}
 use Rattle.rustc_lexer_highlight.specs.LineEnds.{escape_errors_in_file, file_items, moved, place, unix}
-use Rattle.rustc_lexer_highlight.specs.Literal.{first_offset}
-use Rattle.rustc_lexer_highlight.specs.model.LineEnds.{offset_of, single_left}
+use Rattle.rustc_lexer_highlight.specs.{Literal.{first_offset}, model.LineEnds.{offset_of, single_left}}
 use Rattle.rustc_lexer_highlight.proofs.LineEndLemmas.{chars-unix, utf8-unix}
+use Rattle.rustc_literal_escaper.specs.model.Elements as reading
 
 abbrev move : List ℕ → Error → Error
 move text e = (moved text e.0, e.1)
@@ -95,4 +93,5 @@ no-file-errors mode = ap (λ (is : List Item). errors_in mode (map (λ (i : Item
 pub no-errors : errors_of Str [] ≡ []
 no-errors = ap (errors_in Str) no-items
 
-pub ruleset error_lemmas = (no-file-errors, no-errors, same_errors, single_errors, string_errors, append-nil)
+pub ruleset error_lemmas =
+    (no-file-errors, no-errors, same_errors, single_errors, string_errors, append-nil, common_steps)

@@ -1,20 +1,16 @@
 -- The output for a terminal: the calls that write it, and that it contains no control characters other than tabs and
 -- line endings.
-use Rattle.std.proofs.Common.{◌≡◌, ℕ, ◌+◌, ◌<◌, ◌≤◌, ◌==◌, Bool, true, false, ◌&&◌, ◌||◌, not}
-use Rattle.std.proofs.Common.{inl, inr, List, [], ◌∷◌, ◌++◌, length, take, drop, get_or, refl, sym, ap, subst, ◌∙◌}
-use Rattle.std.proofs.Common.{arith, length-append, length-drop, take-append-drop, Some, None, IsCharBoundary}
-use Rattle.std.specs.{Char.{encode_utf8, is_control}, Fmt.{WritesInCalls}, List.{list_all, list_any}}
-use Rattle.std.specs.Str.{IsUtf8, chars, encode_utf8_all}
-use Rattle.std.proofs.lemmas.Bool.{cases_Bool, cases_lt, false_from_ne_true, Decides.{nat_tests}}
-use Rattle.std.proofs.lemmas.Grind.{common_steps}
-use Rattle.std.proofs.lemmas.List.{get_or-append-add, get_or-take, length-take}
-use Rattle.std.proofs.lemmas.Str.{encode_ascii, IsUtf8-take, chars-append}
-use Rattle.std.proofs.lemmas.Str.{encodes-append, encodes-chars, length-encode, len_utf8_bounds}
+use Rattle.std.proofs.Common.{◌≡◌, ℕ, ◌+◌, ◌<◌, ◌≤◌, ◌==◌, Bool, true, false, ◌&&◌, ◌||◌, not, inl, inr, List, [], ◌∷◌}
+use Rattle.std.proofs.Common.{◌++◌, length, take, drop, get_or, refl, sym, ap, subst, ◌∙◌, arith, length-append}
+use Rattle.std.proofs.{Common.{length-drop, take-append-drop, Some, None, IsCharBoundary}, lemmas.Bool.{cases_Bool}}
+use Rattle.std.proofs.lemmas.{Bool.{cases_lt, false_from_ne_true, Decides.{nat_tests}}, Grind.{common_steps}}
+use Rattle.std.proofs.lemmas.{List.{get_or-append-add, get_or-take, length-take}, Str.{encode_ascii, IsUtf8-take}}
+use Rattle.std.proofs.lemmas.Str.{chars-append, encodes-append, encodes-chars, length-encode, len_utf8_bounds}
+use Rattle.std.specs.{Char.{encode_utf8, is_control}, Fmt.{WritesInCalls}, List.{list_all, list_any}, Str.{IsUtf8}}
+use Rattle.std.specs.Str.{chars, encode_utf8_all}
 use Rattle.memchr.specs.Find.{IsFirstByte}
-use Rattle.rustc_lexer_highlight.specs.declared.class.Class.{Class}
-use Rattle.rustc_lexer_highlight.specs.Screen.{at_line_end, is_layout, is_replaceable, is_shown, may_begin_replaceable}
-use Rattle.rustc_lexer_highlight.specs.Screen.{seen, seen_char}
-use Rattle.rustc_lexer_highlight.specs.Screen.{symbol}
+use Rattle.rustc_lexer_highlight.specs.{declared.class.Class.{Class}, Screen.{at_line_end, is_layout, is_replaceable}}
+use Rattle.rustc_lexer_highlight.specs.Screen.{is_shown, may_begin_replaceable, seen, seen_char, symbol}
 use Rattle.rustc_lexer_highlight.proofs.CallLemmas.{one_call, writes_both}
 
 far : (c : ℕ) → 160 ≤ c → is_shown c ≡ true

@@ -16,7 +16,7 @@ loop-range-init g c =
       high = c.requires.order;
       places = placed_all c.args.self.now.text.now inside c.args.self.now.at c.args.close _ _ c.range.utf8 items
           c.range.ensures.value;
-      left = λ w more. writes_all g.W.Write.write_str_gives _ _ _ inside _ _ _ _ _ w
+      left = λ w more. writes_all g.W.Write.write_str_gives _ _ _ _ _ inside _ _ _ w
           (items ∙ ap (λ (raw : Bool). file_items raw inside) c.is_raw.ensures) c.range.ensures.value more;
     }
 
