@@ -151,7 +151,7 @@ data HasLast : Chars → Type 0 where
 has_last-cons : (c : ℕ) {s : Chars} → HasLast s → HasLast (c ∷ s)
 has_last-cons c (last u line all) = last (c ∷ u) line all
 has_last-cons c {s} (only all) =
-    by_either (c == 10) (λ e. subst (λ (d : ℕ). HasLast (d ∷ s)) (sym (eqb-true c 10 e)) (last [] s all))
+    by_either (c == 10) (λ e. rw (eqb-true c 10 e) (last [] s all))
     (λ e. only (rw e all))
 
 has_last : (s : Chars) → HasLast s

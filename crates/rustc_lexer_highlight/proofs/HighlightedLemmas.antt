@@ -1,8 +1,8 @@
 -- The text of a highlighted document, and the calls that write it.
 use Rattle.std.proofs.Common.{◌≡◌, ℕ, ◌-◌, List, [], ◌∷◌, length, take, drop, refl, sym, ap}
-use Rattle.std.proofs.Common.{subst, ◌∙◌, arith, take-add, Option, append-nil}
+use Rattle.std.proofs.Common.{◌∙◌, arith, take-add, Option, append-nil}
 use Rattle.std.specs.{Fmt.{WritesInCalls}, Prelude.{OnOk, Result}}
-use Rattle.std.specs.Str.{IsCharBoundary, IsUtf8}
+use Rattle.std.specs.Str.{IsUtf8}
 use Rattle.std.proofs.lemmas.Str.{IsUtf8-drop}
 use Rattle.std.proofs.lemmas.{List.Concat.{flat_map-append}, Grind.{common_steps}, Result.{on_ok_weaker}}
 use Rattle.rustc_lexer.specs.declared.{edition.Edition.{Edition}, token.Token.{Token}}
@@ -55,8 +55,7 @@ page_is edition text is =
 pub past_piece : (s t : State) (token : Token) (rest next : List ℕ) → IsUtf8 rest → rest ≡ s.rest
     → TakesToken s token t → next ≡ drop token.len rest → IsUtf8 next × (next ≡ t.rest)
 past_piece s t token rest next utf8 place step back = (
-  subst IsUtf8 (sym back) (IsUtf8-drop rest token.len utf8
-      (subst (λ (bs : List ℕ). IsCharBoundary bs token.len) (sym place) step.boundary)),
+  rw back (IsUtf8-drop rest token.len utf8 (rw place step.boundary)),
   back ∙ (ap (drop token.len) place ∙ sym step.rest),
 )
 

@@ -1,7 +1,7 @@
 -- A text in a file is never cut inside a CRLF.
 use Rattle.std.proofs.Common.{◌≡◌, ℕ, zero, suc, zero-add, append-nil, ◌+◌, ◌-◌, ◌<◌, ◌≤◌, ◌==◌, ◌&&◌, Bool, true}
 use Rattle.std.proofs.Common.{false, List, [], ◌∷◌, ◌++◌, append_assoc, length, length-append, map, refl, sym, ap}
-use Rattle.std.proofs.Common.{subst, ◌∙◌, arith}
+use Rattle.std.proofs.Common.{◌∙◌, arith}
 use Rattle.std.specs.{Str.{chars, IsUtf8}}
 use Rattle.std.proofs.lemmas.{Bool.{and_parts, eqb-true, Decides.{nat_tests}}, Grind.{common_steps}}
 use Rattle.std.proofs.lemmas.Str.{encodes-chars, chars-encodes, scalars-chars, encode_ascii, encodes-append}
@@ -79,8 +79,7 @@ pub left_left : {text middle left : List ℕ} → IsLeft text middle → IsLeft 
 left_left {text} {middle} {left} a b = record {
   read = a.read ++ b.read;
   whole = a.whole ∙ (ap (λ (t : List ℕ). a.read ++ t) b.whole ∙ sym (append_assoc a.read b.read (chars left)));
-  uncut = whole-append a.read b.read (chars left) (subst (λ (t : List ℕ). is_whole a.read t ≡ true) b.whole a.uncut)
-      b.uncut;
+  uncut = whole-append a.read b.read (chars left) (rw b.whole at a.uncut) b.uncut;
   all = a.all;
   spelt = b.spelt;
 }

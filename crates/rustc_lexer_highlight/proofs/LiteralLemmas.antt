@@ -1,5 +1,5 @@
 -- The text of a highlighted literal, and the calls that write it.
-use Rattle.std.proofs.Common.{◌≡◌, ℕ, ◌+◌, ◌-◌, ◌<◌, ◌≤◌, Bool, List, [], ◌∷◌, ◌++◌, map, take, drop, refl, sym, ap}
+use Rattle.std.proofs.Common.{◌≡◌, ℕ, ◌+◌, ◌-◌, ◌<◌, ◌≤◌, Bool, List, [], ◌∷◌, ◌++◌, map, take, drop, refl, ap}
 use Rattle.std.proofs.Common.{subst, ◌∙◌, arith, take-append-drop, length-drop, append-nil, length, IsCharBoundary}
 use Rattle.std.proofs.{Common.{IsUtf8, Option, Some}, lemmas.{Bool.{cases_lt}, List.{drop-drop, get_or-take}}}
 use Rattle.std.proofs.lemmas.List.{length-take-le, Concat.{flat_map-append}, Edits.{length-between}}

@@ -114,7 +114,7 @@ module _ (mode : Mode) (begin close : ℕ) where
       (λ some. more at to (Some Escape) items ss (ltb-true at to some) (λ k d low. inl (after k d low))
       (fine (errors_in mode items) at to) invariant)
       (λ none. let same : to ≡ at = omega (arith, le, ltb-false at to none) in
-      subst (λ (n : ℕ). Invariant n items ss) same invariant)
+      rw same at invariant)
 
   -- ---- an item, and its stretch
 

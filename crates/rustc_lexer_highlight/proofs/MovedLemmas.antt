@@ -123,8 +123,6 @@ alone_mode mode = Char
 pub error_found : (mode picked : Mode) (text : List ℕ) (found : Option Error) → IsUtf8 text → picked ≡ alone_mode mode
     → found ≡ single_left text picked (unix (chars text)) → option_map (λ (e : Error). e.1) found ≡ char_error mode text
 error_found Byte picked text found is pick f =
-    ap kind (f ∙ ap (λ (m : Mode). single_left text m (unix (chars text))) pick)
-    ∙ single-error byte_of Byte text is (λ e. refl)
+    rw (f, pick) (single-error byte_of Byte text is (λ e. refl))
 error_found mode picked text found is pick f =
-    ap kind (f ∙ ap (λ (m : Mode). single_left text m (unix (chars text))) pick)
-    ∙ single-error char_of Char text is (λ e. refl)
+    rw (f, pick) (single-error char_of Char text is (λ e. refl))

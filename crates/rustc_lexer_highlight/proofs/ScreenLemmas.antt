@@ -1,7 +1,7 @@
 -- The output for a terminal: the calls that write it, and that it contains no control characters other than tabs and
 -- line endings.
 use Rattle.std.proofs.Common.{◌≡◌, ℕ, ◌+◌, ◌<◌, ◌≤◌, ◌==◌, Bool, true, false, ◌&&◌, ◌||◌, not, inl, inr, List, [], ◌∷◌}
-use Rattle.std.proofs.Common.{◌++◌, length, take, drop, get_or, refl, sym, ap, subst, ◌∙◌, arith, length-append}
+use Rattle.std.proofs.Common.{◌++◌, length, take, drop, get_or, refl, sym, ap, ◌∙◌, arith, length-append}
 use Rattle.std.proofs.{Common.{length-drop, take-append-drop, Some, None, IsCharBoundary}, lemmas.Bool.{cases_Bool}}
 use Rattle.std.proofs.lemmas.{Bool.{cases_lt, false_from_ne_true, Decides.{nat_tests}}, Grind.{common_steps}}
 use Rattle.std.proofs.lemmas.{List.{get_or-append-add, get_or-take, length-take}, Str.{encode_ascii, IsUtf8-take}}
@@ -96,7 +96,7 @@ front_irreplaceable bs n utf8 found =
     let long = length-take n bs in
     irreplaceable_text (take n bs) (IsUtf8-take bs n utf8 (may_cut bs n found))
     (λ k less set. found.0.before k (omega arith) (omega arith)
-    (subst (λ (b : ℕ). may_begin_replaceable b ≡ true) (get_or-take n bs k 0 (omega arith)) set))
+    (rw (get_or-take n bs k 0 (omega arith)) at set))
 
 -- Divides a text at the first byte that can start a replaceable character: the text before it, the character, and the
 -- rest.
@@ -126,9 +126,7 @@ some_left text rest n utf8 found is none =
 pub none_replaceable : (bs text : List ℕ) → bs ≡ text → IsUtf8 text → IsFirstByte may_begin_replaceable bs None
     → list_any is_replaceable (chars text) ≡ false
 none_replaceable bs text same utf8 none =
-    irreplaceable_text text utf8
-    (λ k less set. subst (λ (xs : List ℕ). IsFirstByte may_begin_replaceable xs None) same none k
-    (omega arith) less set)
+    irreplaceable_text text utf8 (λ k less set. (rw same at none) k (omega arith) less set)
 
 module _ {W : Type 0} (took : W → List ℕ → W → Type 0) where
   -- Writing the text before a character, that character or its symbol, and then the rest writes the text, if no
@@ -146,8 +144,7 @@ module _ {W : Type 0} (took : W → List ℕ → W → Type 0) where
       ∙ ap encode_utf8_all (seen-append class (chars front) (c ∷ chars rest) none)
       ∙ encodes-append (chars front) (seen class (c ∷ chars rest))
       ∙ rw (encodes-chars front utf8, is) refl in
-      subst (λ (xs : List ℕ). WritesInCalls took w0 xs w) (sym split)
-      (writes_both took w0 w1 w _ _ (one_call took w0 w1 front a)
+      rw split (writes_both took w0 w1 w _ _ (one_call took w0 w1 front a)
       (writes_both took w1 w2 w _ _ (one_call took w1 w2 _ b) more))
 
   pub writes_irreplaceable : (class : Class) (w v : W) (bs : List ℕ) → IsUtf8 bs → list_any is_replaceable (chars bs) ≡
