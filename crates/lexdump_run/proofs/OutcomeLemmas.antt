@@ -39,8 +39,7 @@ module _ {W : Type 0} (contents : W → Option (List ℕ)) (start end : BlockWri
   )
   pushed_out (Err fault) p empty = (
     tt,
-    subst (λ (xs : List ℕ). AppendsFront (written contents start) (written contents end) (xs ++ made)) none
-        p.err,
+    rw none at p.err,
   )
 
   -- If the block is finished, all bytes were written, or a prefix of them if a write failed.

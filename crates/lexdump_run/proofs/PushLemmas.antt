@@ -1,5 +1,5 @@
 -- Lemmas about bytes that are pushed, one after another.
-use Rattle.std.proofs.Common.{◌≡◌, ℕ, List, [], ◌++◌, refl, sym, ap, ◌∙◌, append_assoc, append-nil, subst, Option}
+use Rattle.std.proofs.Common.{◌≡◌, ℕ, List, [], ◌++◌, refl, sym, ap, ◌∙◌, append_assoc, append-nil, Option}
 use Rattle.std.proofs.Common.{Result, Ok, Err, arith}
 use Rattle.std.proofs.lemmas.Grind.{common_steps}
 use Rattle.std.specs.{Prelude.{OnOk}, Result.{IsErrAnd}, Io.KnownBytes.{Appends}}
@@ -38,8 +38,7 @@ module _ {W : Type 0} {contents : W → Option (List ℕ)} where
     same_output = q.same_output ∙ p.same_output;
     failed = grind (arith, common_steps, p.failed, q.failed);
     only = tt;
-    ok = subst (λ (xs : List ℕ). Went (contents old.output.now.inner) (contents new.output.now.inner) xs (held new))
-        (append_assoc (held old) one two ∙ ap (λ xs. held old ++ xs) (sym e)) (went_both _ _ _ _ _ _ _ p.ok q.ok);
+    ok = rw (e, ← append_assoc (held old) one two) (went_both _ _ _ _ _ _ _ p.ok q.ok);
     err = tt;
   }
   pushes_both {old} {mid} {new} {one} {two} (Err fault) e p q = record {
@@ -103,8 +102,7 @@ module _ {W : Type 0} {contents : W → Option (List ℕ)} where
   pub pushing_all : (start new : BlockWriter W) (all rest : List ℕ) → Pushing contents start new all rest → rest ≡ []
       → Pushes contents start new all (Ok tt)
   pushing_all start new all rest at e =
-      subst (λ (xs : List ℕ). Pushes contents start new xs (Ok tt))
-      (sym (at.whole ∙ (ap (λ xs. at.done ++ xs) e ∙ append-nil at.done))) at.pushed
+      rw (at.whole, e, append-nil at.done) at.pushed
 
 pub ruleset pushes = (pushes_both, pushes_first, common_steps)
 
