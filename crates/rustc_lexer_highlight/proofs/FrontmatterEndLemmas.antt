@@ -97,8 +97,7 @@ dashes-encode n s stop = run-encode (codes "-") refl (fence n) s (fence-all (is_
 
 drop-dashes : (n : ℕ) (s : Chars) → drop n (encode_utf8_all (fence n ++ s)) ≡ encode_utf8_all s
 drop-dashes n s =
-    ap (λ (k : ℕ). drop k (encode_utf8_all (fence n ++ s))) (sym (fence-length n))
-    ∙ drop-encode (codes "-") refl (fence n) s (fence-all (is_among (codes "-")) refl n)
+    rw (fence-length n) at (drop-encode (codes "-") refl (fence n) s (fence-all (is_among (codes "-")) refl n))
 
 -- Dashes at the start of a line and the text after it are on that line.
 begins-line : (n : ℕ) (line next : Chars) → NextIsNot is_inline next → begins (fence n) (line ++ next) ≡ true
@@ -340,9 +339,8 @@ module _ (n d : ℕ) (next u bs cs end : Chars) (many : 3 ≤ n) (blank : AreAll
         let text : Chars = (front ++ u) ++ 10 ∷ line in
         let whole : front ++ body ≡ text = sym (append_assoc front u (10 ∷ line)) in
         let past = last-encode (front ++ u) line inline in
-        let opens : dashes (encode_utf8_all text) ≡ n = ap (λ (s : Chars). dashes (encode_utf8_all s)) (sym whole)
-        ∙ run in
-        ap (λ (s : Chars). end_error (encode_utf8_all s)) whole ∙ rw (past.0, past.1, opens) closing-read;
+        let opens : dashes (encode_utf8_all text) ≡ n = rw whole at run in
+        rw (whole, past.0, past.1, opens) closing-read;
   }
 
 -- Divides the last line into blanks, dashes, blanks and the rest.

@@ -80,7 +80,7 @@ module _ {W : Type 0} (took : W → List ℕ → W → Type 0) where
       → OnOk r (WritesInCalls took w (with_markup format (start_parts text)) u)
   writes_start r format text mark line n w v u is front past before after =
       let all : n - 0 ≡ n = omega arith in
-      let is_mark : mark ≡ take n text = front ∙ ap (λ (k : ℕ). take k text) all in
+      let is_mark : mark ≡ take n text = rw all at front in
       on_ok_weaker r (λ wrote. rw (← is, ← is_mark, ← past)
       (writes_parts took format (Own Plain mark ∷ []) (Own Comment line ∷ []) w v u before wrote)) after
 

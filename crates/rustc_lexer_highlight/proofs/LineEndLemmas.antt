@@ -78,7 +78,7 @@ all_left text spelt = record { read = []; whole = refl; uncut = refl; all = spel
 pub left_left : {text middle left : List ℕ} → IsLeft text middle → IsLeft middle left → IsLeft text left
 left_left {text} {middle} {left} a b = record {
   read = a.read ++ b.read;
-  whole = a.whole ∙ (ap (λ (t : List ℕ). a.read ++ t) b.whole ∙ sym (append_assoc a.read b.read (chars left)));
+  whole = cc (append_assoc a.read b.read (chars left));
   uncut = whole-append a.read b.read (chars left) (rw b.whole at a.uncut) b.uncut;
   all = a.all;
   spelt = b.spelt;
@@ -95,7 +95,7 @@ pub read_line : (rest left line w : List ℕ) → IsUtf8 rest → IsUtf8 line �
     → chars left ≡ 10 ∷ chars line → IsLeft rest line
 read_line rest left line w all spelt whole newline = record {
   read = w ++ 10 ∷ [];
-  whole = whole ∙ (ap (λ (t : List ℕ). w ++ t) newline ∙ sym (append_assoc w (10 ∷ []) (chars line)));
+  whole = rw (whole, newline, append_assoc w (10 ∷ []) (chars line)) refl;
   uncut = rw (last_from-append 0 w (10 ∷ [])) refl;
   all = all;
   spelt = spelt;

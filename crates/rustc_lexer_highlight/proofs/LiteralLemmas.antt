@@ -122,9 +122,9 @@ module _ {W : Type 0} (took : W → List ℕ → W → Type 0) where
   writes_stretch format look some text plain own shown start end w0 w1 w2 is low high is_plain is_own a b =
       λ more last rest.
       let past : drop (start - shown) (drop shown text) ≡ drop start text = let same : shown + (start - shown) ≡ start =
-      omega arith in drop-drop (start - shown) shown text ∙ ap (λ (n : ℕ). drop n text) same in
+      omega arith in rw same at (drop-drop (start - shown) shown text) in
       let behind : drop (end - start) (drop start text) ≡ drop end text = let same : start + (end - start) ≡ end =
-      omega arith in drop-drop (end - start) start text ∙ ap (λ (n : ℕ). drop n text) same in
+      omega arith in rw same at (drop-drop (end - start) start text) in
       rw (is, past, behind, ← is_plain, ← is_own)
       (writes_parts took format (Own Text plain ∷ []) (look_parts look own ++ parts_from end (drop end text) more)
       w0 w1 last a (writes_parts took format (look_parts look own) (parts_from end (drop end text) more) w1 w2 last

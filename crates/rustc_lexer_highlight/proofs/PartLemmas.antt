@@ -120,7 +120,7 @@ module _ {W : Type 0} (took : W → List ℕ → W → Type 0) where
       → WritesInCalls took w0 (with_markup format (malformed_parts error class text next)) w2
   writes_return format error class text next line w0 w1 w2 ends front a b =
       let same : length text - 1 - 0 ≡ length text - 1 = omega arith in
-      let is_line : line ≡ take (length text - 1) text = front ∙ ap (λ (k : ℕ). take k text) same in
+      let is_line : line ≡ take (length text - 1) text = rw same at front in
       let whole = writes_parts format (error_parts error class line) (Return ∷ []) w0 w1 w2 a
       (writes_both took w1 w2 w2 _ _ b (no_calls took w2)) in
       rw (ends, ← is_line) whole

@@ -109,7 +109,7 @@ splits text front rest past c n utf8 found is_front is_rest reads less =
     let long = ap length is_rest ∙ length-drop n text in
     let cut : chars text ≡ chars (take n text) ++ chars (drop n text) = ap chars (sym (take-append-drop n text))
     ∙ chars-append (take n text) (drop n text) (IsUtf8-take text n utf8 (may_cut text n found)) in (
-      ap (λ (xs : List ℕ). list_any is_replaceable (chars xs)) is_front ∙ front_irreplaceable text n utf8 found,
+      rw is_front (front_irreplaceable text n utf8 found),
       rw (is_front, ← reads, is_rest) cut,
       omega arith,
     )

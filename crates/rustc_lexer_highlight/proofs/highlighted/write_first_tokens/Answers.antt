@@ -1,4 +1,4 @@
-use Rattle.std.proofs.Common.{◌≡◌, ℕ, ◌-◌, ◌<◌, arith, take, List, ◌∷◌, zero, suc, ap, ◌∙◌}
+use Rattle.std.proofs.Common.{◌≡◌, ℕ, ◌-◌, ◌<◌, arith, take, List, ◌∷◌, zero, suc, refl}
 use Rattle.rustc_lexer.specs.declared.token.Token.{Token}
 use Rattle.rustc_lexer_highlight.proofs.HighlightedLemmas.{past_piece, writes_token}
 use Rattle.rustc_lexer_highlight.proofs.highlighted.write_first_tokens.Goals as goal
@@ -8,7 +8,7 @@ one_less : (n : ℕ) (all others : List Token) (token : Token) → 0 < n → all
     → take n all ≡ token ∷ take (n - 1) others
 one_less zero all others token some is = absurd (omega (arith, some))
 one_less (suc n) all others token some is =
-    ap (take (suc n)) is ∙ ap (λ (k : ℕ). token ∷ take k others) (let same : n ≡ suc n - 1 = omega arith in same)
+    let same : suc n - 1 ≡ n = omega arith in rw (is, same) refl
 
 pub loop-left-preserved : goal.loop-left-preserved
 loop-left-preserved g c =

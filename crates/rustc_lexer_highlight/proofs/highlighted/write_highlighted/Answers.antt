@@ -1,4 +1,4 @@
-use Rattle.std.proofs.Common.{◌≡◌, ℕ, ◌-◌, List, length, take, arith, ap, sym, ◌∙◌}
+use Rattle.std.proofs.Common.{◌≡◌, ℕ, ◌-◌, List, length, arith, ap, ◌∙◌}
 use Rattle.rustc_lexer.specs.{Document.{tokens_start}, State.{State}}
 use Rattle.rustc_lexer.proofs.lemmas.tokens.Places.{document_start}
 use Rattle.rustc_lexer_highlight.proofs.HighlightedLemmas.{past_piece, writes_past, writes_token}
@@ -23,12 +23,11 @@ loop-token-init g c =
     let tokens = c.tokenize_document-tokens in
     let state = c.into_iter-token-iterator.ensures.into_iter_gives ∙ tokens.ensures.state in
     let rest : c.as_str-rest.result.now ≡ c.into_iter-token-iterator.result.rest =
-    c.as_str-rest.ensures.rest ∙ ap (λ (s : State). s.rest) (sym c.into_iter-token-iterator.ensures.into_iter_gives) in
+    rw c.into_iter-token-iterator.ensures.into_iter_gives c.as_str-rest.ensures.rest in
     let left = ap (λ (s : State). s.rest) state in
     let begins = document_start _ _ c.into_iter-token-iterator.result tokens.ensures.boundary rest left in
-    let before : c.range.result.now ≡ take (tokens_start text) text =
-    c.range.ensures.value ∙ ap (λ (n : ℕ). take n text)
-    (let e : length text - length c.as_str-rest.result.now - 0 ≡ tokens_start text = omega (arith, begins) in e) in
+    let size : length text - length c.as_str-rest.result.now - 0 ≡ tokens_start text = omega (arith, begins) in
+    let before = rw size at c.range.ensures.value in
     record {
       utf8 = c.as_str-rest.utf8;
       place = rest;
