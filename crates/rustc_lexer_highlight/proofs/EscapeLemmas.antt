@@ -1,6 +1,6 @@
 -- Escaped text: decoding it returns the text, it contains no tag, and how it is written.
 use Rattle.std.proofs.Common.{◌≡◌, ℕ, zero, suc, ◌+◌, ◌<◌, ◌≤◌, true, false, List, [], ◌∷◌, ◌++◌, length, take, drop}
-use Rattle.std.proofs.Common.{drop-cons, get_or, refl, sym, ap, ◌∙◌, arith, append_assoc, Some, None}
+use Rattle.std.proofs.Common.{drop-cons, get_or, refl, ap, ◌∙◌, arith, append_assoc, Some, None}
 use Rattle.std.specs.Str.{IsUtf8}
 use Rattle.std.proofs.lemmas.Str.{lead_after_ascii}
 use Rattle.std.specs.Fmt.{WritesInCalls}
@@ -55,7 +55,7 @@ module _ {W : Type 0} (took : W → List ℕ → W → Type 0) where
       let high = found.0.high in
       let one_more : n + 1 ≡ suc n = omega arith in
       let cut : drop n bs ≡ get_or bs n 0 ∷ rest =
-      drop-cons bs n 0 high ∙ ap (λ xs. get_or bs n 0 ∷ xs) (sym (past ∙ ap (λ (k : ℕ). drop k bs) one_more)) in
+      cc (drop-cons bs n 0 high) in
       let plain = front_plain bs n (omega arith) (λ k less set. found.0.before k (omega arith) less set) in
       let whole : escaped bs ≡ front ++ (name ++ escaped rest) = plain ∙ rw (own, cut, found.1, is) refl in
       rw whole (writes_both took w0 w1 w _ _ (one_call took w0 w1 front a)

@@ -353,8 +353,7 @@ told-line n next u line many =
     let left : Chars = drop (blanks_len tail) tail in
     let cut : take (blanks_len tail) tail ++ left ≡ tail = take-append-drop (blanks_len tail) tail in
     let whole : fence d ++ (take (blanks_len tail) tail ++ left) ≡ rest =
-    ap (λ (w : Chars). fence d ++ w) cut
-    ∙ (ap (λ (w : Chars). w ++ tail) (sym (run-fence rest)) ∙ take-append-drop d rest) in
+    cc (run-fence rest, take-append-drop d rest) in
     subst (λ (l : Chars). AreAll is_inline l → NoneUnless 3 next u l → NoneUnless n next u l
     → Told n next (u ++ 10 ∷ l))
     (ap (λ (w : Chars). take (blanks_len line) line ++ w) whole ∙ take-append-drop (blanks_len line) line)

@@ -1,5 +1,5 @@
 -- The text of a highlighted document, and the calls that write it.
-use Rattle.std.proofs.Common.{◌≡◌, ℕ, ◌-◌, List, [], ◌∷◌, length, take, drop, refl, sym, ap}
+use Rattle.std.proofs.Common.{◌≡◌, ℕ, ◌-◌, List, [], ◌∷◌, length, take, drop, refl, ap}
 use Rattle.std.proofs.Common.{◌∙◌, arith, take-add, Option, append-nil}
 use Rattle.std.specs.{Fmt.{WritesInCalls}, Prelude.{OnOk, Result}}
 use Rattle.std.specs.Str.{IsUtf8}
@@ -56,7 +56,7 @@ pub past_piece : (s t : State) (token : Token) (rest next : List ℕ) → IsUtf8
     → TakesToken s token t → next ≡ drop token.len rest → IsUtf8 next × (next ≡ t.rest)
 past_piece s t token rest next utf8 place step back = (
   rw back (IsUtf8-drop rest token.len utf8 (rw place step.boundary)),
-  back ∙ (ap (drop token.len) place ∙ sym step.rest),
+  cc,
 )
 
 -- ---- the calls that write the tokens

@@ -1,6 +1,6 @@
 -- The contents of a literal in a file, and the same contents with LF line endings.
 use Rattle.std.proofs.Common.{◌≡◌, ℕ, zero, suc, add-zero, ◌+◌, ◌≤◌, ◌⊎◌, inl, inr, nat_lt, get_or, append-nil}
-use Rattle.std.proofs.Common.{IsCharBoundary, IsUtf8, Bool, true, List, [], ◌∷◌, length, map, refl, sym, ap, ◌∙◌, arith}
+use Rattle.std.proofs.Common.{IsCharBoundary, IsUtf8, Bool, true, List, [], ◌∷◌, length, map, refl, ap, arith}
 use Rattle.std.proofs.Common.{Option, Result}
 use Rattle.std.specs.{Option.{option_map}, Result.{result_err}, Str.{chars}}
 use Rattle.std.proofs.lemmas.{Bool.{cases_lt, Decides.{nat_tests}}, Grind.{common_steps}, List.{map-append}}
@@ -110,10 +110,12 @@ single-error : {U : Type 0} (meaning : Element → Result U EscapeError) (mode :
     → kind (single_left text mode (unix (chars text))) ≡
     result_err (without_range (single_of meaning (chars (unix text))))
 single-error meaning mode text is same =
-    kind-moved text (single_error (reading.place (length (unix text))) mode (unix (chars text)))
-    ∙ (literal-error meaning mode (reading.place (length (unix text))) (unix (chars text)) same
-    ∙ (ap result_err (sym (literal_read meaning (unix (chars text))))
-    ∙ ap (λ (s : List ℕ). result_err (without_range (single_of meaning s))) (sym (chars-unix text is))))
+    cc (
+      kind-moved text (single_error (reading.place (length (unix text))) mode (unix (chars text))),
+      literal-error meaning mode (reading.place (length (unix text))) (unix (chars text)) same,
+      literal_read meaning (unix (chars text)),
+      chars-unix text is,
+    )
 
 -- Returns `Char` for a mode without single quotes.
 abbrev pub alone_mode : Mode → Mode

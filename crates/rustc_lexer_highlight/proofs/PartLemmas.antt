@@ -80,8 +80,8 @@ shows_part part rest =
 -- A page displays all parts as their escaped text.
 pub shows : (ps : List Part) → untagged (with_markup Html ps) ≡ escaped (without_markup ps)
 shows [] = refl
-shows (p ∷ ps) = shows_part p (with_markup Html ps)
-    ∙ (ap (λ xs. escaped (own p) ++ xs) (shows ps) ∙ sym (flat_map-append escaped_byte (own p) (without_markup ps)))
+shows (p ∷ ps) =
+    cc (shows_part p (with_markup Html ps), shows ps, flat_map-append escaped_byte (own p) (without_markup ps))
 
 -- ---- the calls that write it
 
