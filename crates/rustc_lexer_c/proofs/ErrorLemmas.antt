@@ -1,5 +1,5 @@
 -- Each token has the class and the error of the kind that `kind_of` returns for its numbers.
-use Rattle.std.proofs.Common.{◌≡◌, List, ℕ, ap, arith, sym, ◌∙◌}
+use Rattle.std.proofs.Common.{◌≡◌, List, ℕ, arith}
 use Rattle.std.proofs.lemmas.Grind.{common_steps}
 use Rattle.rustc_lexer.specs.declared.{edition.{Edition.{Edition, TheVariants.{E2024}}}, token.Token.{Token}}
 use Rattle.rustc_lexer.specs.declared.token.LiteralKind.{LiteralKind, TheVariants.{Int, Float}}
@@ -29,10 +29,8 @@ are_kept kind len text edition = grind (arith, common_steps, literal_kept)
 
 pub same_class : (it : Token) (token : CToken) (text : List ℕ) (edition : Edition) → token_numbers it ≡ token
     → class_of (kind_of token) text edition ≡ class_of it.kind text edition
-same_class it token text edition same = ap (λ (t : CToken). class_of (kind_of t) text edition) (sym same)
-    ∙ (are_kept it.kind it.len text edition).0
+same_class it token text edition same = rw (← same) (are_kept it.kind it.len text edition).0
 
 pub same_error : (it : Token) (token : CToken) (text : List ℕ) → token_numbers it ≡ token
     → token_error (kind_of token) text ≡ token_error it.kind text
-same_error it token text same = ap (λ (t : CToken). token_error (kind_of t) text) (sym same)
-    ∙ (are_kept it.kind it.len text E2024).1
+same_error it token text same = rw (← same) (are_kept it.kind it.len text E2024).1

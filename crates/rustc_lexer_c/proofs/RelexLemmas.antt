@@ -96,7 +96,7 @@ module _ (edition : Edition) (text : List ℕ) (old : List CToken) (change : CEd
           let many : length lens ≡ length old = length-map old (λ (t : CToken). t.len) in
           let all : length (tokens_by first before) ≡ length old =
           sym (length-map (tokens_by first before) (λ (t : Token). t.len))
-          ∙ (ap (λ (ns : List ℕ). length ns) (sym is.lengths_are) ∙ many) in
+          ∙ (ap length (sym is.lengths_are) ∙ many) in
           let left : tokens_by first (drop begin.at text) ≡ drop (at.front.index + lexed_before c)
           (tokens_of (part edition) text) = so.1 ∙ ap (λ n. drop n (tokens_of (part edition) text)) at_begin in
           let filled_is = tokens ∙ ap (λ (ts : List Token). map token_numbers (take count ts) ++ drop count buffer)
@@ -135,7 +135,6 @@ module _ (edition : Edition) (text : List ℕ) (old : List CToken) (change : CEd
       };
       batch = λ _ other other_is.
           let same : edition ≡ other = cc in
-          subst (λ e. IsRelexBatch e text old change c buffer (numbers_of text (length old) at) filled count) same
-          batch_is;
+          rw (← same) batch_is;
       refused = λ not. absurd (not refl);
     }

@@ -1,4 +1,4 @@
-use Rattle.std.proofs.Common.{◌≡◌, ◌-◌, ℕ, List, length, ap, ◌∙◌, arith}
+use Rattle.std.proofs.Common.{◌≡◌, ◌-◌, ℕ, List, length, ap, arith}
 use Rattle.rustc_lexer.specs.declared.{edition.Edition.{Edition}, token.FrontmatterAllowed.{FrontmatterAllowed}}
 use Rattle.rustc_lexer.specs.{LanguageText.{mode_in}, Classes.{IsText}, State.{State}, laws.State.{state}}
 use Rattle.rustc_lexer_c.specs.Batch.{state_at}
@@ -9,8 +9,7 @@ begun : (edition : Edition) (rest cut : List ℕ) (allowed given : FrontmatterAl
     → s ≡ record { pending = 0; rest = rest; mode = mode_in allowed edition } → rest ≡ cut → allowed ≡ given
     → s ≡ record { pending = 0; rest = cut; mode = mode_in given edition }
 begun edition rest cut allowed given s e f g =
-    e ∙ (ap (λ xs. state 0 xs (mode_in allowed edition)) f
-    ∙ ap (λ (a : FrontmatterAllowed). state 0 cut (mode_in a edition)) g)
+    rw (← f, ← g) e
 
 pub returns : goal.returns
 returns c =
@@ -32,7 +31,7 @@ overflow_sub-place c =
     begun _ _ _ _ _ _ c.tokenize_as-tokens.ensures.state c.range_from.ensures.value c.allowed_of-allowed.ensures in
     omega (
       arith,
-      ap (λ (xs : List ℕ). length xs) c.as_str.ensures.rest,
+      ap length c.as_str.ensures.rest,
       left_within _ _ is _ c.requires.boundary _ _ _ _ _ from
           (record { as_many = c.fill-count.ensures.count; tokens = c.fill-count.ensures.tokens })
           c.fill-count.ensures.state,
