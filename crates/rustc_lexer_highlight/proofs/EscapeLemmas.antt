@@ -15,7 +15,7 @@ unescaped_byte b rest = grind (arith, common_steps, eqb-true)
 
 pub unescaped_escaped : (text : List ℕ) → unescaped_past 0 (escaped text) ≡ text
 unescaped_escaped [] = refl
-unescaped_escaped (b ∷ bs) = unescaped_byte b (escaped bs) ∙ ap (λ xs. b ∷ xs) (unescaped_escaped bs)
+unescaped_escaped (b ∷ bs) = cc (unescaped_byte b (escaped bs), unescaped_escaped bs)
 
 untagged_byte : (b : ℕ) (rest : List ℕ) → untagged_from false (escaped_byte b ++ rest) ≡
     escaped_byte b ++ untagged_from false rest

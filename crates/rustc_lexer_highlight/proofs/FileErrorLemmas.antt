@@ -1,5 +1,5 @@
 -- The errors of a literal in a file.
-use Rattle.std.proofs.Common.{◌≡◌, ℕ, zero, suc, ◌==◌, true, false, List, [], ◌∷◌, append-nil, length, map, refl, sym}
+use Rattle.std.proofs.Common.{◌≡◌, ℕ, zero, suc, ◌==◌, true, false, List, [], ◌∷◌, append-nil, length, map, refl}
 use Rattle.std.proofs.{Common.{ap, ◌∙◌, arith, Option}, lemmas.{Bool.Decides.{nat_tests}, Str.{chars-nil}}}
 use Rattle.std.proofs.lemmas.Grind.{common_steps}
 use Rattle.std.specs.{List.{position_or_len}, Option.{option_map, option_to_list}, Str.{chars, IsUtf8}}
@@ -25,8 +25,8 @@ put-moved text o range es = grind (arith, common_steps)
 errors-moved : (mode : Mode) (text : List ℕ) (items : List Item)
     → errors_in mode (map (λ (i : Item). (moved text i.0, i.1)) items) ≡ map (move text) (errors_in mode items)
 errors-moved mode text [] = refl
-errors-moved mode text (i ∷ items) = ap (put (moved text i.0) (error_of mode i.1)) (errors-moved mode text items)
-    ∙ put-moved text (error_of mode i.1) i.0 (errors_in mode items)
+errors-moved mode text (i ∷ items) =
+    cc (errors-moved mode text items, put-moved text (error_of mode i.1) i.0 (errors_in mode items))
 
 errors-are : (mode : Mode) (text : List ℕ) → is_single mode ≡ false
     → errors_of mode text ≡ errors_in mode (items_of (is_raw mode) text)
@@ -34,8 +34,8 @@ errors-are mode text w2 = grind (arith, common_steps)
 
 pub string_errors : (mode : Mode) (text : List ℕ) → is_single mode ≡ false
     → errors_in mode (file_items (is_raw mode) text) ≡ escape_errors_in_file mode text
-string_errors mode text double = errors-moved mode text (items_of (is_raw mode) (unix text))
-    ∙ ap (map (move text)) (sym (errors-are mode (unix text) double))
+string_errors mode text double =
+    cc (errors-moved mode text (items_of (is_raw mode) (unix text)), errors-are mode (unix text) double)
 
 -- A text without a carriage return is unchanged.
 same-unix : (s : List ℕ) → position_or_len (λ x. x == 13) s ≡ length s → unix s ≡ s
@@ -56,8 +56,7 @@ same-moved s (e ∷ es) none =
 pub same_errors : (mode : Mode) (text : List ℕ) → first_offset 13 text ≡ length text
     → errors_of mode text ≡ escape_errors_in_file mode text
 unfolding first_offset
-same_errors mode text none = sym (same-moved text (errors_of mode text) none)
-    ∙ ap (λ (s : List ℕ). map (move text) (errors_of mode s)) (sym (same-unix text none))
+same_errors mode text none = cc (same-moved text (errors_of mode text) none, same-unix text none)
 
 list-moved : (text : List ℕ) (o : Option Error) → option_to_list (option_map (move text) o) ≡
     map (move text) (option_to_list o)

@@ -1,5 +1,5 @@
 -- The text of a highlighted literal, and the calls that write it.
-use Rattle.std.proofs.Common.{◌≡◌, ℕ, ◌+◌, ◌-◌, ◌<◌, ◌≤◌, Bool, List, [], ◌∷◌, ◌++◌, map, take, drop, refl, ap}
+use Rattle.std.proofs.Common.{◌≡◌, ℕ, ◌+◌, ◌-◌, ◌<◌, ◌≤◌, Bool, List, [], ◌∷◌, ◌++◌, take, drop, refl, ap}
 use Rattle.std.proofs.Common.{subst, ◌∙◌, arith, take-append-drop, length-drop, append-nil, length, IsCharBoundary}
 use Rattle.std.proofs.{Common.{IsUtf8, Option, Some}, lemmas.{Bool.{cases_lt}, List.{drop-drop, get_or-take}}}
 use Rattle.std.proofs.lemmas.List.{length-take-le, Concat.{flat_map-append}, Edits.{length-between}}
@@ -15,7 +15,7 @@ use Rattle.rustc_lexer_highlight.specs.{LineEnds.{file_items, place, unix}, decl
 use Rattle.rustc_lexer_highlight.specs.declared.{literal.{Look.{Look}, Painter.{Painter}}, format.Format.{Format}}
 use Rattle.rustc_lexer_highlight.specs.{Answers.{stretches_of, string_stretches}, Literal.{Stretch, single_stretches}}
 use Rattle.rustc_lexer_highlight.specs.Literal.{stretches_at, look_parts, parts_from, char_error, char_look}
-use Rattle.rustc_lexer_highlight.specs.{Literal.{moved_stretch, stretch}, Highlighted.{literal_parts}}
+use Rattle.rustc_lexer_highlight.specs.{Literal.{stretch}, Highlighted.{literal_parts}}
 use Rattle.rustc_lexer_highlight.specs.model.Literal.{IsCut, Paints, WritesOn, element_look, gap, stretches_from}
 use Rattle.rustc_lexer_highlight.specs.Part.{Own, own, with_markup, without_markup}
 use Rattle.rustc_lexer_highlight.proofs.{LineEndLemmas.{utf8-unix}, MovedLemmas.{items_placed, place-end}}
@@ -57,11 +57,11 @@ string_found mode text begin close utf8 le at_begin at_close =
     let last : close ≡ begin + place inside (length left) =
     omega (arith, le, length-between text begin close at_close.0, place-end inside) in
     let ends : 0 + bytes (chars left) ≡ length left = omega (arith, ap length (encodes-chars left is)) in
-    ap (λ (n : ℕ). stretches_from mode begin n close (file_items (is_raw mode) inside)) first
-    ∙ (ap (λ (n : ℕ). stretches_from mode begin (begin + place inside 0) n (file_items (is_raw mode) inside)) last
-    ∙ (stretches-moved mode begin inside 0 (length left) (items_of (is_raw mode) left)
-    ∙ ap (map (moved_stretch begin inside)) (stretches-read pieces.1 items 0 (length left) ends
-    ∙ ((the_stretches mode 0 (chars left)).only tt (stretches_at 0 pieces.0)).0 (lit.made pieces.1))))
+    cc (
+      stretches-moved mode begin inside 0 (length left) (items_of (is_raw mode) left),
+      stretches-read pieces.1 items 0 (length left) ends,
+      ((the_stretches mode 0 (chars left)).only tt (stretches_at 0 pieces.0)).0 (lit.made pieces.1),
+    )
 
 -- ---- offsets
 
@@ -106,8 +106,7 @@ placed_all text inside begin close raw items utf8 are is = grind (arith, common_
 
 told_already : (mode : Mode) (begin at close : ℕ) (items rest : List Item) (item : Item) → items ≡ item ∷ rest
     → begin + item.0.start < at → stretches_from mode begin at close items ≡ stretches_from mode begin at close rest
-told_already mode begin at close items rest item is less = ap (stretches_from mode begin at close) is
-    ∙ told mode begin close at item rest less
+told_already mode begin at close items rest item is less = rw is (told mode begin close at item rest less)
 
 -- ---- the calls
 
@@ -167,9 +166,7 @@ module _ {W : Type 0} (took : W → List ℕ → W → Type 0) where
       → WritesInCalls took v (with_markup q.format (Own Text (drop q.shown q.text.now) ∷ [])) u
       → WritesLeft p.format p.text.now w p.shown (single_stretches mode p.at close p.text.now) u
   paints_single p q mode inside close look w v u looks is on wrote =
-      subst (λ (l : Option Look). WritesLeft p.format p.text.now w p.shown (stretch p.at close l) u)
-      (looks ∙ ap (λ (xs : List ℕ). char_look (char_error mode xs) xs) is)
-      (paints_last p q p.format p.text.now (stretch p.at close look) close w v u refl refl on wrote)
+      rw (← is, ← looks) (paints_last p q p.format p.text.now (stretch p.at close look) close w v u refl refl on wrote)
 
   module _ (format : Format) (mode : Mode) (text : List ℕ) (begin close : ℕ) where
     -- An element that has already been reported is skipped.

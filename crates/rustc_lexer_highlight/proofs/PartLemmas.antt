@@ -1,6 +1,6 @@
 -- The text of a part with its markup, and the calls that write it.
 use Rattle.std.proofs.Common.{◌≡◌, ℕ, zero, suc, ◌%◌, ◌==◌, Bool, true, false, List, [], ◌∷◌, ◌++◌, length, take, drop}
-use Rattle.std.proofs.Common.{refl, sym, ap, ◌∙◌, arith, append_assoc, not, take-append-drop, ◌-◌, append-nil}
+use Rattle.std.proofs.Common.{refl, ap, ◌∙◌, arith, append_assoc, not, take-append-drop, ◌-◌, append-nil}
 use Rattle.std.proofs.Common.{true≢false, ◌<◌, IsCharBoundary}
 use Rattle.std.proofs.Math.Seq.{drop-length, split_at}
 use Rattle.std.specs.{Prelude.{decimal}, Fmt.{digit_glyph, digits, digits_onto, WritesInCalls}}
@@ -88,8 +88,12 @@ shows (p ∷ ps) =
 with_markup-append : (format : Format) (ps qs : List Part) → with_markup format (ps ++ qs) ≡
     with_markup format ps ++ with_markup format qs
 with_markup-append format [] qs = refl
-with_markup-append format (p ∷ ps) qs = ap (λ xs. written format p ++ xs) (with_markup-append format ps qs)
-    ∙ sym (append_assoc (written format p) (with_markup format ps) (with_markup format qs))
+with_markup-append format (p ∷ ps) qs =
+    cc (
+      with_markup-append format ps qs,
+      append_assoc (written format p) (with_markup format ps)
+          (with_markup format qs),
+    )
 
 module _ {W : Type 0} (took : W → List ℕ → W → Type 0) where
   -- Writing two lists of parts writes both.

@@ -107,8 +107,12 @@ pub splits : (text front rest past : List ℕ) (c n : ℕ) → IsUtf8 text → I
     × (length past < length text)
 splits text front rest past c n utf8 found is_front is_rest reads less =
     let long = ap length is_rest ∙ length-drop n text in
-    let cut : chars text ≡ chars (take n text) ++ chars (drop n text) = ap chars (sym (take-append-drop n text))
-    ∙ chars-append (take n text) (drop n text) (IsUtf8-take text n utf8 (may_cut text n found)) in (
+    let cut : chars text ≡ chars (take n text) ++ chars (drop n text) =
+    cc (
+      take-append-drop n text,
+      chars-append (take n text) (drop n text)
+          (IsUtf8-take text n utf8 (may_cut text n found)),
+    ) in (
       rw is_front (front_irreplaceable text n utf8 found),
       rw (is_front, ← reads, is_rest) cut,
       omega arith,
