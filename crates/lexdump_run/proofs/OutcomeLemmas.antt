@@ -1,5 +1,5 @@
 -- The outcome of a run follows from the outcomes of reading and listing.
-use Rattle.std.proofs.Common.{◌≡◌, ℕ, ◌<◌, ◌^◌, List, [], ◌++◌, length, sym, arith, subst, ap, ◌∙◌, append-nil, Option}
+use Rattle.std.proofs.Common.{◌≡◌, ℕ, ◌<◌, ◌^◌, List, [], length, sym, arith, append-nil, Option}
 use Rattle.std.proofs.Common.{Result, Ok, Err}
 use Rattle.std.proofs.lemmas.Grind.{common_steps}
 use Rattle.std.specs.{Prelude.{IfSome, OnErr, OnOk}, Str.{IsUtf8}, Io.KnownBytes.{Appends}}
@@ -32,9 +32,7 @@ module _ {W : Type 0} (contents : W → Option (List ℕ)) (start end : BlockWri
       → OnOk result (Appends (written contents start) (written contents end) made)
       × OnErr result (AppendsFront (written contents start) (written contents end) made)
   pushed_out (Ok done) p empty = (
-    subst (λ (xs : List ℕ). Appends (written contents start) (written contents end) xs)
-        (sym (ap (λ xs. xs ++ made) (sym none) ∙ p.ok.whole ∙ ap (λ xs. p.ok.front ++ xs) empty ∙ append-nil p.ok.front))
-        p.ok.grew,
+    rw (rw (none, empty, append-nil p.ok.front) at p.ok.whole) p.ok.grew,
     tt,
   )
   pushed_out (Err fault) p empty = (

@@ -1,5 +1,5 @@
 -- Lemmas about bytes that are pushed, one after another.
-use Rattle.std.proofs.Common.{◌≡◌, ℕ, List, [], ◌++◌, refl, sym, ap, ◌∙◌, append_assoc, append-nil, Option}
+use Rattle.std.proofs.Common.{◌≡◌, ℕ, List, [], ◌++◌, refl, sym, ◌∙◌, append_assoc, append-nil, Option}
 use Rattle.std.proofs.Common.{Result, Ok, Err, arith}
 use Rattle.std.proofs.lemmas.Grind.{common_steps}
 use Rattle.std.specs.{Prelude.{OnOk}, Result.{IsErrAnd}, Io.KnownBytes.{Appends}}
@@ -60,7 +60,7 @@ module _ {W : Type 0} {contents : W → Option (List ℕ)} where
     failed = p.failed;
     only = is ∙ p.only;
     ok = tt;
-    err = front_first _ _ (held old ++ one) two _ (append_assoc (held old) one two ∙ ap (λ xs. held old ++ xs) (sym e))
+    err = front_first _ _ (held old ++ one) two _ (cc (append_assoc (held old) one two))
         p.err;
   }
 
@@ -81,7 +81,7 @@ module _ {W : Type 0} {contents : W → Option (List ℕ)} where
 
   parted : {start mid : BlockWriter W} {all to_come : List ℕ} (first rest : List ℕ)
       (at : Pushing contents start mid all to_come) → to_come ≡ first ++ rest → all ≡ (at.done ++ first) ++ rest
-  parted first rest at e = at.whole ∙ (ap (λ xs. at.done ++ xs) e ∙ sym (append_assoc at.done first rest))
+  parted first rest at e = cc (append_assoc at.done first rest)
 
   -- If the next bytes are pushed, the rest after them remains.
   pub pushing_first : {start mid new : BlockWriter W} {all to_come first rest : List ℕ}
