@@ -1,5 +1,5 @@
 -- A batch, from the contract of `fill`.
-use Rattle.std.proofs.Common.{◌≡◌, ℕ, ◌+◌, ◌-◌, ◌≤◌, List, length, drop, refl, sym, ap, ◌∙◌, arith, length-drop}
+use Rattle.std.proofs.Common.{◌≡◌, ℕ, ◌+◌, ◌-◌, ◌≤◌, List, length, drop, refl, ap, ◌∙◌, arith, length-drop}
 use Rattle.std.proofs.Common.{IsCharBoundary}
 use Rattle.std.proofs.lemmas.{Grind.{common_steps}, Str.{IsCharBoundary-from_rest, IsUtf8-drop}}
 use Rattle.std.proofs.Math.Nat.{min-le_right}
@@ -36,8 +36,7 @@ module _ (edition : Edition) (text : List ℕ) (is : IsText text) (place : CPlac
   cut_is : IsText cut
   cut_is = record {
     utf8 = IsUtf8-drop text place.at is.utf8 boundary;
-    fits = let f = is.fits in
-        omega (arith, length-drop place.at text);
+    fits = omega (arith, is.fits, length-drop place.at text);
   }
 
   leaves : Leaves s t (length buffer) count
@@ -62,11 +61,11 @@ module _ (edition : Edition) (text : List ℕ) (is : IsText text) (place : CPlac
   left_within = omega (arith, ap length rest_is, length-drop end cut, length-drop place.at text)
 
   place_is : length text - length t.rest ≡ place.at + end
-  place_is = let long : length t.rest ≡ length (drop end cut) = ap length rest_is in let b = boundary.0 in
-      let i = inside.0 in omega (arith, long, b, i, length-drop end cut, length-drop place.at text)
+  place_is =
+      omega (arith, ap length rest_is, boundary.0, inside.0, length-drop end cut, length-drop place.at text)
 
   state_is : state_past count (state_at edition text place) ≡ t
-  state_is = ap (state_past count) (sym begun) ∙ sym past
+  state_is = cc
 
   same_edition : mode_edition t.mode ≡ edition
   same_edition = (rw begun at leaves.edition) ∙ mode_of-edition (allowed_of place.frontmatter_allowed) edition

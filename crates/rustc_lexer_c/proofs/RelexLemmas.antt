@@ -1,12 +1,12 @@
 -- The state of relexing as numbers, and back.
 use Rattle.std.specs.Prelude.{IfSome}
-use Rattle.std.proofs.Common.{◌≡◌, ◌≢◌, ℕ, ◌+◌, ◌-◌, ◌<◌, ◌≤◌, true, List, ◌++◌, length, map, take, drop, refl, sym, ap}
-use Rattle.std.proofs.Common.{◌∙◌, subst, arith, take-add, Option, Some, None}
+use Rattle.std.proofs.Common.{◌≡◌, ◌≢◌, ℕ, ◌+◌, ◌-◌, ◌<◌, ◌≤◌, true, List, ◌++◌, length, map, take, drop, refl, ap}
+use Rattle.std.proofs.Common.{◌∙◌, arith, take-add, Option, Some, None}
 use Rattle.std.proofs.lemmas.{Grind.{common_steps}, List.{length-map, length-take-le, drop_at, take-map, drop-map}}
-use Rattle.rustc_lexer.specs.declared.{edition.Edition.{Edition}, relex.relexing.Relexed.{Relexed}}
+use Rattle.rustc_lexer.specs.declared.{edition.Edition.{Edition}}
 use Rattle.rustc_lexer.specs.declared.{relex.relexing.Relexing.{Relexing}, token.Token.{Token}}
 use Rattle.rustc_lexer.specs.{Tokens.{tokens_by, tokens_of}, Answers.{first_in}, LanguageText.{part}}
-use Rattle.rustc_lexer.specs.{Edits.{IsRelexed, fragment_by}, Relexing.{known}}
+use Rattle.rustc_lexer.specs.{Edits.{fragment_by}, Relexing.{known}}
 use Rattle.rustc_lexer.specs.Relexing.{IsChange, IsMadeOf, IsUnderWay, IsWhole, CanContinue, TakesSteps, is_done}
 use Rattle.rustc_lexer.specs.{Classes.{IsText}, LanguageCalls.{edition_of_year}}
 use Rattle.rustc_lexer.specs.{Locality.{IsGrammar}, laws.Edition.{edition_grammar}}
@@ -78,7 +78,7 @@ module _ (edition : Edition) (text : List ℕ) (old : List CToken) (change : CEd
     batch_is = record {
       within = within;
       rest = grind (arith, common_steps, length-map, length-take-le, drop_at, steps.inside);
-      lexed = steps.lexed ∙ ap (λ n. n + count) before_lexed;
+      lexed = rw before_lexed at steps.lexed;
       goes_on = λ not. grind (arith, common_steps);
       front = λ later. steps.front ∙ begun_front later;
       may_relex = λ _. grind (arith, common_steps);
@@ -91,31 +91,24 @@ module _ (edition : Edition) (text : List ℕ) (old : List CToken) (change : CEd
           let lexed = steps.lexed in
           let over = over_is before insert is so.0 in
           let same = relex_back text (length old) at may.number over in
-          let number = ap (λ b. b.index) steps.front in
-          let at_begin : known begin ≡ at.front.index + lexed_before c = omega arith in
+          let at_begin : known begin ≡ at.front.index + lexed_before c = omega (arith, ap (λ b. b.index) steps.front) in
           let many : length lens ≡ length old = length-map old (λ (t : CToken). t.len) in
           let all : length (tokens_by first before) ≡ length old =
-          sym (length-map (tokens_by first before) (λ (t : Token). t.len))
-          ∙ (ap length (sym is.lengths_are) ∙ many) in
+          cc (length-map (tokens_by first before) (λ (t : Token). t.len), is.lengths_are) in
           let left : tokens_by first (drop begin.at text) ≡ drop (at.front.index + lexed_before c)
           (tokens_of (part edition) text) = so.1 ∙ ap (λ n. drop n (tokens_of (part edition) text)) at_begin in
-          let filled_is = tokens ∙ ap (λ (ts : List Token). map token_numbers (take count ts) ++ drop count buffer)
-          left in
+          let filled_is = rw left at tokens in
           let back : length old - (length old - at.back.index) ≡ at.back.index = omega (arith, may.number) in
           record {
             passed = record {
               near = λ e. grind (arith, common_steps);
-              under_way = λ _. subst (IsUnderWay first before (change_of change) text) (sym same) so.0;
+              under_way = λ _. rw same so.0;
             };
             tokens = filled_is;
             more = written_more (tokens_of (part edition) text) at.front.index (lexed_before c) count at.lexed buffer
                 filled (omega arith) so.0.inside filled_is;
             few = (found.0, counted, few_lexed law is so.0 found.0 counted);
-            counts = λ e. subst
-                (λ (n : ℕ). let r : Relexed = record
-                { kept_front = at.front.index; lexed = at.lexed; kept_back = n - at.back.index } in
-                IsRelexed (fragment_by first) before change.start change.old_end insert r) all
-                (met (grind (arith, common_steps))).0;
+            counts = λ e. rw all at (met (grind (arith, common_steps))).0;
             list = λ e are. list_whole (tokens_by first before) (tokens_by first text) at
                 (length old - (length old - at.back.index)) old back are (met (grind (arith, common_steps))).1;
           };

@@ -1,4 +1,4 @@
-use Rattle.std.proofs.Common.{ℕ, List, sym, true≢false, ◌∙◌}
+use Rattle.std.proofs.Common.{ℕ, List, sym}
 use Rattle.rustc_lexer.specs.{Classes.{IsText}, Relexing.{IsChange}}
 use Rattle.rustc_lexer_c.proofs.HeadLemmas.{Changes, found, refused_body, refused_edit}
 use Rattle.rustc_lexer_c.specs.Relex.{change_of}
@@ -9,8 +9,7 @@ returns-then-not-is_valid_for c =
     let text : List ℕ = c.in-Ok.text.now in
     let is : IsText text = rw c.in-Ok.ensures.0 c.in-Ok.ensures.1 in
     let not : ¬ (IsChange text (change_of c.args.edit.now)) =
-    λ fine. true≢false (sym (c.is_valid_for.ensures.1 (rw c.change_of-change.ensures fine))
-    ∙ c.if-not-is_valid_for.true) in
+    λ fine. let valid = c.is_valid_for.ensures.1 (rw c.change_of-change.ensures fine) in cc in
     rw (← c.in-Ok.ensures.0, c.number-then-not-is_valid_for.ensures)
     (refused_edit _ is _ _ _ _ not)
 
@@ -22,10 +21,9 @@ returns-then-not-is_valid_for-2 c =
     let all : Changes c.args.head.now c.args.edit.now c.find-now.result body.keeps_head body.change =
     rw (sym c.head_of.ensures.head, sym c.change_of-change.ensures) c.change_to-body.ensures.body in
     let not : ¬ (IsChange c.range_from.result.now body.change) =
-    λ may. true≢false (sym (c.is_valid_for-2.ensures.1 may) ∙ c.if-not-is_valid_for-2.true) in
+    λ may. let valid = c.is_valid_for-2.ensures.1 may in cc in
     rw (← c.in-Ok.ensures.0, c.number-then-not-is_valid_for-2.ensures)
-    (refused_body _ is _ _ _ _ _ _ _ c.find-now.ensures.head all
-    (rw c.range_from.ensures.value at not))
+    (refused_body _ is _ _ _ _ _ _ _ c.find-now.ensures.head all (rw c.range_from.ensures.value at not))
 
 pub returns : goal.returns
 returns c =
