@@ -43,7 +43,7 @@ special_small b set = grind (arith, common_steps, eqb-true)
 pub may_cut_past : (bs : List ℕ) (n : ℕ) → IsUtf8 bs → IsFirstByte is_special bs (Some n) → (n + 1 ≤ length bs)
     × (n + 1 < length bs → 128 ≤ get_or bs (n + 1) 0 → 192 ≤ get_or bs (n + 1) 0)
 may_cut_past bs n utf8 found =
-    (let i = found.0.high in omega arith, λ low wide. lead_after_ascii bs n utf8 (special_small _ found.1) low wide)
+    (omega (arith, found.0.high), λ low wide. lead_after_ascii bs n utf8 (special_small _ found.1) low wide)
 
 module _ {W : Type 0} (took : W → List ℕ → W → Type 0) where
   -- Writing the text before the first special byte, its entity, and then the escaped rest writes the escaped text.

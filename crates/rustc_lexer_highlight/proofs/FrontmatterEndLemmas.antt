@@ -354,13 +354,12 @@ told-line n next u line many =
     let cut : take (blanks_len tail) tail ++ left ≡ tail = take-append-drop (blanks_len tail) tail in
     let whole : fence d ++ (take (blanks_len tail) tail ++ left) ≡ rest =
     cc (run-fence rest, take-append-drop d rest) in
-    subst (λ (l : Chars). AreAll is_inline l → NoneUnless 3 next u l → NoneUnless n next u l
-    → Told n next (u ++ 10 ∷ l))
-    (ap (λ (w : Chars). take (blanks_len line) line ++ w) whole ∙ take-append-drop (blanks_len line) line)
-    (told-last n d next u (take (blanks_len line) line) (take (blanks_len tail) tail) left many
+    let all : take (blanks_len line) line ++ (fence d ++ (take (blanks_len tail) tail ++ left)) ≡ line =
+    cc (take-append-drop (blanks_len line) line) in
+    rw (← all) (told-last n d next u (take (blanks_len line) line) (take (blanks_len tail) tail) left many
     (run_all is_horizontal_whitespace line)
-    (ap (next_is is_horizontal_whitespace) whole ∙ run-stops is_horizontal_whitespace line)
-    (no_dash (take (blanks_len tail) tail ++ left) (ap (next_is is_dash) cut ∙ run-stops is_dash rest))
+    (rw whole (run-stops is_horizontal_whitespace line))
+    (no_dash (take (blanks_len tail) tail ++ left) (rw cut (run-stops is_dash rest)))
     (run_all is_horizontal_whitespace tail) (run-stops is_horizontal_whitespace tail))
 
 -- The case without a line that starts with three dashes, or with n.

@@ -37,8 +37,7 @@ place-byte (c ∷ s) (suc i) =
 
 pub place-le : (s : List ℕ) (i j : ℕ) → i ≤ j → place s i ≤ place s j
 place-le s i j le = elim (cases_lt i j) [
-  | inl less ↦ let l = place_less s i j less in
-      omega arith
+  | inl less ↦ omega (arith, place_less s i j less)
   | inr more ↦ let same : i ≡ j = omega arith in omega (arith, ap (place s) same)
 ]
 

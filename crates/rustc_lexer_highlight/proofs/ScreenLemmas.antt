@@ -121,11 +121,8 @@ splits text front rest past c n utf8 found is_front is_rest reads less =
 pub some_left : (text rest : List ℕ) (n : ℕ) → IsUtf8 rest → IsFirstByte may_begin_replaceable text (Some n)
     → rest ≡ drop n text → chars rest ≡ [] → ⊥
 some_left text rest n utf8 found is none =
-    let high = found.0.high in
     let empty : [] ≡ rest = sym (ap encode_utf8_all none) ∙ encodes-chars rest utf8 in
-    let long = ap length is ∙ length-drop n text in
-    let short = ap length empty in
-    omega arith
+    omega (arith, found.0.high, ap length is, length-drop n text, ap length empty)
 
 pub none_replaceable : (bs text : List ℕ) → bs ≡ text → IsUtf8 text → IsFirstByte may_begin_replaceable bs None
     → list_any is_replaceable (chars text) ≡ false
