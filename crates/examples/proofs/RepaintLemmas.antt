@@ -1,6 +1,6 @@
 -- The shown pieces of a text after an edit.
 use Rattle.std.proofs.Common.{◌≡◌, ℕ, zero, suc, ◌+◌, ◌-◌, ◌<◌, ◌≤◌, true, List, [], ◌∷◌, ◌++◌, length, map, take, drop}
-use Rattle.std.proofs.Common.{refl, sym, ap, subst, ◌∙◌, arith, drop-drop, take-take, take-append-drop, length-take-le}
+use Rattle.std.proofs.Common.{refl, sym, ap, ◌∙◌, arith, drop-drop, take-take, take-append-drop, length-take-le}
 use Rattle.std.proofs.Common.{IsUtf8, Result, Ok, Err, IfOk, OnOk}
 use Rattle.std.proofs.lemmas.{Grind.{common_steps}, List.{drop-take}}
 use Rattle.rustc_lexer.specs.declared.{relex.relexing.{Change.{Change}, Relexed.{Relexed}}, token.Token.{Token}}
@@ -78,8 +78,7 @@ module _ {first : List ℕ → Token} (law : IsGrammar first) (text : List ℕ) 
   front_shown =
       let two = (kept_tells text old start is.utf8 (cuts law text is) kept few).1 (omega arith) in
       let long : length (take kept old) ≡ kept = length-take-le kept old few in
-      let end : bound (take kept old) (length (take kept old)) ≡ bound old kept = ap (bound (take kept old)) long
-      ∙ bound-take kept old in
+      let end : bound (take kept old) (length (take kept old)) ≡ bound old kept = rw long (bound-take kept old) in
       let early : bound old kept ≤ start = kept_before text start old kept two in
       let front = (edited of_edit).front in
       cc (
@@ -104,8 +103,7 @@ module _ {first : List ℕ → Token} (law : IsGrammar first) (text : List ℕ) 
       let a : bound old i ≡ 0 + bound old i = omega arith in
       let b : bound new met ≡ 0 + bound new met = omega arith in
       let same : drop (0 + bound old i) text ≡ drop (0 + bound new met) new_text =
-      ap (λ p. drop p text) (sym a ∙ there)
-      ∙ (sym (same_rest law of_edit (bound new met) past) ∙ ap (λ p. drop p new_text) b) in
+      cc (same_rest law of_edit (bound new met) past) in
       let rest : drop met new ≡ drop i old = met_rest law of_edit met i past place in
       cc (
         drop-pieces new_text 0 met new,
@@ -122,8 +120,7 @@ module _ {first : List ℕ → Token} (law : IsGrammar first) (text : List ℕ) 
       let back = at.back_is in
       let kept_is : r.kept_front ≡ kept = omega (arith, is.kept (omega arith, refl, refl)) in
       let number : length shown - r.kept_back ≡ at.old_number = omega (arith, length-pieces text 0 old) in
-      let front : take r.kept_front to_show ≡ take r.kept_front shown =
-      subst (λ n. take n to_show ≡ take n shown) (sym kept_is) front_shown in
+      let front : take r.kept_front to_show ≡ take r.kept_front shown = rw kept_is front_shown in
       cc (in_three r.kept_front r.lexed to_show, back_shown (r.kept_front + r.lexed) r.kept_back at)
 
   pub enough_for : {E : Type 0} (result : Result Relexed E) (bytes : List ℕ) (tokens held : List Token)

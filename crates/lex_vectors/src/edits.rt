@@ -1,17 +1,19 @@
-//! Edits of a lexed text, one by one and as a list.
-use crate::documents;
+//! Edits of lexed fragments and documents, one by one and as a list.
+ghost use Rattle.rustc_lexer.specs.Classes.{Fits};
+
 use crate::rows::Made;
 use crate::steppers::{Characters, Counting};
+use crate::tables::documents::{FRONTS, HEADS, KEPT, SPACED};
 use crate::tables::edits::{CHARACTERS, LONG, Role, SHORT};
 use crate::tables::row::Entry;
 use rustc_lexer::{
-    Edit, EditSequenceError, EditStop, Edition, LexedText, Relexed, Stepper, Token, fits,
+    Edit, EditStop, Edition, LexedDocument, LexedText, Relexed, Stepper, Steps, TokenStart, fits,
 };
 use std::alloc::{AllocError, Global};
 
 /// An edit and its counts, or no counts if it is rejected.
 #[derive(Drop)]
-pub struct Step {
+struct Step {
     start: usize,
     stop: usize,
     insert: String,
@@ -30,15 +32,15 @@ impl Step {
 
 /// A text, its edits, and the text and the tokens after them.
 #[derive(Drop)]
-pub struct EditRow {
-    pub edition: Edition,
-    pub text: String,
+struct EditRow {
+    edition: Edition,
+    text: String,
     steps: Vec<Step>,
     made: Made,
 }
 
 impl EditRow {
-    pub fn new(alloc: Global) -> EditRow {
+    fn new(alloc: Global) -> EditRow {
         EditRow {
             edition: Edition::E2024,
             text: String::new(alloc),
@@ -48,7 +50,7 @@ impl EditRow {
     }
 
     /// Adds an entry of a table. Returns whether the test case is complete.
-    pub fn add(&mut self, entry: &Entry<Role>) -> Result<bool, AllocError> {
+    fn add(&mut self, entry: &Entry<Role>) -> Result<bool, AllocError> {
         match self.made.add(entry)? {
             Some(Role::Before(edition)) => {
                 self.edition = edition;
@@ -74,149 +76,189 @@ impl EditRow {
             None => Ok(()),
         }
     }
+
+    /// Returns how many tokens the edits lex.
+    fn lexed(&self) -> u64 {
+        let mut lexed = 0u64;
+        for step in self.steps.as_slice() {
+            if let Some(counts) = step.counts {
+                lexed = lexed.saturating_add(counts.lexed as u64);
+            }
+        }
+        lexed
+    }
+}
+
+/// Whether a text is lexed as a fragment or as a document.
+#[derive(Clone, Copy)]
+enum Form {
+    Fragment,
+    Document,
 }
 
 /// An incrementally lexed text.
-pub trait Keeps {
-    fn text(&self) -> &str;
+#[derive(Drop)]
+enum Lexed<S: Stepper> {
+    Fragment(LexedText<S>),
+    Document(LexedDocument<S>),
+}
 
-    fn tokens(&self) -> &[Token];
+impl<S: Stepper> Lexed<S> {
+    fn with(alloc: Global, text: &str, stepper: S, form: Form) -> Result<Lexed<S>, AllocError>
+        requires { Fits text.now }
+    {
+        match form {
+            Form::Fragment => Ok(Lexed::Fragment(LexedText::with(alloc, text, stepper)?)),
+            Form::Document => Ok(Lexed::Document(LexedDocument::with(alloc, text, stepper)?)),
+        }
+    }
+
+    fn stepper(&self) -> &S {
+        match self {
+            Lexed::Fragment(lexed) => lexed.stepper(),
+            Lexed::Document(lexed) => lexed.stepper(),
+        }
+    }
+
+    /// Returns whether this has the text and the tokens of `made`.
+    fn is_left(&self, made: &Made) -> bool {
+        let (text, tokens) = match self {
+            Lexed::Fragment(lexed) => (lexed.text(), lexed.tokens()),
+            Lexed::Document(lexed) => (lexed.text(), lexed.tokens()),
+        };
+        text == made.text.as_str() && tokens == made.tokens.as_slice()
+    }
 
     /// Applies the edit, or returns `None` if it is not accepted.
-    fn try_edit(&mut self, edit: Edit<'_>) -> Result<Option<Relexed>, AllocError>;
-
-    fn try_edits(&mut self, edits: &[Edit<'_>]) -> Result<(), EditStop>;
-
-    fn try_each(&mut self, edits: &[Edit<'_>]) -> Result<Relexed, EditSequenceError>;
-}
-
-impl<S: Stepper> Keeps for LexedText<S> {
-    fn text(&self) -> &str {
-        self.text()
-    }
-
-    fn tokens(&self) -> &[Token] {
-        self.tokens()
-    }
-
     fn try_edit(&mut self, edit: Edit<'_>) -> Result<Option<Relexed>, AllocError> {
-        if !self.accepts(edit.start, edit.stop, edit.insert) {
-            return Ok(None);
+        let Edit {
+            start,
+            stop,
+            insert,
+        } = edit;
+        match self {
+            Lexed::Fragment(lexed) if lexed.accepts(start, stop, insert) => {
+                Ok(Some(lexed.edit(start, stop, insert)?))
+            }
+            Lexed::Document(lexed) if lexed.accepts(start, stop, insert) => {
+                Ok(Some(lexed.edit(start, stop, insert)?))
+            }
+            _ => Ok(None),
         }
-        Ok(Some(self.edit(edit.start, edit.stop, edit.insert)?))
     }
 
-    fn try_edits(&mut self, edits: &[Edit<'_>]) -> Result<(), EditStop> {
-        self.edit_all(edits)
+    fn edit_all(&mut self, edits: &[Edit<'_>]) -> Result<(), EditStop> {
+        match self {
+            Lexed::Fragment(lexed) => lexed.edit_all(edits),
+            Lexed::Document(lexed) => lexed.edit_all(edits),
+        }
     }
 
-    fn try_each(&mut self, edits: &[Edit<'_>]) -> Result<Relexed, EditSequenceError> {
-        self.edit_sequence(edits)
+    /// Applies the edits one by one. Returns whether the counts of each, and the final text and tokens, are as
+    /// expected.
+    fn is_edited(&mut self, row: &EditRow) -> Result<bool, AllocError> {
+        for step in row.steps.as_slice() {
+            if self.try_edit(step.edit())? != step.counts {
+                return Ok(false);
+            }
+        }
+        Ok(self.is_left(&row.made))
+    }
+
+    /// Returns whether the edits as a list have the same result, and an empty list after them changes nothing.
+    fn is_listed(&mut self, alloc: Global, row: &EditRow) -> Result<bool, AllocError> {
+        let mut edits = Vec::new(alloc);
+        for step in row.steps.as_slice() {
+            edits.push(step.edit())?;
+        }
+        let end = self.edit_all(edits.as_slice());
+        Ok(end == row.end() && self.is_left(&row.made) && self.is_kept(&row.made))
+    }
+
+    /// Returns whether an empty list of edits keeps this text and all tokens.
+    fn is_kept(&mut self, made: &Made) -> bool {
+        let all_kept = Relexed {
+            kept_front: made.tokens.len(),
+            lexed: 0,
+            kept_back: 0,
+        };
+        let sequence = match self {
+            Lexed::Fragment(lexed) => lexed.edit_sequence(&[]),
+            Lexed::Document(lexed) => lexed.edit_sequence(&[]),
+        };
+        sequence == Ok(all_kept) && self.edit_all(&[]) == Ok(()) && self.is_left(made)
     }
 }
 
-/// Returns whether the lexed text has this text and these tokens.
-fn is_left<K: Keeps>(lexed: &K, made: &Made) -> bool {
-    lexed.text() == made.text.as_str() && lexed.tokens() == made.tokens.as_slice()
+impl Lexed<Steps> {
+    fn edition(&self) -> Edition {
+        match self {
+            Lexed::Fragment(lexed) => lexed.edition(),
+            Lexed::Document(lexed) => lexed.edition(),
+        }
+    }
 }
 
-/// Applies the edits one by one. Returns whether the counts of each, and the final text and tokens, are as expected.
-pub fn is_edited<K: Keeps>(lexed: &mut K, row: &EditRow) -> Result<bool, AllocError> {
-    for step in row.steps.as_slice() {
-        if lexed.try_edit(step.edit())? != step.counts {
+/// The two forms of a text without a head.
+static BOTH: &[Form] = &[Form::Fragment, Form::Document];
+
+static DOCUMENT: &[Form] = &[Form::Document];
+
+/// Returns whether the test case holds in its edition, with the edits one by one and as a list. The stepper must be
+/// called once for each lexed token, except for `heads` tokens of heads.
+fn holds(alloc: Global, row: &EditRow, form: Form, heads: u64) -> Result<bool, AllocError> {
+    let text = row.text.as_str();
+    if !fits(text) {
+        return Ok(false);
+    }
+    let mut lexed = match form {
+        Form::Fragment if row.edition == Edition::NEWEST => Lexed::Fragment(LexedText::new(
+            alloc, text,
+        )?),
+        Form::Fragment => Lexed::Fragment(LexedText::new_in(alloc, text, row.edition)?),
+        Form::Document => Lexed::Document(LexedDocument::new_in(alloc, text, row.edition)?),
+    };
+    if !lexed.is_edited(row)? || lexed.edition() != row.edition {
+        return Ok(false);
+    }
+    for as_list in [false, true] {
+        let mut lexed = Lexed::with(alloc, text, Counting::new_in(row.edition), form)?;
+        let calls = lexed
+            .stepper()
+            .calls
+            .saturating_add(row.lexed().saturating_sub(heads));
+        let holds = if as_list {
+            lexed.is_listed(alloc, row)?
+        } else {
+            lexed.is_edited(row)?
+        };
+        if !holds || lexed.stepper().calls != calls {
             return Ok(false);
         }
     }
-    Ok(is_left(lexed, &row.made))
+    Ok(true)
 }
 
-/// Returns whether the edits as a list have the same result, and an empty list after them changes nothing.
-pub fn is_listed<K: Keeps>(alloc: Global, kept: &mut K, row: &EditRow) -> Result<bool, AllocError> {
-    let mut edits = Vec::new(alloc);
-    for step in row.steps.as_slice() {
-        edits.push(step.edit())?;
-    }
-    let end = kept.try_edits(edits.as_slice());
-    Ok(end == row.end() && is_left(kept, &row.made) && is_kept(kept, &row.made))
-}
-
-/// Returns whether an empty list of edits keeps this text and all tokens.
-fn is_kept<K: Keeps>(lexed: &mut K, made: &Made) -> bool {
-    let all_kept = Relexed {
-        kept_front: made.tokens.len(),
-        lexed: 0,
-        kept_back: 0,
-    };
-    lexed.try_edits(&[]) == Ok(()) && lexed.try_each(&[]) == Ok(all_kept) && is_left(lexed, made)
-}
-
-/// Returns how many tokens the edits of the test case lex.
-pub fn lexed_by(row: &EditRow) -> u64 {
-    let mut lexed = 0u64;
-    for step in row.steps.as_slice() {
-        if let Some(counts) = step.counts {
-            lexed = lexed.saturating_add(counts.lexed as u64);
-        }
-    }
-    lexed
-}
-
-/// Returns whether the test case holds for a fragment in its edition, with the edits one by one and as a list.
-fn holds(alloc: Global, row: &EditRow) -> Result<bool, AllocError> {
-    let text = row.text.as_str();
-    if !fits(text) {
-        return Ok(false);
-    }
-    let mut kept = if row.edition == Edition::NEWEST {
-        LexedText::new(alloc, text)?
-    } else {
-        LexedText::new_in(alloc, text, row.edition)?
-    };
-    if !is_edited(&mut kept, row)? || kept.edition() != row.edition {
-        return Ok(false);
-    }
-    Ok(is_counted(alloc, row, false)? && is_counted(alloc, row, true)?)
-}
-
-/// Returns whether the test case holds, and the stepper is called once for each lexed token.
-fn is_counted(alloc: Global, row: &EditRow, as_list: bool) -> Result<bool, AllocError> {
-    let text = row.text.as_str();
-    if !fits(text) {
-        return Ok(false);
-    }
-    let mut lexed = LexedText::with(alloc, text, Counting::new_in(row.edition))?;
-    let calls = lexed.stepper().calls.saturating_add(lexed_by(row));
-    let holds = if as_list {
-        is_listed(alloc, &mut lexed, row)?
-    } else {
-        is_edited(&mut lexed, row)?
-    };
-    Ok(holds && lexed.stepper().calls == calls)
-}
-
-/// Texts without a head: as a document, they have the same counts.
 #[test]
 fn rows(rt: HostRuntime) -> Result<(), AllocError> {
-    for (name, entries) in [("SHORT", SHORT), ("LONG", LONG)] {
+    for (name, forms, heads, entries) in [
+        ("SHORT", BOTH, 0, SHORT),
+        ("LONG", BOTH, 0, LONG),
+        ("KEPT", DOCUMENT, 0, KEPT),
+        ("FRONTS", DOCUMENT, 1, FRONTS),
+        ("SPACED", DOCUMENT, 2, SPACED),
+    ] {
         let mut row = EditRow::new(rt.alloc());
         for (number, entry) in entries.iter().enumerate() {
             if row.add(entry)? {
-                let holds = holds(rt.alloc(), &row)? && documents::holds(rt.alloc(), &row, 0)?;
-                assert!(rt; holds, "{name}, up to entry {number}");
+                for form in forms {
+                    let holds = holds(rt.alloc(), &row, *form, heads)?;
+                    assert!(rt; holds, "{name}, up to entry {number}");
+                }
             }
         }
     }
     Ok(())
-}
-
-/// Returns whether the test case holds if each character is one token.
-fn holds_by_characters(alloc: Global, row: &EditRow) -> Result<bool, AllocError> {
-    let text = row.text.as_str();
-    if !fits(text) {
-        return Ok(false);
-    }
-    let mut lexed = LexedText::with(alloc, text, Characters::new())?;
-    is_edited(&mut lexed, row)
 }
 
 #[test]
@@ -224,10 +266,30 @@ fn one_character_a_token(rt: HostRuntime) -> Result<(), AllocError> {
     let mut row = EditRow::new(rt.alloc());
     for entry in CHARACTERS {
         if row.add(entry)? {
-            let holds = holds_by_characters(rt.alloc(), &row)?
-                && documents::holds_by_characters(rt.alloc(), &row)?;
-            assert!(rt; holds);
+            let text = row.text.as_str();
+            assert!(rt; fits(text));
+            for form in BOTH {
+                let mut lexed = Lexed::with(rt.alloc(), text, Characters::new(), *form)?;
+                assert!(rt; lexed.is_edited(&row)?);
+            }
         }
+    }
+    Ok(())
+}
+
+#[test]
+fn heads(rt: HostRuntime) -> Result<(), AllocError> {
+    for (text, shebang, number, place) in HEADS {
+        assert!(rt; fits(text));
+        let lexed = LexedDocument::new(rt.alloc(), text)?;
+        let body = TokenStart {
+            index: *number,
+            offset: *place,
+        };
+        assert!(rt;
+            lexed.tokens_start() == *shebang && lexed.body_start() == body,
+            "{text}"
+        );
     }
     Ok(())
 }

@@ -6,8 +6,6 @@ mod callers;
 #[cfg(test)]
 mod cursors;
 #[cfg(test)]
-mod documents;
-#[cfg(test)]
 mod edits;
 #[cfg(test)]
 mod emoji;

@@ -86,4 +86,4 @@ asks_edits edition (start ∷ words) n are e is so = by_edits (replacements_of (
     by_edits None f = absurd (true≢false (sym f))
     by_edits (Some es) f = tt
 
-pub ruleset job_lemmas = (length-after, length-map, place-parse)
+pub ruleset job_lemmas = (length-after, length-map, place-parse, common_steps)

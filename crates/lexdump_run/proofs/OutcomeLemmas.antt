@@ -1,5 +1,5 @@
 -- The outcome of a run follows from the outcomes of reading and listing.
-use Rattle.std.proofs.Common.{◌≡◌, ℕ, ◌<◌, ◌^◌, List, [], ◌++◌, length, sym, arith, subst, ap, ◌∙◌, append-nil, Option}
+use Rattle.std.proofs.Common.{◌≡◌, ℕ, ◌<◌, ◌^◌, List, [], length, sym, arith, append-nil, Option}
 use Rattle.std.proofs.Common.{Result, Ok, Err}
 use Rattle.std.proofs.lemmas.Grind.{common_steps}
 use Rattle.std.specs.{Prelude.{IfSome, OnErr, OnOk}, Str.{IsUtf8}, Io.KnownBytes.{Appends}}
@@ -32,15 +32,12 @@ module _ {W : Type 0} (contents : W → Option (List ℕ)) (start end : BlockWri
       → OnOk result (Appends (written contents start) (written contents end) made)
       × OnErr result (AppendsFront (written contents start) (written contents end) made)
   pushed_out (Ok done) p empty = (
-    subst (λ (xs : List ℕ). Appends (written contents start) (written contents end) xs)
-        (sym (ap (λ xs. xs ++ made) (sym none) ∙ p.ok.whole ∙ ap (λ xs. p.ok.front ++ xs) empty ∙ append-nil p.ok.front))
-        p.ok.grew,
+    rw (rw (none, empty, append-nil p.ok.front) at p.ok.whole) p.ok.grew,
     tt,
   )
   pushed_out (Err fault) p empty = (
     tt,
-    subst (λ (xs : List ℕ). AppendsFront (written contents start) (written contents end) (xs ++ made)) none
-        p.err,
+    rw none at p.err,
   )
 
   -- If the block is finished, all bytes were written, or a prefix of them if a write failed.
@@ -50,7 +47,7 @@ module _ {W : Type 0} (contents : W → Option (List ℕ)) (start end : BlockWri
       → OnOk result (Appends old new made) × OnErr result (AppendsFront old new made)
   finished mid old new result e f p q empty =
       rw (← e, ← f) (pushed_out result
-      (pushes_both contents start mid end made [] made result (sym (append-nil made)) p q) empty)
+      (pushes_both result (sym (append-nil made)) p q) empty)
 
 -- If everything was listed and the held bytes are written at the end, the run has the specified outcome.
 pub ends_listed : {W : Type 0} (contents : W → Option (List ℕ)) (job : Job) (known : Option (List ℕ)) (text : List ℕ)

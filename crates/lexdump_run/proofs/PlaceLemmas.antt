@@ -30,6 +30,3 @@ place-written start len at from spaces one two blank size after_space end len_at
       get_or-take at spaces (at - 1) 0,
       get_or-replicate {A = ℕ} 22 (at - 1) 32 0,
     )
-
-pub same-place : (a b c d : ℕ) → a ≡ b → c ≡ d → place_text a c ≡ place_text b d
-same-place a b c d e f = ap (λ (n : ℕ). place_text n c) e ∙ ap (place_text b) f

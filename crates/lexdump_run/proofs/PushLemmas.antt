@@ -1,5 +1,5 @@
 -- Lemmas about bytes that are pushed, one after another.
-use Rattle.std.proofs.Common.{◌≡◌, ℕ, List, [], ◌++◌, refl, sym, ap, ◌∙◌, append_assoc, append-nil, subst, Option}
+use Rattle.std.proofs.Common.{◌≡◌, ℕ, List, [], ◌++◌, refl, sym, ◌∙◌, append_assoc, append-nil, Option}
 use Rattle.std.proofs.Common.{Result, Ok, Err, arith}
 use Rattle.std.proofs.lemmas.Grind.{common_steps}
 use Rattle.std.specs.{Prelude.{OnOk}, Result.{IsErrAnd}, Io.KnownBytes.{Appends}}
@@ -21,28 +21,27 @@ pub record Pushing {W : Type 0} (contents : W → Option (List ℕ)) (start now 
   pub whole : all ≡ done ++ rest
   pub pushed : Pushes contents start now done (Ok tt)
 
-module _ {W : Type 0} (contents : W → Option (List ℕ)) where
-  went_both : (old mid new : Option (List ℕ)) (xs middle last ys : List ℕ) → Went old mid xs middle
-      → Went mid new (middle ++ ys) last → Went old new (xs ++ ys) last
-  went_both old mid new xs middle last ys p q = record {
-    front = p.front ++ q.front;
-    whole = grind (arith, common_steps, append_assoc, p.whole, q.whole);
-    grew = appends-more old mid new p.front q.front p.grew q.grew;
-  }
+went_both : (old mid new : Option (List ℕ)) (xs middle last ys : List ℕ) → Went old mid xs middle
+    → Went mid new (middle ++ ys) last → Went old new (xs ++ ys) last
+went_both old mid new xs middle last ys p q = record {
+  front = p.front ++ q.front;
+  whole = grind (arith, common_steps, append_assoc, p.whole, q.whole);
+  grew = appends-more old mid new p.front q.front p.grew q.grew;
+}
 
+module _ {W : Type 0} {contents : W → Option (List ℕ)} where
   -- Two pushes in a row push both texts.
-  pub pushes_both : (old mid new : BlockWriter W) (one two bytes : List ℕ) (result : Result (Unit {0}) Fault)
+  pub pushes_both : {old mid new : BlockWriter W} {one two bytes : List ℕ} (result : Result (Unit {0}) Fault)
       → bytes ≡ one ++ two → Pushes contents old mid one (Ok tt) → Pushes contents mid new two result
       → Pushes contents old new bytes result
-  pushes_both old mid new one two bytes (Ok done) e p q = record {
+  pushes_both {old} {mid} {new} {one} {two} (Ok done) e p q = record {
     same_output = q.same_output ∙ p.same_output;
     failed = grind (arith, common_steps, p.failed, q.failed);
     only = tt;
-    ok = subst (λ (xs : List ℕ). Went (contents old.output.now.inner) (contents new.output.now.inner) xs (held new))
-        (append_assoc (held old) one two ∙ ap (λ xs. held old ++ xs) (sym e)) (went_both _ _ _ _ _ _ _ p.ok q.ok);
+    ok = rw (e, ← append_assoc (held old) one two) (went_both _ _ _ _ _ _ _ p.ok q.ok);
     err = tt;
   }
-  pushes_both old mid new one two bytes (Err fault) e p q = record {
+  pushes_both {old} {mid} {new} {one} {two} (Err fault) e p q = record {
     same_output = q.same_output ∙ p.same_output;
     failed = grind (arith, common_steps, p.failed, q.failed);
     only = q.only;
@@ -52,17 +51,16 @@ module _ {W : Type 0} (contents : W → Option (List ℕ)) where
   }
 
   -- A push that fails early is a failed push of all the bytes.
-  pub pushes_first : (old new : BlockWriter W) (one two bytes : List ℕ) (fault : Fault)
-      (result : Result (Unit {0}) Fault)
-      → bytes ≡ one ++ two → Pushes contents old new one (Err fault) → IsErrAnd result (λ y. y ≡ fault)
-      → Pushes contents old new bytes result
-  pushes_first old new one two bytes fault (Ok done) e p is = elim is [ ]
-  pushes_first old new one two bytes fault (Err _) e p is = record {
+  pub pushes_first : {old new : BlockWriter W} {one bytes : List ℕ} {fault : Fault} (two : List ℕ)
+      (result : Result (Unit {0}) Fault) → bytes ≡ one ++ two → Pushes contents old new one (Err fault)
+      → IsErrAnd result (λ y. y ≡ fault) → Pushes contents old new bytes result
+  pushes_first two (Ok done) e p is = elim is [ ]
+  pushes_first {old} {one = one} two (Err _) e p is = record {
     same_output = p.same_output;
     failed = p.failed;
     only = is ∙ p.only;
     ok = tt;
-    err = front_first _ _ (held old ++ one) two _ (append_assoc (held old) one two ∙ ap (λ xs. held old ++ xs) (sym e))
+    err = front_first _ _ (held old ++ one) two _ (cc (append_assoc (held old) one two))
         p.err;
   }
 
@@ -81,32 +79,33 @@ module _ {W : Type 0} (contents : W → Option (List ℕ)) where
   pub pushing_none : (start : BlockWriter W) (all rest : List ℕ) → rest ≡ all → Pushing contents start start all rest
   pushing_none start all rest e = record { done = []; whole = sym e; pushed = pushes_none start }
 
-  module _ (start mid new : BlockWriter W) (all to_come first rest : List ℕ)
-      (at : Pushing contents start mid all to_come) (e : to_come ≡ first ++ rest) where
-    parted : all ≡ (at.done ++ first) ++ rest
-    parted = at.whole ∙ (ap (λ xs. at.done ++ xs) e ∙ sym (append_assoc at.done first rest))
+  parted : {start mid : BlockWriter W} {all to_come : List ℕ} (first rest : List ℕ)
+      (at : Pushing contents start mid all to_come) → to_come ≡ first ++ rest → all ≡ (at.done ++ first) ++ rest
+  parted first rest at e = cc (append_assoc at.done first rest)
 
-    -- If the next bytes are pushed, the rest after them remains.
-    pub pushing_first : Pushes contents mid new first (Ok tt) → Pushing contents start new all rest
-    pushing_first p =
-        record {
-          done = at.done ++ first;
-          whole = parted;
-          pushed = pushes_both start mid new at.done first _ _ refl at.pushed p;
-        }
+  -- If the next bytes are pushed, the rest after them remains.
+  pub pushing_first : {start mid new : BlockWriter W} {all to_come first rest : List ℕ}
+      → Pushing contents start mid all to_come → to_come ≡ first ++ rest → Pushes contents mid new first (Ok tt)
+      → Pushing contents start new all rest
+  pushing_first {first = first} {rest} at e p =
+      record { done = at.done ++ first; whole = parted first rest at e; pushed = pushes_both _ refl at.pushed p }
 
-    -- If pushing the next bytes fails, the whole push fails.
-    pub pushing_stopped : (fault : Fault) (result : Result (Unit {0}) Fault) → Pushes contents mid new first (Err fault)
-        → IsErrAnd result (λ y. y ≡ fault) → Pushes contents start new all result
-    pushing_stopped fault result p is =
-        pushes_first start new (at.done ++ first) rest all fault result parted
-        (pushes_both start mid new at.done first _ _ refl at.pushed p) is
+  -- If pushing the next bytes fails, the whole push fails.
+  pub pushing_stopped : {start mid new : BlockWriter W} {all to_come first : List ℕ} {fault : Fault} (rest : List ℕ)
+      (result : Result (Unit {0}) Fault)
+      → Pushing contents start mid all to_come → to_come ≡ first ++ rest → Pushes contents mid new first (Err fault)
+      → IsErrAnd result (λ y. y ≡ fault) → Pushes contents start new all result
+  pushing_stopped {first = first} rest result at e p is =
+      pushes_first rest result (parted first rest at e) (pushes_both _ refl at.pushed p) is
 
   -- If nothing remains, all bytes were pushed.
   pub pushing_all : (start new : BlockWriter W) (all rest : List ℕ) → Pushing contents start new all rest → rest ≡ []
       → Pushes contents start new all (Ok tt)
   pushing_all start new all rest at e =
-      subst (λ (xs : List ℕ). Pushes contents start new xs (Ok tt))
-      (sym (at.whole ∙ (ap (λ xs. at.done ++ xs) e ∙ append-nil at.done))) at.pushed
+      rw (at.whole, e, append-nil at.done) at.pushed
 
-pub ruleset push_lemmas = (append-nil)
+pub ruleset pushes = (pushes_both, pushes_first, common_steps)
+
+pub ruleset pushing = (pushing_none, pushing_all, common_steps)
+
+pub ruleset push_lemmas = (append-nil, common_steps)

@@ -66,7 +66,7 @@ fn read_job_in<'a>(alloc: Global, words: &'a [String], edition: Edition) -> Resu
 }
 
 /// Reads the arguments after `edit`.
-#[tactic(auto, using(crate::proofs::JobLemmas::no_edits, crate::proofs::JobLemmas::asks_edits, crate::proofs::JobLemmas::job_lemmas, std::proofs::lemmas::Grind::common_steps))]
+#[tactic(auto, using(crate::proofs::JobLemmas::no_edits, crate::proofs::JobLemmas::asks_edits, crate::proofs::JobLemmas::job_lemmas))]
 fn read_edit_job<'a>(alloc: Global, words: &'a [String], edition: Edition) -> Result<Job<'a>, Fault>
     ensures job { IfOk result
         (λ job. edit_job edition (map string_bytes words.now) ≡ Some (command_of job)) }
@@ -83,7 +83,7 @@ fn read_edit_job<'a>(alloc: Global, words: &'a [String], edition: Edition) -> Re
 }
 
 /// Returns whether the arguments are one edit or more, of three arguments each.
-#[tactic(auto, using(crate::proofs::JobLemmas::job_lemmas, std::proofs::lemmas::Grind::common_steps))]
+#[tactic(auto, using(crate::proofs::JobLemmas::job_lemmas))]
 fn are_edits(words: &[String]) -> bool
     ensures { IsTrue result
         ↔ ((0 < length words.now) × IsSome (replacements_of (map string_bytes words.now))) }
@@ -96,7 +96,7 @@ fn are_edits(words: &[String]) -> bool
 }
 
 /// Returns the edits of the arguments.
-#[tactic(auto, using(crate::proofs::JobLemmas::read_more, crate::proofs::JobLemmas::job_lemmas, std::proofs::lemmas::Grind::common_steps))]
+#[tactic(auto, using(crate::proofs::JobLemmas::read_more, crate::proofs::JobLemmas::job_lemmas))]
 fn read_edits<'a>(alloc: Global, words: &'a [String]) -> Result<Vec<Edit<'a>>, AllocError>
     requires { IsSome (replacements_of (map string_bytes words.now)) }
     ensures { IfOk result
@@ -132,7 +132,7 @@ fn first_edit<'a>(words: &'a [String]) -> Option<(Edit<'a>, &'a [String])>
 const MOST_DIGITS: usize = 10;
 
 /// Reads an offset.
-#[tactic(auto, using(crate::proofs::JobLemmas::job_lemmas, std::proofs::lemmas::Grind::common_steps), unfolding(crate::specs::Job::place_of))]
+#[tactic(auto, using(crate::proofs::JobLemmas::job_lemmas), unfolding(crate::specs::Job::place_of))]
 fn read_place(word: &str) -> Option<usize>
     ensures { result ≡ place_of word.now }
 {

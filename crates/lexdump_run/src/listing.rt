@@ -52,7 +52,7 @@ pub fn write_listing<W: Write>(
 }
 
 /// Lists the tokens of a text of at most `u32::MAX` bytes in an edition.
-#[tactic(auto, using(crate::proofs::PushLemmas::pushing_none, crate::proofs::PushLemmas::pushing_all, crate::proofs::ListingLemmas::none_left, crate::proofs::ListingLemmas::buffer_fits, std::proofs::lemmas::Grind::common_steps))]
+#[tactic(auto, using(crate::proofs::PushLemmas::pushing, crate::proofs::ListingLemmas::none_left, crate::proofs::ListingLemmas::buffer_fits))]
 pub fn list_tokens<W: Write>(
     lines: &mut BlockWriter<'_, W>,
     text: &str,
@@ -77,7 +77,7 @@ pub fn list_tokens<W: Write>(
 }
 
 /// Adds the lines of tokens that start at offset `start`, in bytes.
-#[tactic(auto, using(crate::proofs::PushLemmas::pushing_none, crate::proofs::PushLemmas::pushing_all, std::proofs::lemmas::Grind::common_steps))]
+#[tactic(auto, using(crate::proofs::PushLemmas::pushing))]
 fn push_lines<W: Write>(
     lines: &mut BlockWriter<'_, W>,
     start: u32,
@@ -95,7 +95,7 @@ fn push_lines<W: Write>(
 }
 
 /// Prints the length of the shebang line of a text.
-#[tactic(auto, using(crate::proofs::PushLemmas::pushes_both, crate::proofs::PushLemmas::pushes_first, std::proofs::lemmas::Grind::common_steps))]
+#[tactic(auto, using(crate::proofs::PushLemmas::pushes))]
 pub fn tell_shebang<W: Write>(lines: &mut BlockWriter<'_, W>, text: &str) -> Result<(), Fault>
     requires { Fits text.now }
     ensures { Pushes W.contents lines.old lines.new (shebang_line (shebang text.now)) result }
@@ -140,7 +140,7 @@ fn stop_fault(stop: EditStop) -> Fault
 }
 
 /// Lists the tokens of a lexed text.
-#[tactic(auto, using(crate::proofs::PushLemmas::pushing_none, crate::proofs::PushLemmas::pushing_all, crate::proofs::ListingLemmas::listing_lemmas, std::proofs::lemmas::Grind::common_steps))]
+#[tactic(auto, using(crate::proofs::PushLemmas::pushing, crate::proofs::ListingLemmas::listing_lemmas))]
 pub fn list_pieces<W: Write, S: Stepper>(
     lines: &mut BlockWriter<'_, W>,
     lexed: &LexedText<S>,
@@ -183,7 +183,7 @@ fn push_place<W: Write>(lines: &mut BlockWriter<'_, W>, start: u32, len: u32) ->
 }
 
 /// Adds the fields of a kind.
-#[tactic(auto, using(crate::proofs::PushLemmas::pushes_both, crate::proofs::PushLemmas::pushes_first, std::proofs::lemmas::Grind::common_steps), unfolding(crate::specs::Listing::fields_text))]
+#[tactic(auto, using(crate::proofs::PushLemmas::pushes), unfolding(crate::specs::Listing::fields_text))]
 fn push_fields<W: Write>(lines: &mut BlockWriter<'_, W>, kind: TokenKind) -> Result<(), Fault>
     ensures { Pushes W.contents lines.old lines.new (fields_text kind) result }
 {
@@ -224,7 +224,7 @@ fn push_fields<W: Write>(lines: &mut BlockWriter<'_, W>, kind: TokenKind) -> Res
 }
 
 /// Adds the kind of a literal and its fields.
-#[tactic(auto, using(crate::proofs::PushLemmas::pushes_both, crate::proofs::PushLemmas::pushes_first, std::proofs::lemmas::Grind::common_steps))]
+#[tactic(auto, using(crate::proofs::PushLemmas::pushes))]
 fn push_literal<W: Write>(lines: &mut BlockWriter<'_, W>, kind: LiteralKind) -> Result<(), Fault>
     ensures { Pushes W.contents lines.old lines.new (literal_text kind) result }
 {
@@ -233,7 +233,7 @@ fn push_literal<W: Write>(lines: &mut BlockWriter<'_, W>, kind: LiteralKind) -> 
 }
 
 /// Adds the fields of the kind of a literal.
-#[tactic(auto, using(crate::proofs::PushLemmas::pushes_both, crate::proofs::PushLemmas::pushes_first, std::proofs::lemmas::Grind::common_steps), unfolding(crate::specs::Listing::literal_fields))]
+#[tactic(auto, using(crate::proofs::PushLemmas::pushes), unfolding(crate::specs::Listing::literal_fields))]
 fn push_literal_fields<W: Write>(
     lines: &mut BlockWriter<'_, W>,
     kind: LiteralKind,
@@ -269,7 +269,7 @@ fn push_literal_fields<W: Write>(
 }
 
 /// Adds a field: a space, its name, an equals sign and its value.
-#[tactic(auto, using(crate::proofs::PushLemmas::push_lemmas, std::proofs::lemmas::Grind::common_steps), unfolding(crate::specs::Listing::field))]
+#[tactic(auto, using(crate::proofs::PushLemmas::push_lemmas), unfolding(crate::specs::Listing::field))]
 fn push_field<W: Write>(
     lines: &mut BlockWriter<'_, W>,
     name: &str,

@@ -44,7 +44,7 @@ impl<'a, W: Write> BlockWriter<'a, W> {
     }
 
     /// Adds texts, one after another.
-    #[tactic(auto, using(crate::proofs::PushLemmas::pushing_none, crate::proofs::PushLemmas::pushing_all, std::proofs::lemmas::Grind::common_steps))]
+    #[tactic(auto, using(crate::proofs::PushLemmas::pushing))]
     pub fn push_all(&mut self, texts: &[&str]) -> Result<(), Fault>
         ensures { Pushes W.contents self.old self.new (flat_map (λ text. text.now) texts.now)
             result }
@@ -76,7 +76,7 @@ impl<'a, W: Write> BlockWriter<'a, W> {
 
     /// Writes the block, then adds the bytes. If they are longer than a block, they are written directly.
     #[inline(never)]
-    #[tactic(auto, using(crate::proofs::PushLemmas::pushes_first, crate::proofs::PushLemmas::pushes_both, std::proofs::lemmas::Grind::common_steps))]
+    #[tactic(auto, using(crate::proofs::PushLemmas::pushes))]
     fn push_past(&mut self, bytes: &[u8]) -> Result<(), Fault>
         ensures { Pushes W.contents self.old self.new bytes.now result }
     {

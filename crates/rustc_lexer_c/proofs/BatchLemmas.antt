@@ -1,5 +1,5 @@
 -- A batch, from the contract of `fill`.
-use Rattle.std.proofs.Common.{◌≡◌, ℕ, ◌+◌, ◌-◌, ◌≤◌, List, length, drop, sym, ap, subst, ◌∙◌, arith, length-drop}
+use Rattle.std.proofs.Common.{◌≡◌, ℕ, ◌+◌, ◌-◌, ◌≤◌, List, length, drop, refl, ap, ◌∙◌, arith, length-drop}
 use Rattle.std.proofs.Common.{IsCharBoundary}
 use Rattle.std.proofs.lemmas.{Grind.{common_steps}, Str.{IsCharBoundary-from_rest, IsUtf8-drop}}
 use Rattle.std.proofs.Math.Nat.{min-le_right}
@@ -36,16 +36,14 @@ module _ (edition : Edition) (text : List ℕ) (is : IsText text) (place : CPlac
   cut_is : IsText cut
   cut_is = record {
     utf8 = IsUtf8-drop text place.at is.utf8 boundary;
-    fits = let f = is.fits in
-        omega (arith, length-drop place.at text);
+    fits = omega (arith, is.fits, length-drop place.at text);
   }
 
   leaves : Leaves s t (length buffer) count
-  leaves = past_fill s t (length buffer) count (subst IsText (sym (ap (λ (x : State). x.rest) begun)) cut_is)
-      (ap (λ (x : State). x.pending) begun) filling.as_many past
+  leaves = past_fill s t (length buffer) count (rw begun cut_is) (rw begun refl) filling.as_many past
 
   here : IsFilled token_numbers (tokens_of mode cut) buffer filled count
-  here = subst (λ (x : State). IsFilled token_numbers (tokens_left x) buffer filled count) begun filling
+  here = rw begun at filling
 
   few : count ≤ length (tokens_of mode cut)
   few = omega (arith, here.as_many, min-le_right (length buffer) (length (tokens_of mode cut)))
@@ -57,21 +55,20 @@ module _ (edition : Edition) (text : List ℕ) (is : IsText text) (place : CPlac
   inside = (partitions cut mode cut_is).boundaries count few
 
   rest_is : t.rest ≡ drop end cut
-  rest_is = leaves.rest ∙ ap (λ (x : State). drop (bound (tokens_left x) count) x.rest) begun
+  rest_is = rw begun at leaves.rest
 
   pub left_within : length t.rest ≤ length text
-  left_within = omega (arith, ap (λ (xs : List ℕ). length xs) rest_is, length-drop end cut, length-drop place.at text)
+  left_within = omega (arith, ap length rest_is, length-drop end cut, length-drop place.at text)
 
   place_is : length text - length t.rest ≡ place.at + end
-  place_is = let long : length t.rest ≡ length (drop end cut) = ap length rest_is in let b = boundary.0 in
-      let i = inside.0 in omega (arith, long, b, i, length-drop end cut, length-drop place.at text)
+  place_is =
+      omega (arith, ap length rest_is, boundary.0, inside.0, length-drop end cut, length-drop place.at text)
 
   state_is : state_past count (state_at edition text place) ≡ t
-  state_is = ap (state_past count) (sym begun) ∙ sym past
+  state_is = cc
 
   same_edition : mode_edition t.mode ≡ edition
-  same_edition = leaves.edition
-      ∙ (ap (λ (x : State). mode_edition x.mode) begun ∙ mode_of-edition (allowed_of place.frontmatter_allowed) edition)
+  same_edition = (rw begun at leaves.edition) ∙ mode_of-edition (allowed_of place.frontmatter_allowed) edition
 
   pub batch_is : (place' : CPlace) (allowed : FrontmatterAllowed) → place'.at ≡ length text - length t.rest
       → t.mode ≡ mode_in allowed (mode_edition t.mode) → place'.frontmatter_allowed ≡ allowed_number allowed

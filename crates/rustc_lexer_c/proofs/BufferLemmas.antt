@@ -10,7 +10,7 @@ module _ {X : Type 0} (all left : List X) (count : ℕ) (x : X) (next : drop cou
   left_step = ap (drop 1) (sym next) ∙ drop-drop 1 count all
 
   pub few_step : count + 1 ≤ length all
-  few_step = let n = length-drop count all in let m = ap (λ (xs : List X). length xs) next in omega arith
+  few_step = omega (arith, length-drop count all, ap length next)
 
   -- After one more item, the buffer starts with one more item of the list.
   pub front_step : (buffer : List X) → count < length buffer → take count buffer ≡ take count all
@@ -25,13 +25,11 @@ back_step buffer old count y back = grind (arith, common_steps)
 -- At the end, the buffer has these items at the front, and the rest of it is unchanged.
 pub buffer_filled : {Y : Type 0} (buffer old front : List Y) (count : ℕ) → take count buffer ≡ front
     → drop count buffer ≡ drop count old → buffer ≡ front ++ drop count old
-buffer_filled buffer old front count is back = sym (take-append-drop count buffer)
-    ∙ (ap (λ l. l ++ drop count buffer) is ∙ ap (λ l. front ++ l) back)
+buffer_filled buffer old front count is back = cc (take-append-drop count buffer)
 
 -- If no item is left, all were written.
 pub all_taken : {X : Type 0} (all : List X) (count : ℕ) → drop count all ≡ [] → length all ≤ count
-all_taken {X} all count none = let n = length-drop count all in let m = ap (λ (xs : List X). length xs) none in
-    omega arith
+all_taken all count none = omega (arith, length-drop count all, ap length none)
 
 -- A count that equals one number and does not exceed another is the minimum of the two.
 pub count_first : (count a b : ℕ) → count ≡ a → count ≤ b → count ≡ min a b

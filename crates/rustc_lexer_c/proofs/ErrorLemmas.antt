@@ -1,11 +1,8 @@
 -- Each token has the class and the error of the kind that `kind_of` returns for its numbers.
-use Rattle.std.proofs.Common.{◌≡◌, true, false, List, ℕ, None, Some, ap, arith, refl, sym, ◌∙◌}
+use Rattle.std.proofs.Common.{◌≡◌, List, ℕ, arith}
 use Rattle.std.proofs.lemmas.Grind.{common_steps}
 use Rattle.rustc_lexer.specs.declared.{edition.{Edition.{Edition, TheVariants.{E2024}}}, token.Token.{Token}}
-use Rattle.rustc_lexer.specs.declared.token.Base.TheVariants.{Binary, Octal, Decimal, Hexadecimal}
-use Rattle.rustc_lexer.specs.declared.token.LiteralKind.{LiteralKind}
-use Rattle.rustc_lexer.specs.declared.token.LiteralKind.TheVariants.{Int, Float, Char, Byte, Str, ByteStr, CStr, RawStr}
-use Rattle.rustc_lexer.specs.declared.token.LiteralKind.TheVariants.{RawByteStr, RawCStr}
+use Rattle.rustc_lexer.specs.declared.token.LiteralKind.{LiteralKind, TheVariants.{Int, Float}}
 use Rattle.rustc_lexer.specs.declared.token.TokenKind.{TokenKind, TheVariants.{Literal}}
 use Rattle.rustc_lexer.specs.Kinds.{kind_entry, literal_entry}
 use Rattle.rustc_lexer_c.specs.{declared.token.CToken.{CToken}, Errors.{kind_of}}
@@ -21,38 +18,9 @@ AreKept kind len text edition =
 literal_kept : (kind : LiteralKind) (suffix_start len : ℕ) (text : List ℕ) (edition : Edition)
     → AreKept (Literal kind suffix_start) len text edition
 unfolding kind_entry literal_entry token_numbers first_of second_of third_of literal_second literal_third
-literal_kept (Int Binary true) s len text edition = (refl, refl)
-literal_kept (Int Octal true) s len text edition = (refl, refl)
-literal_kept (Int Decimal true) s len text edition = (refl, refl)
-literal_kept (Int Hexadecimal true) s len text edition = (refl, refl)
-literal_kept (Int Binary false) s len text edition = (refl, refl)
-literal_kept (Int Octal false) s len text edition = (refl, refl)
-literal_kept (Int Decimal false) s len text edition = (refl, refl)
-literal_kept (Int Hexadecimal false) s len text edition = (refl, refl)
-literal_kept (Float Binary true) s len text edition = (refl, refl)
-literal_kept (Float Octal true) s len text edition = (refl, refl)
-literal_kept (Float Decimal true) s len text edition = (refl, refl)
-literal_kept (Float Hexadecimal true) s len text edition = (refl, refl)
-literal_kept (Float Binary false) s len text edition = (refl, refl)
-literal_kept (Float Octal false) s len text edition = (refl, refl)
-literal_kept (Float Decimal false) s len text edition = (refl, refl)
-literal_kept (Float Hexadecimal false) s len text edition = (refl, refl)
-literal_kept (Char true) s len text edition = (refl, refl)
-literal_kept (Char false) s len text edition = (refl, refl)
-literal_kept (Byte true) s len text edition = (refl, refl)
-literal_kept (Byte false) s len text edition = (refl, refl)
-literal_kept (Str true) s len text edition = (refl, refl)
-literal_kept (Str false) s len text edition = (refl, refl)
-literal_kept (ByteStr true) s len text edition = (refl, refl)
-literal_kept (ByteStr false) s len text edition = (refl, refl)
-literal_kept (CStr true) s len text edition = (refl, refl)
-literal_kept (CStr false) s len text edition = (refl, refl)
-literal_kept (RawStr None) s len text edition = (refl, refl)
-literal_kept (RawStr (Some n)) s len text edition = (refl, refl)
-literal_kept (RawByteStr None) s len text edition = (refl, refl)
-literal_kept (RawByteStr (Some n)) s len text edition = (refl, refl)
-literal_kept (RawCStr None) s len text edition = (refl, refl)
-literal_kept (RawCStr (Some n)) s len text edition = (refl, refl)
+literal_kept (Int base empty_int) suffix_start len text edition = grind (arith, common_steps)
+literal_kept (Float base empty_exponent) suffix_start len text edition = grind (arith, common_steps)
+literal_kept kind suffix_start len text edition = grind (arith, common_steps)
 
 are_kept : (kind : TokenKind) (len : ℕ) (text : List ℕ) (edition : Edition) → AreKept kind len text edition
 unfolding kind_entry token_numbers first_of second_of third_of
@@ -61,10 +29,8 @@ are_kept kind len text edition = grind (arith, common_steps, literal_kept)
 
 pub same_class : (it : Token) (token : CToken) (text : List ℕ) (edition : Edition) → token_numbers it ≡ token
     → class_of (kind_of token) text edition ≡ class_of it.kind text edition
-same_class it token text edition same = ap (λ (t : CToken). class_of (kind_of t) text edition) (sym same)
-    ∙ (are_kept it.kind it.len text edition).0
+same_class it token text edition same = rw (← same) (are_kept it.kind it.len text edition).0
 
 pub same_error : (it : Token) (token : CToken) (text : List ℕ) → token_numbers it ≡ token
     → token_error (kind_of token) text ≡ token_error it.kind text
-same_error it token text same = ap (λ (t : CToken). token_error (kind_of t) text) (sym same)
-    ∙ (are_kept it.kind it.len text E2024).1
+same_error it token text same = rw (← same) (are_kept it.kind it.len text E2024).1

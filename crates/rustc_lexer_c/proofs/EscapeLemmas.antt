@@ -1,5 +1,5 @@
 -- Writing the units of a literal, one at a time.
-use Rattle.std.proofs.Common.{◌≡◌, ℕ, false, true≢false, ◌+◌, ◌≤◌, List, [], ◌∷◌, length, take, drop, min, max, sym, ap}
+use Rattle.std.proofs.Common.{◌≡◌, ℕ, false, ◌+◌, ◌≤◌, List, [], ◌∷◌, length, take, drop, min, max, sym, ap}
 use Rattle.std.proofs.Common.{◌∙◌, arith, Option, Some, None}
 use Rattle.std.proofs.lemmas.{Bool.{cond_both}, Grind.{common_steps}, List.{drop-drop, length-map, length-set}}
 use Rattle.std.proofs.Math.Nat.{le-max_left, le-max_right}

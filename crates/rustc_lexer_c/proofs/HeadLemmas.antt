@@ -27,16 +27,8 @@ back_with : (n end space : ℕ) (front : Option Token) → (front ≡ None → s
     record { tokens_start = n; space_len = space; frontmatter = front; body = end }
 unfolding token_numbers first_of second_of
 back_with n end space None bare is = rw (bare refl) refl
-back_with n end zero (Some t) bare is =
-    ap (λ (f : Token). let h : Head = record { tokens_start = n; space_len = 0; frontmatter = Some f; body = end } in
-    h) (kind-back t.kind t.len (is t refl))
-back_with n end (suc m) (Some t) bare is =
-    ap (λ (f : Token). let h : Head = record {
-      tokens_start = n;
-      space_len = suc m;
-      frontmatter = Some f;
-      body = end;
-    } in h) (kind-back t.kind t.len (is t refl))
+back_with n end zero (Some t) bare is = rw (kind-back t.kind t.len (is t refl)) refl
+back_with n end (suc m) (Some t) bare is = rw (kind-back t.kind t.len (is t refl)) refl
 
 module _ (text : List ℕ) (is : IsText text) where
   -- A head of the text has the numbers of the text.
@@ -66,7 +58,7 @@ module _ (text : List ℕ) (is : IsText text) (edit : CEdit) (c : CHead) (body :
   of_old : (before insert : List ℕ) → IsEditOf before (change_of edit) insert text → c ≡ head_numbers before
       → IsHeadOf before (head_of c)
   of_old before insert e same =
-      subst (λ (n : CHead). IsHeadOf before (head_of n)) (sym same) (head_back before e.is_text)
+      rw same (head_back before e.is_text)
 
   refused_with : ((before insert : List ℕ) → IsEditOf before (change_of edit) insert text → c ≡ head_numbers before → ⊥)
       → FindsHead text edit c c body body kept kept 6
@@ -80,7 +72,7 @@ module _ (text : List ℕ) (is : IsText text) (edit : CEdit) (c : CHead) (body :
     pub refused_body : ¬ (IsChange (drop now.body text) change) → FindsHead text edit c c body body kept kept 6
     refused_body not = refused_with (λ before insert e same.
         let b = all first before insert text (edition_grammar newest) e (of_old before insert e same) is_now in
-        not (subst (λ (n : ℕ). IsChange (drop n text) change) (sym is_now.end_is) (made_change b.made_of.edit_of)))
+        not (rw is_now.end_is (made_change b.made_of.edit_of)))
 
     pub found : IsChange text (change_of edit) → IsChange (drop now.body text) change
         → FindsHead text edit c (numbers_of_head now) body
@@ -89,7 +81,7 @@ module _ (text : List ℕ) (is : IsText text) (edit : CEdit) (c : CHead) (body :
     found fine may = record {
       status_is = grind (arith, common_steps);
       head = λ _. numbers_are text is now is_now;
-      may_relex = λ _. subst (λ (n : ℕ). IsChange (drop n text) change) is_now.end_is may;
+      may_relex = λ _. rw is_now.end_is at may;
       change = λ _ grammar before insert law e same.
           (keeps, refl, all grammar before insert text law e (of_old before insert e same) is_now);
       refused = λ not. absurd (not refl);

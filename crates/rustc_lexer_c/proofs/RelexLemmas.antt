@@ -1,12 +1,12 @@
 -- The state of relexing as numbers, and back.
 use Rattle.std.specs.Prelude.{IfSome}
-use Rattle.std.proofs.Common.{◌≡◌, ◌≢◌, ℕ, ◌+◌, ◌-◌, ◌<◌, ◌≤◌, true, List, ◌++◌, length, map, take, drop, refl, sym, ap}
-use Rattle.std.proofs.Common.{◌∙◌, subst, arith, take-add, Option, Some, None}
+use Rattle.std.proofs.Common.{◌≡◌, ◌≢◌, ℕ, ◌+◌, ◌-◌, ◌<◌, ◌≤◌, true, List, ◌++◌, length, map, take, drop, refl, ap}
+use Rattle.std.proofs.Common.{◌∙◌, arith, take-add, Option, Some, None}
 use Rattle.std.proofs.lemmas.{Grind.{common_steps}, List.{length-map, length-take-le, drop_at, take-map, drop-map}}
-use Rattle.rustc_lexer.specs.declared.{edition.Edition.{Edition}, relex.relexing.Relexed.{Relexed}}
+use Rattle.rustc_lexer.specs.declared.{edition.Edition.{Edition}}
 use Rattle.rustc_lexer.specs.declared.{relex.relexing.Relexing.{Relexing}, token.Token.{Token}}
 use Rattle.rustc_lexer.specs.{Tokens.{tokens_by, tokens_of}, Answers.{first_in}, LanguageText.{part}}
-use Rattle.rustc_lexer.specs.{Edits.{IsRelexed, fragment_by}, Relexing.{known}}
+use Rattle.rustc_lexer.specs.{Edits.{fragment_by}, Relexing.{known}}
 use Rattle.rustc_lexer.specs.Relexing.{IsChange, IsMadeOf, IsUnderWay, IsWhole, CanContinue, TakesSteps, is_done}
 use Rattle.rustc_lexer.specs.{Classes.{IsText}, LanguageCalls.{edition_of_year}}
 use Rattle.rustc_lexer.specs.{Locality.{IsGrammar}, laws.Edition.{edition_grammar}}
@@ -62,90 +62,72 @@ module _ (edition : Edition) (text : List ℕ) (old : List CToken) (change : CEd
   over_is before insert is stands =
       let law = edition_grammar edition in grind (arith, common_steps, over_met law is stands)
 
-  pub batch_is : count ≤ length buffer → TakesSteps first text (change_of change).new_end begin count at
-      → filled ≡ map token_numbers (take count (tokens_by first (drop begin.at text))) ++ drop count buffer
-      → CanContinue text (length old) at → (count < length buffer → is_done text at ≡ true) → begin.lexed ≡ lexed_before c
-      → (c.stage ≢ 0 → begin.front ≡ front_of c)
-      → ((first : List ℕ → Token) (before insert : List ℕ) → IsGrammar first
+  module _ (within : count ≤ length buffer)
+      (steps : TakesSteps first text (change_of change).new_end begin count at)
+      (tokens : filled ≡ map token_numbers (take count (tokens_by first (drop begin.at text))) ++ drop count buffer)
+      (may : CanContinue text (length old) at) (over_of : count < length buffer → is_done text at ≡ true)
+      (before_lexed : begin.lexed ≡ lexed_before c) (begun_front : c.stage ≢ 0 → begin.front ≡ front_of c)
+      (begun : (first : List ℕ → Token) (before insert : List ℕ) → IsGrammar first
       → IsMadeOf first before lens (change_of change) insert text
       → IsPassed first before (change_of change) text (length old) c
       → IsUnderWay first before (change_of change) text begin)
-      → ((before insert : List ℕ) → IsMadeOf first before lens (change_of change) insert text
+      (stands : (before insert : List ℕ) → IsMadeOf first before lens (change_of change) insert text
       → IsUnderWay first before (change_of change) text begin → IsUnderWay first before (change_of change) text at
-      × (tokens_by first (drop begin.at text) ≡ drop (known begin) (tokens_by first text)))
-      → IsRelexBatch edition text old change c buffer (numbers_of text (length old) at) filled count
-  batch_is within steps tokens may over_of before_lexed begun_front begun stands = record {
-    within = within;
-    rest = grind (arith, common_steps, length-map, length-take-le, drop_at, steps.inside);
-    lexed = steps.lexed ∙ ap (λ n. n + count) before_lexed;
-    goes_on = λ not. grind (arith, common_steps);
-    front = λ later. steps.front ∙ begun_front later;
-    may_relex = λ _. grind (arith, common_steps);
-    relexed = λ before insert is passed.
-        let law = edition_grammar edition in
-        let so = stands before insert is (begun first before insert law is passed) in
-        let found = relexed_is law is.edit_of in
-        let counted = (counts_of (fragment_by first) is.edit_of found.0).1 found.1 in
-        let met = counts_met law is so.0 in
-        let lexed = steps.lexed in
-        let over = over_is before insert is so.0 in
-        let same = relex_back text (length old) at may.number over in
-        let number = ap (λ b. b.index) steps.front in
-        let at_begin : known begin ≡ at.front.index + lexed_before c = omega arith in
-        let many : length lens ≡ length old = length-map old (λ (t : CToken). t.len) in
-        let all : length (tokens_by first before) ≡ length old =
-        sym (length-map (tokens_by first before) (λ (t : Token). t.len))
-        ∙ (ap (λ (ns : List ℕ). length ns) (sym is.lengths_are) ∙ many) in
-        let left : tokens_by first (drop begin.at text) ≡ drop (at.front.index + lexed_before c)
-        (tokens_of (part edition) text) = so.1 ∙ ap (λ n. drop n (tokens_of (part edition) text)) at_begin in
-        let filled_is = tokens ∙ ap (λ (ts : List Token). map token_numbers (take count ts) ++ drop count buffer)
-        left in
-        let back : length old - (length old - at.back.index) ≡ at.back.index = (let few = may.number in omega arith) in
-        record {
-          passed = record {
-            near = λ e. grind (arith, common_steps);
-            under_way = λ _. subst (IsUnderWay first before (change_of change) text) (sym same) so.0;
+      × (tokens_by first (drop begin.at text) ≡ drop (known begin) (tokens_by first text))) where
+    batch_is : IsRelexBatch edition text old change c buffer (numbers_of text (length old) at) filled count
+    batch_is = record {
+      within = within;
+      rest = grind (arith, common_steps, length-map, length-take-le, drop_at, steps.inside);
+      lexed = rw before_lexed at steps.lexed;
+      goes_on = λ not. grind (arith, common_steps);
+      front = λ later. steps.front ∙ begun_front later;
+      may_relex = λ _. grind (arith, common_steps);
+      relexed = λ before insert is passed.
+          let law = edition_grammar edition in
+          let so = stands before insert is (begun first before insert law is passed) in
+          let found = relexed_is law is.edit_of in
+          let counted = (counts_of (fragment_by first) is.edit_of found.0).1 found.1 in
+          let met = counts_met law is so.0 in
+          let lexed = steps.lexed in
+          let over = over_is before insert is so.0 in
+          let same = relex_back text (length old) at may.number over in
+          let at_begin : known begin ≡ at.front.index + lexed_before c = omega (arith, ap (λ b. b.index) steps.front) in
+          let many : length lens ≡ length old = length-map old (λ (t : CToken). t.len) in
+          let all : length (tokens_by first before) ≡ length old =
+          cc (length-map (tokens_by first before) (λ (t : Token). t.len), is.lengths_are) in
+          let left : tokens_by first (drop begin.at text) ≡ drop (at.front.index + lexed_before c)
+          (tokens_of (part edition) text) = so.1 ∙ ap (λ n. drop n (tokens_of (part edition) text)) at_begin in
+          let filled_is = rw left at tokens in
+          let back : length old - (length old - at.back.index) ≡ at.back.index = omega (arith, may.number) in
+          record {
+            passed = record {
+              near = λ e. grind (arith, common_steps);
+              under_way = λ _. rw same so.0;
+            };
+            tokens = filled_is;
+            more = written_more (tokens_of (part edition) text) at.front.index (lexed_before c) count at.lexed buffer
+                filled (omega arith) so.0.inside filled_is;
+            few = (found.0, counted, few_lexed law is so.0 found.0 counted);
+            counts = λ e. rw all at (met (grind (arith, common_steps))).0;
+            list = λ e are. list_whole (tokens_by first before) (tokens_by first text) at
+                (length old - (length old - at.back.index)) old back are (met (grind (arith, common_steps))).1;
           };
-          tokens = filled_is;
-          more = written_more (tokens_of (part edition) text) at.front.index (lexed_before c) count at.lexed buffer
-              filled (omega arith) so.0.inside filled_is;
-          few = (found.0, counted, few_lexed law is so.0 found.0 counted);
-          counts = λ e. subst
-              (λ (n : ℕ). let r : Relexed = record
-              { kept_front = at.front.index; lexed = at.lexed; kept_back = n - at.back.index } in
-              IsRelexed (fragment_by first) before change.start change.old_end insert r) all
-              (met (grind (arith, common_steps))).0;
-          list = λ e are. list_whole (tokens_by first before) (tokens_by first text) at
-              (length old - (length old - at.back.index)) old back are (met (grind (arith, common_steps))).1;
-        };
-  }
+    }
 
-  -- A call that succeeds meets its contract.
-  pub relexed : IsText text → (year : ℕ) → edition_of_year year ≡ Some edition
-      → ¬ (¬ (IsChange text (change_of change) × MayRelex text (length old) c))
-      → count ≤ length buffer → TakesSteps first text (change_of change).new_end begin count at
-      → filled ≡ map token_numbers (take count (tokens_by first (drop begin.at text))) ++ drop count buffer
-      → CanContinue text (length old) at → (count < length buffer → is_done text at ≡ true) → begin.lexed ≡ lexed_before c
-      → (c.stage ≢ 0 → begin.front ≡ front_of c)
-      → ((first : List ℕ → Token) (before insert : List ℕ) → IsGrammar first
-      → IsMadeOf first before lens (change_of change) insert text
-      → IsPassed first before (change_of change) text (length old) c
-      → IsUnderWay first before (change_of change) text begin)
-      → ((before insert : List ℕ) → IsMadeOf first before lens (change_of change) insert text
-      → IsUnderWay first before (change_of change) text begin → IsUnderWay first before (change_of change) text at
-      × (tokens_by first (drop begin.at text) ≡ drop (known begin) (tokens_by first text)))
-      → Relexes text old change year c (numbers_of text (length old) at) buffer filled count 0
-  relexed is year year_is asked within steps tokens may over_of before_lexed begun_front begun stands = record {
-    status_is = record {
-      ok = λ _ _ _ _ _. refl;
-      not_utf8 = λ _ not. absurd (not is.utf8);
-      too_long = λ long. absurd (omega (arith, long, is.fits));
-      bad_edition = λ _ none. grind (arith, common_steps);
-      bad_edit = λ _ _ _ not. absurd (asked not);
-    };
-    batch = λ _ other other_is.
-        let same : edition ≡ other = cc in
-        subst (λ e. IsRelexBatch e text old change c buffer (numbers_of text (length old) at) filled count) same
-        (batch_is within steps tokens may over_of before_lexed begun_front begun stands);
-    refused = λ not. absurd (not refl);
-  }
+    -- A call that succeeds meets its contract.
+    pub relexed : IsText text → (year : ℕ) → edition_of_year year ≡ Some edition
+        → ¬ (¬ (IsChange text (change_of change) × MayRelex text (length old) c))
+        → Relexes text old change year c (numbers_of text (length old) at) buffer filled count 0
+    relexed is year year_is asked = record {
+      status_is = record {
+        ok = λ _ _ _ _ _. refl;
+        not_utf8 = λ _ not. absurd (not is.utf8);
+        too_long = λ long. absurd (omega (arith, long, is.fits));
+        bad_edition = λ _ none. grind (arith, common_steps);
+        bad_edit = λ _ _ _ not. absurd (asked not);
+      };
+      batch = λ _ other other_is.
+          let same : edition ≡ other = cc in
+          rw (← same) batch_is;
+      refused = λ not. absurd (not refl);
+    }

@@ -1,5 +1,5 @@
 -- The contents of a list after the items between its front and its back were replaced.
-use Rattle.std.proofs.Common.{◌≡◌, ℕ, ◌+◌, ◌-◌, ◌≤◌, List, ◌++◌, length, take, drop, sym, ap, ◌∙◌, arith, length-drop}
+use Rattle.std.proofs.Common.{◌≡◌, ℕ, ◌+◌, ◌-◌, ◌≤◌, List, ◌++◌, length, take, drop, ap, ◌∙◌, arith, length-drop}
 use Rattle.std.proofs.lemmas.List.{drop-take, length-take-le, take-append-le, take-take, Edits.{take-paste}}
 use Rattle.std.proofs.Math.Seq.{drop-append_seam, paste, take-append-add}
 
@@ -29,17 +29,19 @@ module _ {X : Type 0} (xs ys : List X) (front back count : ℕ) (apart : front +
   end_fits = length-take-le end xs (omega arith)
 
   front_of : take front moved ≡ take front xs
-  front_of = sym (take-take front (end + back) moved (omega arith))
-      ∙ (ap (λ l. take front l) moved_is
-      ∙ (take-append-le front (take end xs) last (omega (arith, end_fits)) ∙ take-take front end xs (omega arith)))
+  front_of =
+      cc (
+        take-take front (end + back) moved (omega arith),
+        moved_is,
+        take-append-le front (take end xs) last (omega (arith, end_fits)),
+        take-take front end xs (omega arith),
+      )
 
   back_of : take back (drop end moved) ≡ last
-  back_of = sym (drop-take end back moved)
-      ∙ (ap (λ l. drop end l) moved_is
-      ∙ (ap (λ n. drop n (take end xs ++ last)) (sym end_fits) ∙ drop-append_seam (take end xs) last))
+  back_of = cc (drop-take end back moved, moved_is, end_fits, drop-append_seam (take end xs) last)
 
   front_fits : length (take front moved) ≡ front
-  front_fits = ap (λ (l : List X). length l) front_of ∙ length-take-le front xs (omega arith)
+  front_fits = rw front_of (length-take-le front xs (omega arith))
 
   pub put_between : (now filled : List X) → now ≡ paste xs end (drop (count - back) xs) (count - (count - back))
       → filled ≡ take front now ++ (ys ++ drop end now)
@@ -49,10 +51,11 @@ module _ {X : Type 0} (xs ys : List X) (front back count : ℕ) (apart : front +
       let same : now ≡ moved = copied ∙ ap (λ n. paste xs end (drop (count - back) xs) n) long in
       let rest : List X = ys ++ drop end moved in
       let sum : end + back ≡ length (take front moved) + (length ys + back) = omega (arith, front_fits) in
-      ap (λ l. take (end + back) l) (put ∙ ap (λ l. take front l ++ (ys ++ drop end l)) same)
-      ∙ (ap (λ n. take n (take front moved ++ rest)) sum
-      ∙ (take-append-add (take front moved) rest (length ys + back)
-      ∙ (ap (λ l. take front moved ++ l)
-      (take-append-add ys (drop end moved) back ∙ ap (λ l. ys ++ l) (back_of ∙ sym last_of))
-      ∙ ap (λ l. l ++ (ys ++ drop (count - back) (take count xs)))
-      (front_of ∙ sym (take-take front count xs (omega arith))))))
+      cc (
+        take-append-add (take front moved) rest (length ys + back),
+        take-append-add ys (drop end moved) back,
+        back_of,
+        last_of,
+        front_of,
+        take-take front count xs (omega arith),
+      )

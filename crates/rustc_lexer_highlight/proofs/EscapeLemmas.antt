@@ -1,6 +1,6 @@
 -- Escaped text: decoding it returns the text, it contains no tag, and how it is written.
 use Rattle.std.proofs.Common.{◌≡◌, ℕ, zero, suc, ◌+◌, ◌<◌, ◌≤◌, true, false, List, [], ◌∷◌, ◌++◌, length, take, drop}
-use Rattle.std.proofs.Common.{drop-cons, get_or, refl, sym, ap, subst, ◌∙◌, arith, append_assoc, Some, None}
+use Rattle.std.proofs.Common.{drop-cons, get_or, refl, ap, ◌∙◌, arith, append_assoc, Some, None}
 use Rattle.std.specs.Str.{IsUtf8}
 use Rattle.std.proofs.lemmas.Str.{lead_after_ascii}
 use Rattle.std.specs.Fmt.{WritesInCalls}
@@ -15,7 +15,7 @@ unescaped_byte b rest = grind (arith, common_steps, eqb-true)
 
 pub unescaped_escaped : (text : List ℕ) → unescaped_past 0 (escaped text) ≡ text
 unescaped_escaped [] = refl
-unescaped_escaped (b ∷ bs) = unescaped_byte b (escaped bs) ∙ ap (λ xs. b ∷ xs) (unescaped_escaped bs)
+unescaped_escaped (b ∷ bs) = cc (unescaped_byte b (escaped bs), unescaped_escaped bs)
 
 untagged_byte : (b : ℕ) (rest : List ℕ) → untagged_from false (escaped_byte b ++ rest) ≡
     escaped_byte b ++ untagged_from false rest
@@ -43,7 +43,7 @@ special_small b set = grind (arith, common_steps, eqb-true)
 pub may_cut_past : (bs : List ℕ) (n : ℕ) → IsUtf8 bs → IsFirstByte is_special bs (Some n) → (n + 1 ≤ length bs)
     × (n + 1 < length bs → 128 ≤ get_or bs (n + 1) 0 → 192 ≤ get_or bs (n + 1) 0)
 may_cut_past bs n utf8 found =
-    (let i = found.0.high in omega arith, λ low wide. lead_after_ascii bs n utf8 (special_small _ found.1) low wide)
+    (omega (arith, found.0.high), λ low wide. lead_after_ascii bs n utf8 (special_small _ found.1) low wide)
 
 module _ {W : Type 0} (took : W → List ℕ → W → Type 0) where
   -- Writing the text before the first special byte, its entity, and then the escaped rest writes the escaped text.
@@ -55,11 +55,10 @@ module _ {W : Type 0} (took : W → List ℕ → W → Type 0) where
       let high = found.0.high in
       let one_more : n + 1 ≡ suc n = omega arith in
       let cut : drop n bs ≡ get_or bs n 0 ∷ rest =
-      drop-cons bs n 0 high ∙ ap (λ xs. get_or bs n 0 ∷ xs) (sym (past ∙ ap (λ (k : ℕ). drop k bs) one_more)) in
+      cc (drop-cons bs n 0 high) in
       let plain = front_plain bs n (omega arith) (λ k less set. found.0.before k (omega arith) less set) in
       let whole : escaped bs ≡ front ++ (name ++ escaped rest) = plain ∙ rw (own, cut, found.1, is) refl in
-      subst (λ (xs : List ℕ). WritesInCalls took w0 xs w) (sym whole)
-      (writes_both took w0 w1 w _ _ (one_call took w0 w1 front a)
+      rw whole (writes_both took w0 w1 w _ _ (one_call took w0 w1 front a)
       (writes_both took w1 w2 w _ _ (one_call took w1 w2 name b) more))
 
   -- A text without special bytes is unchanged.

@@ -1,21 +1,19 @@
 -- The errors of a literal in a file.
-use Rattle.std.proofs.Common.{◌≡◌, ℕ, zero, suc, ◌==◌, Bool, true, false, true≢false, List, [], ◌∷◌, ◌++◌, append-nil}
-use Rattle.std.proofs.Common.{length, map, refl, sym, ap, ◌∙◌, arith, Option, Some, None}
+use Rattle.std.proofs.Common.{◌≡◌, ℕ, zero, suc, ◌==◌, true, false, List, [], ◌∷◌, append-nil, length, map, refl}
+use Rattle.std.proofs.{Common.{ap, ◌∙◌, arith, Option}, lemmas.{Bool.Decides.{nat_tests}, Str.{chars-nil}}}
+use Rattle.std.proofs.lemmas.Grind.{common_steps}
 use Rattle.std.specs.{List.{position_or_len}, Option.{option_map, option_to_list}, Str.{chars, IsUtf8}}
 use Rattle.std.specs.declared.ops.Range.{Range}
-use Rattle.std.proofs.lemmas.{Bool.Decides.{nat_tests}, Str.{chars-nil}, Grind.{common_steps}}
 use Rattle.rustc_literal_escaper.proofs.AnswerLemmas.{errors_of-read}
-use Rattle.rustc_literal_escaper.specs.{Answers.{errors_of, items_of}, Grammar.{Error, Item}}
-use Rattle.rustc_literal_escaper.specs.{Meaning.{error_of, errors_in, is_raw, is_single, put}, laws.Elements.{nothing}}
-use Rattle.rustc_literal_escaper.specs.model.Elements as reading
-use Rattle.rustc_literal_escaper.specs.model.Elements.{front_by, items_from}
-use Rattle.rustc_literal_escaper.specs.model.Single.{alone_error, read_errors, single, single_error}
-use Rattle.rustc_literal_escaper.specs.declared.{error.EscapeError.{EscapeError}, mode.Mode.{Mode}}
-use Rattle.rustc_literal_escaper.specs.declared.mode.Mode.TheVariants.{Str}
+use Rattle.rustc_literal_escaper.specs.{Answers.{errors_of, items_of}, Grammar.{Error, Item}, Meaning.{error_of}}
+use Rattle.rustc_literal_escaper.specs.{Meaning.{errors_in, is_raw, is_single, put}, laws.Elements.{nothing}}
+use Rattle.rustc_literal_escaper.specs.model.{Elements.{front_by, items_from}, Single.{alone_error, read_errors}}
+use Rattle.rustc_literal_escaper.specs.{model.Single.{single, single_error}, declared.error.EscapeError.{EscapeError}}
+use Rattle.rustc_literal_escaper.specs.declared.mode.Mode.{Mode, TheVariants.{Str}}
 use Rattle.rustc_lexer_highlight.specs.LineEnds.{escape_errors_in_file, file_items, moved, place, unix}
-use Rattle.rustc_lexer_highlight.specs.Literal.{first_offset}
-use Rattle.rustc_lexer_highlight.specs.model.LineEnds.{offset_of, single_left}
+use Rattle.rustc_lexer_highlight.specs.{Literal.{first_offset}, model.LineEnds.{offset_of, single_left}}
 use Rattle.rustc_lexer_highlight.proofs.LineEndLemmas.{chars-unix, utf8-unix}
+use Rattle.rustc_literal_escaper.specs.model.Elements as reading
 
 abbrev move : List ℕ → Error → Error
 move text e = (moved text e.0, e.1)
@@ -27,8 +25,8 @@ put-moved text o range es = grind (arith, common_steps)
 errors-moved : (mode : Mode) (text : List ℕ) (items : List Item)
     → errors_in mode (map (λ (i : Item). (moved text i.0, i.1)) items) ≡ map (move text) (errors_in mode items)
 errors-moved mode text [] = refl
-errors-moved mode text (i ∷ items) = ap (put (moved text i.0) (error_of mode i.1)) (errors-moved mode text items)
-    ∙ put-moved text (error_of mode i.1) i.0 (errors_in mode items)
+errors-moved mode text (i ∷ items) =
+    cc (errors-moved mode text items, put-moved text (error_of mode i.1) i.0 (errors_in mode items))
 
 errors-are : (mode : Mode) (text : List ℕ) → is_single mode ≡ false
     → errors_of mode text ≡ errors_in mode (items_of (is_raw mode) text)
@@ -36,8 +34,8 @@ errors-are mode text w2 = grind (arith, common_steps)
 
 pub string_errors : (mode : Mode) (text : List ℕ) → is_single mode ≡ false
     → errors_in mode (file_items (is_raw mode) text) ≡ escape_errors_in_file mode text
-string_errors mode text double = errors-moved mode text (items_of (is_raw mode) (unix text))
-    ∙ ap (map (move text)) (sym (errors-are mode (unix text) double))
+string_errors mode text double =
+    cc (errors-moved mode text (items_of (is_raw mode) (unix text)), errors-are mode (unix text) double)
 
 -- A text without a carriage return is unchanged.
 same-unix : (s : List ℕ) → position_or_len (λ x. x == 13) s ≡ length s → unix s ≡ s
@@ -58,8 +56,7 @@ same-moved s (e ∷ es) none =
 pub same_errors : (mode : Mode) (text : List ℕ) → first_offset 13 text ≡ length text
     → errors_of mode text ≡ escape_errors_in_file mode text
 unfolding first_offset
-same_errors mode text none = sym (same-moved text (errors_of mode text) none)
-    ∙ ap (λ (s : List ℕ). map (move text) (errors_of mode s)) (sym (same-unix text none))
+same_errors mode text none = cc (same-moved text (errors_of mode text) none, same-unix text none)
 
 list-moved : (text : List ℕ) (o : Option Error) → option_to_list (option_map (move text) o) ≡
     map (move text) (option_to_list o)
@@ -95,4 +92,5 @@ no-file-errors mode = ap (λ (is : List Item). errors_in mode (map (λ (i : Item
 pub no-errors : errors_of Str [] ≡ []
 no-errors = ap (errors_in Str) no-items
 
-pub ruleset error_lemmas = (no-file-errors, no-errors, same_errors, single_errors, string_errors, append-nil)
+pub ruleset error_lemmas =
+    (no-file-errors, no-errors, same_errors, single_errors, string_errors, append-nil, common_steps)

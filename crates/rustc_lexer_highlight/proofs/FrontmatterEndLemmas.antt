@@ -2,30 +2,24 @@
 use Rattle.std.proofs.Common.{◌≡◌, ℕ, zero, suc, ◌+◌, ◌-◌, ◌<◌, ◌≤◌, ◌==◌, nat_eq, nat_lt, not, ◌&&◌, ◌||◌, Bool, true}
 use Rattle.std.proofs.Common.{false, true≢false, if◌then◌else◌, List, [], ◌∷◌, ◌++◌, codes, length, take, drop, get_or}
 use Rattle.std.proofs.Common.{refl, sym, ap, ◌∙◌, subst, arith, append_assoc, append-nil, drop-drop, length-append}
-use Rattle.std.proofs.Common.{take-append-drop, Option, Some, None, inl, inr}
+use Rattle.std.proofs.{Common.{take-append-drop, Option, Some, None, inl, inr}, Math.Seq.{drop-append_seam}}
+use Rattle.std.proofs.{Math.Seq.{get_or-append_seam}, lemmas.Bool.{and_from, and_parts, cases_eq, eq-eqb, eqb-true}}
+use Rattle.std.proofs.lemmas.Bool.{false_from_ne_true, ltb-false, ltb-true, ne_eqb, or_parts, Decides.{nat_tests}}
+use Rattle.std.proofs.lemmas.List.{nil_from_length, Elements.{All-from_get_or}, Folds.{list_all-append}}
+use Rattle.std.proofs.lemmas.List.{Folds.{list_any-append, list_any_at, list_any_none}, Sums.{prefix_len_is}}
+use Rattle.std.proofs.lemmas.Str.{char_from_byte, encode_ascii, encodes-append, encodes-chars, inside_one}
+use Rattle.std.proofs.lemmas.{Str.{length-encode, length-le-encodes, len_utf8_bounds}, Grind.{common_steps}}
 use Rattle.std.specs.{Char.{encode_utf8}, List.{after_last, list_all, list_any, prefix_len}, Option.{option_or}}
 use Rattle.std.specs.Str.{chars, encode_utf8_all, IsUtf8}
-use Rattle.std.proofs.Math.Seq.{drop-append_seam, get_or-append_seam}
-use Rattle.std.proofs.lemmas.Bool.{and_from, and_parts, cases_eq, eq-eqb, eqb-true, false_from_ne_true, ltb-false}
-use Rattle.std.proofs.lemmas.Bool.{ltb-true, ne_eqb, or_parts}
-use Rattle.std.proofs.lemmas.List.{nil_from_length, Elements.{All-from_get_or}}
-use Rattle.std.proofs.lemmas.List.Folds.{list_all-append, list_any-append, list_any_at, list_any_none}
-use Rattle.std.proofs.lemmas.List.Sums.{prefix_len_is}
-use Rattle.std.proofs.lemmas.Str.{char_from_byte, encode_ascii, encodes-append, encodes-chars, inside_one}
-use Rattle.std.proofs.lemmas.Str.{length-encode, length-le-encodes, len_utf8_bounds}
-use Rattle.std.proofs.lemmas.{Bool.Decides.{nat_tests}, Grind.{common_steps}}
 use Rattle.memchr.specs.Find.{IsLastByte, is_byte}
 use Rattle.rustc_lexer.specs.Classes.{AreAll, Chars, NextIsNot, NextNotIn, begins, is_among, is_horizontal_whitespace}
 use Rattle.rustc_lexer.specs.Classes.{is_id_start, is_info, is_inline, is_whitespace, next_is}
-use Rattle.rustc_lexer.specs.FrontmatterGrammar as the
 use Rattle.rustc_lexer.specs.FrontmatterGrammar.{IsBodyBefore, IsLabelBefore, IsOpeningBefore, endings, fence}
-use Rattle.rustc_lexer.specs.declared.token.TokenKind.{TokenKind, TheVariants.{Frontmatter}}
-use Rattle.rustc_lexer.specs.laws.{Choice.{by_either, by_test}, Fences.{begins-dashes, begins-enough}}
-use Rattle.rustc_lexer.specs.model.{Frontmatter.{blanks_len, is_dash}, Scan.{run_len}}
-use Rattle.rustc_lexer.specs.laws.LanguageFrontmatter.{fence-length, run-fence}
-use Rattle.rustc_lexer.specs.laws.LanguageRuns.{among, other_than, run-stops, run_len-here, start-word_start}
-use Rattle.rustc_lexer.specs.laws.LanguageRuns.{word_start-no_space}
-use Rattle.rustc_lexer.specs.laws.Reach.{run_all}
+use Rattle.rustc_lexer.specs.{declared.token.TokenKind.{TokenKind, TheVariants.{Frontmatter}}, laws.Choice.{by_either}}
+use Rattle.rustc_lexer.specs.laws.{Choice.{by_test}, Fences.{begins-dashes, begins-enough}}
+use Rattle.rustc_lexer.specs.laws.{LanguageFrontmatter.{fence-length, run-fence}, LanguageRuns.{among, other_than}}
+use Rattle.rustc_lexer.specs.laws.LanguageRuns.{run-stops, run_len-here, start-word_start, word_start-no_space}
+use Rattle.rustc_lexer.specs.{laws.Reach.{run_all}, model.{Frontmatter.{blanks_len, is_dash}, Scan.{run_len}}}
 use Rattle.rustc_lexer.proofs.lemmas.tokens.ClassParts.{continue_part}
 use Rattle.rustc_lexer_highlight.specs.declared.errors.TokenError.{TokenError}
 use Rattle.rustc_lexer_highlight.specs.declared.errors.TokenError.TheVariants.{WhitespaceBeforeFrontmatter}
@@ -33,15 +27,14 @@ use Rattle.rustc_lexer_highlight.specs.declared.errors.TokenError.TheVariants.{U
 use Rattle.rustc_lexer_highlight.specs.declared.errors.TokenError.TheVariants.{WhitespaceBeforeFrontmatterClose}
 use Rattle.rustc_lexer_highlight.specs.declared.errors.TokenError.TheVariants.{FrontmatterCloseMismatch}
 use Rattle.rustc_lexer_highlight.specs.declared.errors.TokenError.TheVariants.{ExtraAfterFrontmatterClose}
-use Rattle.rustc_literal_escaper.specs.Grammar.{is_newline}
 use Rattle.rustc_lexer_highlight.specs.Frontmatter.{blanks, closing_error, dashes, end_error, is_end, is_of}
-use Rattle.rustc_lexer_highlight.specs.Frontmatter.{past_infostring, past_run}
-use Rattle.rustc_lexer_highlight.specs.TokenError.{token_error, front_error, kind_error}
-use Rattle.rustc_lexer_highlight.specs.TextError.{frontmatter_error}
+use Rattle.rustc_lexer_highlight.specs.{Frontmatter.{past_infostring, past_run}, TokenError.{token_error, front_error}}
+use Rattle.rustc_lexer_highlight.specs.{TokenError.{kind_error}, TextError.{frontmatter_error}}
 use Rattle.rustc_lexer_highlight.specs.FrontmatterEnd.{EndsAfter, IsEndError, IsOpen, NoLineBegins, TellsFrontmatter}
-use Rattle.rustc_lexer_highlight.specs.FrontmatterEnd.{closed, indented}
-use Rattle.rustc_lexer_highlight.specs.FrontmatterEnd.{more_words, other_dashes, unclosed}
+use Rattle.rustc_lexer_highlight.specs.FrontmatterEnd.{closed, indented, more_words, other_dashes, unclosed}
+use Rattle.rustc_literal_escaper.specs.Grammar.{is_newline}
 use Rattle.rustc_lexer_highlight.proofs.FrontmatterLemmas.{last-line, skip_ends, skip_on}
+use Rattle.rustc_lexer.specs.FrontmatterGrammar as the
 
 -- ---- runs
 
@@ -104,8 +97,7 @@ dashes-encode n s stop = run-encode (codes "-") refl (fence n) s (fence-all (is_
 
 drop-dashes : (n : ℕ) (s : Chars) → drop n (encode_utf8_all (fence n ++ s)) ≡ encode_utf8_all s
 drop-dashes n s =
-    ap (λ (k : ℕ). drop k (encode_utf8_all (fence n ++ s))) (sym (fence-length n))
-    ∙ drop-encode (codes "-") refl (fence n) s (fence-all (is_among (codes "-")) refl n)
+    rw (fence-length n) at (drop-encode (codes "-") refl (fence n) s (fence-all (is_among (codes "-")) refl n))
 
 -- Dashes at the start of a line and the text after it are on that line.
 begins-line : (n : ℕ) (line next : Chars) → NextIsNot is_inline next → begins (fence n) (line ++ next) ≡ true
@@ -158,7 +150,7 @@ data HasLast : Chars → Type 0 where
 has_last-cons : (c : ℕ) {s : Chars} → HasLast s → HasLast (c ∷ s)
 has_last-cons c (last u line all) = last (c ∷ u) line all
 has_last-cons c {s} (only all) =
-    by_either (c == 10) (λ e. subst (λ (d : ℕ). HasLast (d ∷ s)) (sym (eqb-true c 10 e)) (last [] s all))
+    by_either (c == 10) (λ e. rw (eqb-true c 10 e) (last [] s all))
     (λ e. only (rw e all))
 
 has_last : (s : Chars) → HasLast s
@@ -347,9 +339,8 @@ module _ (n d : ℕ) (next u bs cs end : Chars) (many : 3 ≤ n) (blank : AreAll
         let text : Chars = (front ++ u) ++ 10 ∷ line in
         let whole : front ++ body ≡ text = sym (append_assoc front u (10 ∷ line)) in
         let past = last-encode (front ++ u) line inline in
-        let opens : dashes (encode_utf8_all text) ≡ n = ap (λ (s : Chars). dashes (encode_utf8_all s)) (sym whole)
-        ∙ run in
-        ap (λ (s : Chars). end_error (encode_utf8_all s)) whole ∙ rw (past.0, past.1, opens) closing-read;
+        let opens : dashes (encode_utf8_all text) ≡ n = rw whole at run in
+        rw (whole, past.0, past.1, opens) closing-read;
   }
 
 -- Divides the last line into blanks, dashes, blanks and the rest.
@@ -362,15 +353,13 @@ told-line n next u line many =
     let left : Chars = drop (blanks_len tail) tail in
     let cut : take (blanks_len tail) tail ++ left ≡ tail = take-append-drop (blanks_len tail) tail in
     let whole : fence d ++ (take (blanks_len tail) tail ++ left) ≡ rest =
-    ap (λ (w : Chars). fence d ++ w) cut
-    ∙ (ap (λ (w : Chars). w ++ tail) (sym (run-fence rest)) ∙ take-append-drop d rest) in
-    subst (λ (l : Chars). AreAll is_inline l → NoneUnless 3 next u l → NoneUnless n next u l
-    → Told n next (u ++ 10 ∷ l))
-    (ap (λ (w : Chars). take (blanks_len line) line ++ w) whole ∙ take-append-drop (blanks_len line) line)
-    (told-last n d next u (take (blanks_len line) line) (take (blanks_len tail) tail) left many
+    cc (run-fence rest, take-append-drop d rest) in
+    let all : take (blanks_len line) line ++ (fence d ++ (take (blanks_len tail) tail ++ left)) ≡ line =
+    cc (take-append-drop (blanks_len line) line) in
+    rw (← all) (told-last n d next u (take (blanks_len line) line) (take (blanks_len tail) tail) left many
     (run_all is_horizontal_whitespace line)
-    (ap (next_is is_horizontal_whitespace) whole ∙ run-stops is_horizontal_whitespace line)
-    (no_dash (take (blanks_len tail) tail ++ left) (ap (next_is is_dash) cut ∙ run-stops is_dash rest))
+    (rw whole (run-stops is_horizontal_whitespace line))
+    (no_dash (take (blanks_len tail) tail ++ left) (rw cut (run-stops is_dash rest)))
     (run_all is_horizontal_whitespace tail) (run-stops is_horizontal_whitespace tail))
 
 -- The case without a line that starts with three dashes, or with n.

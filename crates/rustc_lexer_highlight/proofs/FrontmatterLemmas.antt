@@ -40,7 +40,7 @@ module _ (bytes text : List ℕ) (same : bytes ≡ text) where
       (λ k less. false_from_ne_true _ (none k (omega arith) less))) in
       rw (← same, none_is) refl
 
-pub ruleset run_lemmas = (prefix_len-drop_yes, prefix_len-drop_no, prefix_len-drop_all)
+pub ruleset run_lemmas = (prefix_len-drop_yes, prefix_len-drop_no, prefix_len-drop_all, common_steps)
 
 -- Skipping a run character by character.
 module _ (p : ℕ → Bool) (s t : List ℕ) (c : ℕ) (front : s ≡ c ∷ t) where

@@ -1,8 +1,8 @@
 -- The text of a highlighted document, and the calls that write it.
-use Rattle.std.proofs.Common.{◌≡◌, ℕ, ◌-◌, List, [], ◌∷◌, length, take, drop, refl, sym, ap}
-use Rattle.std.proofs.Common.{subst, ◌∙◌, arith, take-add, Option, append-nil}
+use Rattle.std.proofs.Common.{◌≡◌, ℕ, ◌-◌, List, [], ◌∷◌, length, take, drop, refl, ap}
+use Rattle.std.proofs.Common.{◌∙◌, arith, take-add, Option, append-nil}
 use Rattle.std.specs.{Fmt.{WritesInCalls}, Prelude.{OnOk, Result}}
-use Rattle.std.specs.Str.{IsCharBoundary, IsUtf8}
+use Rattle.std.specs.Str.{IsUtf8}
 use Rattle.std.proofs.lemmas.Str.{IsUtf8-drop}
 use Rattle.std.proofs.lemmas.{List.Concat.{flat_map-append}, Grind.{common_steps}, Result.{on_ok_weaker}}
 use Rattle.rustc_lexer.specs.declared.{edition.Edition.{Edition}, token.Token.{Token}}
@@ -55,9 +55,8 @@ page_is edition text is =
 pub past_piece : (s t : State) (token : Token) (rest next : List ℕ) → IsUtf8 rest → rest ≡ s.rest
     → TakesToken s token t → next ≡ drop token.len rest → IsUtf8 next × (next ≡ t.rest)
 past_piece s t token rest next utf8 place step back = (
-  subst IsUtf8 (sym back) (IsUtf8-drop rest token.len utf8
-      (subst (λ (bs : List ℕ). IsCharBoundary bs token.len) (sym place) step.boundary)),
-  back ∙ (ap (drop token.len) place ∙ sym step.rest),
+  rw back (IsUtf8-drop rest token.len utf8 (rw place step.boundary)),
+  cc,
 )
 
 -- ---- the calls that write the tokens
@@ -81,7 +80,7 @@ module _ {W : Type 0} (took : W → List ℕ → W → Type 0) where
       → OnOk r (WritesInCalls took w (with_markup format (start_parts text)) u)
   writes_start r format text mark line n w v u is front past before after =
       let all : n - 0 ≡ n = omega arith in
-      let is_mark : mark ≡ take n text = front ∙ ap (λ (k : ℕ). take k text) all in
+      let is_mark : mark ≡ take n text = rw all at front in
       on_ok_weaker r (λ wrote. rw (← is, ← is_mark, ← past)
       (writes_parts took format (Own Plain mark ∷ []) (Own Comment line ∷ []) w v u before wrote)) after
 

@@ -1,12 +1,10 @@
 -- Words that are not keywords.
-use Rattle.std.proofs.{Common.{arith}, lemmas.Grind.{common_steps}}
-use Rattle.std.proofs.Common.{◌≡◌, ℕ, Bool, false, List, [], ◌∷◌, ◌++◌, ◌||◌, refl, sym, ◌∙◌, take, drop}
-use Rattle.std.proofs.lemmas.List.Folds.{list_any-append}
+use Rattle.std.proofs.Common.{arith, ◌≡◌, ℕ, Bool, false, List, [], ◌∷◌, ◌++◌, ◌||◌, refl, sym, ◌∙◌, take, drop}
+use Rattle.std.proofs.lemmas.{Grind.{common_steps}, List.Folds.{list_any-append}, Slice.Eq.{bytes_eq-Decides}}
 use Rattle.std.specs.{List.{AllByRecursion, list_any}, Str.{bytes_eq}}
-use Rattle.std.proofs.lemmas.Slice.Eq.{bytes_eq-Decides}
 use Rattle.rustc_lexer_highlight.specs.Keyword.{has, is_in, is_later, made}
-use Rattle.rustc_lexer.specs.declared.edition.Edition.{Edition, TheVariants.{E2015, E2018, E2024}}
 use Rattle.rustc_lexer_highlight.specs.declared.keyword.KeywordKind.{KeywordKind, TheVariants.{Strict}}
+use Rattle.rustc_lexer.specs.declared.edition.Edition.{Edition, TheVariants.{E2015, E2018, E2024}}
 
 infixr 20 ◌&◌
 -- Pairs two facts.

@@ -1,7 +1,7 @@
 -- A text in a file is never cut inside a CRLF.
 use Rattle.std.proofs.Common.{◌≡◌, ℕ, zero, suc, zero-add, append-nil, ◌+◌, ◌-◌, ◌<◌, ◌≤◌, ◌==◌, ◌&&◌, Bool, true}
 use Rattle.std.proofs.Common.{false, List, [], ◌∷◌, ◌++◌, append_assoc, length, length-append, map, refl, sym, ap}
-use Rattle.std.proofs.Common.{subst, ◌∙◌, arith}
+use Rattle.std.proofs.Common.{◌∙◌, arith}
 use Rattle.std.specs.{Str.{chars, IsUtf8}}
 use Rattle.std.proofs.lemmas.{Bool.{and_parts, eqb-true, Decides.{nat_tests}}, Grind.{common_steps}}
 use Rattle.std.proofs.lemmas.Str.{encodes-chars, chars-encodes, scalars-chars, encode_ascii, encodes-append}
@@ -78,9 +78,8 @@ all_left text spelt = record { read = []; whole = refl; uncut = refl; all = spel
 pub left_left : {text middle left : List ℕ} → IsLeft text middle → IsLeft middle left → IsLeft text left
 left_left {text} {middle} {left} a b = record {
   read = a.read ++ b.read;
-  whole = a.whole ∙ (ap (λ (t : List ℕ). a.read ++ t) b.whole ∙ sym (append_assoc a.read b.read (chars left)));
-  uncut = whole-append a.read b.read (chars left) (subst (λ (t : List ℕ). is_whole a.read t ≡ true) b.whole a.uncut)
-      b.uncut;
+  whole = cc (append_assoc a.read b.read (chars left));
+  uncut = whole-append a.read b.read (chars left) (rw b.whole at a.uncut) b.uncut;
   all = a.all;
   spelt = b.spelt;
 }
@@ -96,7 +95,7 @@ pub read_line : (rest left line w : List ℕ) → IsUtf8 rest → IsUtf8 line �
     → chars left ≡ 10 ∷ chars line → IsLeft rest line
 read_line rest left line w all spelt whole newline = record {
   read = w ++ 10 ∷ [];
-  whole = whole ∙ (ap (λ (t : List ℕ). w ++ t) newline ∙ sym (append_assoc w (10 ∷ []) (chars line)));
+  whole = rw (whole, newline, append_assoc w (10 ∷ []) (chars line)) refl;
   uncut = rw (last_from-append 0 w (10 ∷ [])) refl;
   all = all;
   spelt = spelt;
@@ -105,9 +104,8 @@ read_line rest left line w all spelt whole newline = record {
 -- ---- characters and bytes
 
 text-is : (text left w : List ℕ) → IsUtf8 text → IsUtf8 left → chars text ≡ w ++ chars left → text ≡ encodes w ++ left
-text-is text left w all spelt whole = sym (encodes-chars text all)
-    ∙ (ap encodes whole
-    ∙ (encodes-append w (chars left) ∙ ap (λ (t : List ℕ). encodes w ++ t) (encodes-chars left spelt)))
+text-is text left w all spelt whole =
+    cc (encodes-chars text all, encodes-append w (chars left), encodes-chars left spelt)
 
 pub left_within : {text left : List ℕ} → IsLeft text left → length left ≤ length text
 left_within {text} {left} is =
@@ -152,16 +150,16 @@ pub offset_is : (text left : List ℕ) → IsLeft text left → length text - le
 offset_is text left is =
     let read : List ℕ = encodes is.read in
     let whole : text ≡ read ++ left = text-is text left is.read is.all is.spelt is.whole in
-    let uncut : is_whole read left ≡ true = ap (is_whole read) (sym (encodes-chars left is.spelt))
-    ∙ (whole-encodes is.read (chars left) ∙ is.uncut) in
+    let uncut : is_whole read left ≡ true =
+    cc (encodes-chars left is.spelt, whole-encodes is.read (chars left)) in
     let rest : length (encodes (unix (chars left))) ≡ length (unix left) =
-    ap length (encodes-unix (chars left) ∙ ap unix (encodes-chars left is.spelt)) in
-    let all : length (unix text) ≡ length (unix read) + length (unix left) = ap (λ (t : List ℕ). length (unix t)) whole
-    ∙ (ap length (unix-append read left uncut) ∙ length-append (unix read) (unix left)) in
+    cc (encodes-unix (chars left), encodes-chars left is.spelt) in
+    let all : length (unix text) ≡ length (unix read) + length (unix left) =
+    cc (unix-append read left uncut, length-append (unix read) (unix left)) in
     let at : length (unix text) - length (encodes (unix (chars left))) ≡ length (unix read) + 0 = omega arith in
-    let size : length text ≡ length read + length left = ap length whole ∙ length-append read left in
+    let size : length text ≡ length read + length left = cc (length-append read left) in
     let to : place text (length (unix read) + 0) ≡ length read + 0 =
-    ap (λ (t : List ℕ). place t (length (unix read) + 0)) whole ∙ place-append read left 0 uncut in
+    cc (place-append read left 0 uncut) in
     omega (arith, ap (place text) at ∙ to)
 
 -- ---- the items of a text in a file
@@ -176,9 +174,12 @@ scalars-unix (c ∷ s) all =
     and_right a b both = grind (arith, common_steps)
 
 pub chars-unix : (text : List ℕ) → IsUtf8 text → chars (unix text) ≡ unix (chars text)
-chars-unix text is = ap (λ (t : List ℕ). chars (unix t)) (sym (encodes-chars text is))
-    ∙ (ap chars (sym (encodes-unix (chars text)))
-    ∙ chars-encodes (unix (chars text)) (scalars-unix (chars text) (scalars-chars text is)))
+chars-unix text is =
+    cc (
+      encodes-chars text is,
+      encodes-unix (chars text),
+      chars-encodes (unix (chars text)) (scalars-unix (chars text) (scalars-chars text is)),
+    )
 
 pub utf8-unix : (text : List ℕ) → IsUtf8 text → IsUtf8 (unix text)
 utf8-unix text is = (

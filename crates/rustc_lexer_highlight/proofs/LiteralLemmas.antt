@@ -1,35 +1,27 @@
 -- The text of a highlighted literal, and the calls that write it.
-use Rattle.std.proofs.Common.{◌≡◌, ℕ, ◌+◌, ◌-◌, ◌<◌, ◌≤◌, Bool, List, [], ◌∷◌, ◌++◌, map, take, drop, refl, sym, ap}
+use Rattle.std.proofs.Common.{◌≡◌, ℕ, ◌+◌, ◌-◌, ◌<◌, ◌≤◌, Bool, List, [], ◌∷◌, ◌++◌, take, drop, refl, ap}
 use Rattle.std.proofs.Common.{subst, ◌∙◌, arith, take-append-drop, length-drop, append-nil, length, IsCharBoundary}
-use Rattle.std.proofs.Common.{IsUtf8, Option, Some}
-use Rattle.std.specs.Fmt.{WritesInCalls}
+use Rattle.std.proofs.{Common.{IsUtf8, Option, Some}, lemmas.{Bool.{cases_lt}, List.{drop-drop, get_or-take}}}
+use Rattle.std.proofs.lemmas.List.{length-take-le, Concat.{flat_map-append}, Edits.{length-between}}
+use Rattle.std.proofs.lemmas.{List.Elements.{All-head, All-tail}, Str.{IsCharBoundary-from_rest, IsCharBoundary-start}}
+use Rattle.std.proofs.lemmas.{Str.{IsUtf8-between, encodes-chars}, Grind.{common_steps}}
+use Rattle.std.specs.{Fmt.{WritesInCalls}, Str.{chars}, List.{between}}
 use Rattle.rustc_lexer.specs.Classes.{bytes}
-use Rattle.std.proofs.lemmas.{Bool.{cases_lt}, List.{drop-drop, get_or-take, length-take-le, Concat.{flat_map-append}}}
-use Rattle.std.proofs.lemmas.List.{Edits.{length-between}, Elements.{All-head, All-tail}}
-use Rattle.std.specs.Str.{chars}
-use Rattle.std.proofs.lemmas.Str.{IsCharBoundary-from_rest, IsCharBoundary-start, IsUtf8-between, encodes-chars}
-use Rattle.std.proofs.lemmas.Grind.{common_steps}
 use Rattle.rustc_literal_escaper.specs.{Grammar.{Item}, Answers.{items_of}, Meaning.{is_raw}}
-use Rattle.rustc_literal_escaper.specs.laws.TheAnswers.{items-are}
+use Rattle.rustc_literal_escaper.specs.{laws.TheAnswers.{items-are}, Items.{ArePlaced, IsPlaced}}
+use Rattle.rustc_literal_escaper.specs.declared.mode.Mode.{Mode}
 use Rattle.rustc_lexer_highlight.specs.laws.{Literal.{stretches-read, the_stretches}, Pieces.{pieces-some, told}}
-use Rattle.rustc_lexer_highlight.specs.LineEnds.{file_items, place, unix}
-use Rattle.rustc_lexer_highlight.specs.Literal as lit
-use Rattle.rustc_literal_escaper.specs.{Items.{ArePlaced, IsPlaced}, declared.mode.Mode.{Mode}}
-use Rattle.rustc_lexer_highlight.specs.declared.class.Class.TheVariants.{Text}
-use Rattle.rustc_lexer_highlight.specs.declared.literal.{Look.{Look}, Painter.{Painter}}
-use Rattle.rustc_lexer_highlight.specs.declared.format.Format.{Format}
-use Rattle.std.specs.List.{between}
-use Rattle.rustc_lexer_highlight.specs.Answers.{stretches_of, string_stretches}
-use Rattle.rustc_lexer_highlight.specs.Literal.{Stretch, single_stretches, stretches_at, look_parts, parts_from}
-use Rattle.rustc_lexer_highlight.specs.Literal.{char_error, char_look}
-use Rattle.rustc_lexer_highlight.specs.Literal.{moved_stretch, stretch}
-use Rattle.rustc_lexer_highlight.specs.Highlighted.{literal_parts}
+use Rattle.rustc_lexer_highlight.specs.{LineEnds.{file_items, place, unix}, declared.class.Class.TheVariants.{Text}}
+use Rattle.rustc_lexer_highlight.specs.declared.{literal.{Look.{Look}, Painter.{Painter}}, format.Format.{Format}}
+use Rattle.rustc_lexer_highlight.specs.{Answers.{stretches_of, string_stretches}, Literal.{Stretch, single_stretches}}
+use Rattle.rustc_lexer_highlight.specs.Literal.{stretches_at, look_parts, parts_from, char_error, char_look}
+use Rattle.rustc_lexer_highlight.specs.{Literal.{stretch}, Highlighted.{literal_parts}}
 use Rattle.rustc_lexer_highlight.specs.model.Literal.{IsCut, Paints, WritesOn, element_look, gap, stretches_from}
-use Rattle.rustc_lexer_highlight.specs.model.Literal as model
 use Rattle.rustc_lexer_highlight.specs.Part.{Own, own, with_markup, without_markup}
-use Rattle.rustc_lexer_highlight.proofs.LineEndLemmas.{utf8-unix}
-use Rattle.rustc_lexer_highlight.proofs.MovedLemmas.{items_placed, place-end, stretches-moved}
-use Rattle.rustc_lexer_highlight.proofs.PartLemmas.{without_error, writes_parts}
+use Rattle.rustc_lexer_highlight.proofs.{LineEndLemmas.{utf8-unix}, MovedLemmas.{items_placed, place-end}}
+use Rattle.rustc_lexer_highlight.proofs.{MovedLemmas.{stretches-moved}, PartLemmas.{without_error, writes_parts}}
+use Rattle.rustc_lexer_highlight.specs.Literal as lit
+use Rattle.rustc_lexer_highlight.specs.model.Literal as model
 
 without_look : (look : Look) (text : List ℕ) → without_markup (look_parts look text) ≡ text
 without_look look text = grind (arith, common_steps, append-nil, without_error)
@@ -65,11 +57,11 @@ string_found mode text begin close utf8 le at_begin at_close =
     let last : close ≡ begin + place inside (length left) =
     omega (arith, le, length-between text begin close at_close.0, place-end inside) in
     let ends : 0 + bytes (chars left) ≡ length left = omega (arith, ap length (encodes-chars left is)) in
-    ap (λ (n : ℕ). stretches_from mode begin n close (file_items (is_raw mode) inside)) first
-    ∙ (ap (λ (n : ℕ). stretches_from mode begin (begin + place inside 0) n (file_items (is_raw mode) inside)) last
-    ∙ (stretches-moved mode begin inside 0 (length left) (items_of (is_raw mode) left)
-    ∙ ap (map (moved_stretch begin inside)) (stretches-read pieces.1 items 0 (length left) ends
-    ∙ ((the_stretches mode 0 (chars left)).only tt (stretches_at 0 pieces.0)).0 (lit.made pieces.1))))
+    cc (
+      stretches-moved mode begin inside 0 (length left) (items_of (is_raw mode) left),
+      stretches-read pieces.1 items 0 (length left) ends,
+      ((the_stretches mode 0 (chars left)).only tt (stretches_at 0 pieces.0)).0 (lit.made pieces.1),
+    )
 
 -- ---- offsets
 
@@ -114,8 +106,7 @@ placed_all text inside begin close raw items utf8 are is = grind (arith, common_
 
 told_already : (mode : Mode) (begin at close : ℕ) (items rest : List Item) (item : Item) → items ≡ item ∷ rest
     → begin + item.0.start < at → stretches_from mode begin at close items ≡ stretches_from mode begin at close rest
-told_already mode begin at close items rest item is less = ap (stretches_from mode begin at close) is
-    ∙ told mode begin close at item rest less
+told_already mode begin at close items rest item is less = rw is (told mode begin close at item rest less)
 
 -- ---- the calls
 
@@ -130,9 +121,9 @@ module _ {W : Type 0} (took : W → List ℕ → W → Type 0) where
   writes_stretch format look some text plain own shown start end w0 w1 w2 is low high is_plain is_own a b =
       λ more last rest.
       let past : drop (start - shown) (drop shown text) ≡ drop start text = let same : shown + (start - shown) ≡ start =
-      omega arith in drop-drop (start - shown) shown text ∙ ap (λ (n : ℕ). drop n text) same in
+      omega arith in rw same at (drop-drop (start - shown) shown text) in
       let behind : drop (end - start) (drop start text) ≡ drop end text = let same : start + (end - start) ≡ end =
-      omega arith in drop-drop (end - start) start text ∙ ap (λ (n : ℕ). drop n text) same in
+      omega arith in rw same at (drop-drop (end - start) start text) in
       rw (is, past, behind, ← is_plain, ← is_own)
       (writes_parts took format (Own Text plain ∷ []) (look_parts look own ++ parts_from end (drop end text) more)
       w0 w1 last a (writes_parts took format (look_parts look own) (parts_from end (drop end text) more) w1 w2 last
@@ -149,16 +140,13 @@ module _ {W : Type 0} (took : W → List ℕ → W → Type 0) where
       → WritesInCalls took v (with_markup format (Own Text rest ∷ [])) u
       → WritesLeft format text w shown ss u
   writes_last format text rest shown to ss w v u on is wrote =
-      subst (λ (all : List Stretch). WritesLeft format text w shown all u) (append-nil ss)
-      (on [] u (subst (λ (xs : List ℕ). WritesInCalls took v (with_markup format (Own Text xs ∷ [])) u) is wrote))
+      rw (append-nil ss) at (on [] u (rw is at wrote))
 
   -- A painter keeps its format and its text.
   painted : (p q : Painter) (format : Format) (text : List ℕ) (ss : List Stretch) (end : ℕ) (w v : W)
       → p.format ≡ format → p.text.now ≡ text
       → Paints took p w ss end q v → WritesOn took format text w p.shown ss v q.shown
-  painted p q format text ss end w v same_format same_text on =
-      subst (λ (f : Format). WritesOn took f text w p.shown ss v q.shown) same_format
-      (subst (λ (t : List ℕ). WritesOn took p.format t w p.shown ss v q.shown) same_text on.writes)
+  painted p q format text ss end w v same_format same_text on = rw (← same_format, ← same_text) on.writes
 
   -- Writing some stretches and then the rest of the literal.
   paints_last : (p q : Painter) (format : Format) (text : List ℕ) (ss : List Stretch) (end : ℕ) (w v u : W)
@@ -169,10 +157,7 @@ module _ {W : Type 0} (took : W → List ℕ → W → Type 0) where
   paints_last p q format text ss end w v u same_format same_text on wrote =
       writes_last format text (drop q.shown text) p.shown q.shown ss w v u
       (painted p q format text ss end w v same_format same_text on) refl
-      (subst (λ (f : Format). WritesInCalls took v (with_markup f (Own Text (drop q.shown text) ∷ [])) u)
-      (on.format ∙ same_format)
-      (subst (λ (t : List ℕ). WritesInCalls took v (with_markup q.format (Own Text (drop q.shown t) ∷ [])) u)
-      (on.text ∙ same_text) wrote))
+      (rw (on.format, same_format, on.text, same_text) at wrote)
 
   -- Writing the contents between single quotes.
   pub paints_single : (p q : Painter) (mode : Mode) (inside : List ℕ) (close : ℕ) (look : Option Look) (w v u : W)
@@ -181,64 +166,49 @@ module _ {W : Type 0} (took : W → List ℕ → W → Type 0) where
       → WritesInCalls took v (with_markup q.format (Own Text (drop q.shown q.text.now) ∷ [])) u
       → WritesLeft p.format p.text.now w p.shown (single_stretches mode p.at close p.text.now) u
   paints_single p q mode inside close look w v u looks is on wrote =
-      subst (λ (l : Option Look). WritesLeft p.format p.text.now w p.shown (stretch p.at close l) u)
-      (looks ∙ ap (λ (xs : List ℕ). char_look (char_error mode xs) xs) is)
-      (paints_last p q p.format p.text.now (stretch p.at close look) close w v u refl refl on wrote)
+      rw (← is, ← looks) (paints_last p q p.format p.text.now (stretch p.at close look) close w v u refl refl on wrote)
 
-  -- An element that has already been reported is skipped.
-  pub writes_told : (format : Format) (mode : Mode) (text : List ℕ) (begin at close shown : ℕ) (items rest : List Item)
-      (item : Item) (w last : W) → items ≡ item ∷ rest → begin + item.0.start < at
-      → WritesLeft format text w shown (stretches_from mode begin at close rest) last
-      → WritesLeft format text w shown (stretches_from mode begin at close items) last
-  writes_told format mode text begin at close shown items rest item w last is less more =
-      grind (arith, common_steps, told_already)
+  module _ (format : Format) (mode : Mode) (text : List ℕ) (begin close : ℕ) where
+    -- An element that has already been reported is skipped.
+    pub writes_told : (at shown : ℕ) (items rest : List Item) (item : Item) (w last : W) → items ≡ item ∷ rest
+        → begin + item.0.start < at → WritesLeft format text w shown (stretches_from mode begin at close rest) last
+        → WritesLeft format text w shown (stretches_from mode begin at close items) last
+    writes_told at shown items rest item w last is less more = grind (arith, common_steps, told_already)
 
-  -- Writing an element and the skipped text before it.
-  writes_item : (format : Format) (mode : Mode) (text : List ℕ) (begin at close shown to next : ℕ)
-      (items rest : List Item) (item : Item) (look : Option Look) (w v u last : W)
-      → items ≡ item ∷ rest → at ≤ begin + item.0.start → look ≡ element_look mode item.1
-      → WritesOn took format text w shown (gap at (begin + item.0.start)) v to
-      → WritesOn took format text v to (stretch (begin + item.0.start) (begin + item.0.end) look) u next
-      → WritesLeft format text u next (stretches_from mode begin (begin + item.0.end) close rest) last
-      → WritesLeft format text w shown (stretches_from mode begin at close items) last
-  writes_item format mode text begin at close shown to next items rest item look w v u last is high looks a b more =
-      grind (arith, common_steps)
+    -- Writing an element and the skipped text before it.
+    writes_item : (at shown to next : ℕ) (items rest : List Item) (item : Item) (look : Option Look) (w v u last : W)
+        → items ≡ item ∷ rest → at ≤ begin + item.0.start → look ≡ element_look mode item.1
+        → WritesOn took format text w shown (gap at (begin + item.0.start)) v to
+        → WritesOn took format text v to (stretch (begin + item.0.start) (begin + item.0.end) look) u next
+        → WritesLeft format text u next (stretches_from mode begin (begin + item.0.end) close rest) last
+        → WritesLeft format text w shown (stretches_from mode begin at close items) last
+    writes_item at shown to next items rest item look w v u last is high looks a b more =
+        grind (arith, common_steps)
 
-  pub paints_item : (format : Format) (mode : Mode) (text : List ℕ) (begin close : ℕ) (p q r : Painter)
-      (items rest : List Item) (item : Item) (look : Option Look) (w v u last : W)
-      → items ≡ item ∷ rest → p.at ≤ begin + item.0.start → look ≡ element_look mode item.1 → p.format ≡ format
-      → p.text.now ≡ text
-      → Paints took p w (gap p.at (begin + item.0.start)) (begin + item.0.start) q v
-      → Paints took q v (stretch q.at (begin + item.0.end) look) (begin + item.0.end) r u
-      → WritesLeft format text u r.shown (stretches_from mode begin r.at close rest) last
-      → WritesLeft format text w p.shown (stretches_from mode begin p.at close items) last
-  paints_item format mode text begin close p q r items rest item look w v u last is high looks same_format same_text
-      skipped highlighted more =
-      let a = painted p q format text (gap p.at (begin + item.0.start)) (begin + item.0.start) w v same_format same_text
-      skipped in
-      let b = subst (λ (n : ℕ). WritesOn took format text v q.shown (stretch n (begin + item.0.end) look) u r.shown)
-      skipped.at
-      (painted q r format text (stretch q.at (begin + item.0.end) look) (begin + item.0.end) v u
-      (skipped.format ∙ same_format) (skipped.text ∙ same_text) highlighted) in
-      let left = subst (λ (n : ℕ). WritesLeft format text u r.shown (stretches_from mode begin n close rest) last)
-      highlighted.at more in
-      writes_item format mode text begin p.at close p.shown q.shown r.shown items rest item look w v u last is high
-      looks a b left
+    pub paints_item : (p q r : Painter) (items rest : List Item) (item : Item) (look : Option Look) (w v u last : W)
+        → items ≡ item ∷ rest → p.at ≤ begin + item.0.start → look ≡ element_look mode item.1 → p.format ≡ format
+        → p.text.now ≡ text
+        → Paints took p w (gap p.at (begin + item.0.start)) (begin + item.0.start) q v
+        → Paints took q v (stretch q.at (begin + item.0.end) look) (begin + item.0.end) r u
+        → WritesLeft format text u r.shown (stretches_from mode begin r.at close rest) last
+        → WritesLeft format text w p.shown (stretches_from mode begin p.at close items) last
+    paints_item p q r items rest item look w v u last is high looks same_format same_text skipped highlighted more =
+        let a = painted p q format text _ _ w v same_format same_text skipped in
+        let b = rw skipped.at at (painted q r format text _ _ v u (skipped.format ∙ same_format)
+        (skipped.text ∙ same_text) highlighted) in
+        let left = rw highlighted.at at more in
+        writes_item p.at p.shown q.shown r.shown items rest item look w v u last is high looks a b left
 
-  -- After the last element, only the skipped text before the closing quote is left.
-  pub writes_all : (format : Format) (mode : Mode) (text inside : List ℕ) (begin close shown : ℕ) (items : List Item)
-      (w last : W)
-      → items ≡ file_items (is_raw mode) inside → inside ≡ between begin close text
-      → WritesLeft format text w shown (stretches_from mode begin begin close items) last
-      → WritesLeft format text w shown (model.string_stretches mode begin close text) last
-  writes_all format mode text inside begin close shown items w last are is wrote = grind (arith, common_steps)
+    -- After the last element, only the skipped text before the closing quote is left.
+    pub writes_all : (inside : List ℕ) (shown : ℕ) (items : List Item) (w last : W)
+        → items ≡ file_items (is_raw mode) inside → inside ≡ between begin close text
+        → WritesLeft format text w shown (stretches_from mode begin begin close items) last
+        → WritesLeft format text w shown (model.string_stretches mode begin close text) last
+    writes_all inside shown items w last are is wrote = grind (arith, common_steps)
 
-  pub paints_end : (format : Format) (mode : Mode) (text : List ℕ) (begin close : ℕ) (p q : Painter) (items : List Item)
-      (w v u : W) → items ≡ []
-      → p.format ≡ format → p.text.now ≡ text → Paints took p w (gap p.at close) close q v
-      → WritesInCalls took v (with_markup q.format (Own Text (drop q.shown q.text.now) ∷ [])) u
-      → WritesLeft format text w p.shown (stretches_from mode begin p.at close items) u
-  paints_end format mode text begin close p q items w v u none same_format same_text on wrote =
-      subst (λ (left : List Item). WritesLeft format text w p.shown (stretches_from mode begin p.at close left) u)
-      (sym none)
-      (paints_last p q format text (gap p.at close) close w v u same_format same_text on wrote)
+    pub paints_end : (p q : Painter) (items : List Item) (w v u : W) → items ≡ []
+        → p.format ≡ format → p.text.now ≡ text → Paints took p w (gap p.at close) close q v
+        → WritesInCalls took v (with_markup q.format (Own Text (drop q.shown q.text.now) ∷ [])) u
+        → WritesLeft format text w p.shown (stretches_from mode begin p.at close items) u
+    paints_end p q items w v u none same_format same_text on wrote =
+        rw none (paints_last p q format text _ close w v u same_format same_text on wrote)

@@ -113,8 +113,7 @@ module _ (mode : Mode) (begin close : ℕ) where
       (stretch at to (Some Escape)) []
       (λ some. more at to (Some Escape) items ss (ltb-true at to some) (λ k d low. inl (after k d low))
       (fine (errors_in mode items) at to) invariant)
-      (λ none. let same : to ≡ at = omega (arith, le, ltb-false at to none) in
-      subst (λ (n : ℕ). Invariant n items ss) same invariant)
+      (λ none. let same : to ≡ at = omega (arith, le, ltb-false at to none) in rw same at invariant)
 
   -- ---- an item, and its stretch
 
@@ -225,8 +224,7 @@ module _ (mode : Mode) (begin close : ℕ) where
     claims (the.raw_element {from} {c} {element = e} {items} is are) = element from e (c ∷ []) items (claims are)
     claims (the.line_end {from} {next} {items} space all stops are) =
         let rest = warned-space from space next items (further-on from (codes "\\\n" ++ space) items (claims are)) in
-        subst (Moved from) (sym (append_assoc (lines_warning from space) (space_warning from space next) items))
-        (warned (list_any is_newline space) from MultipleSkippedLinesWarning (codes "\\\n" ++ space)
+        rw append_assoc (warned (list_any is_newline space) from MultipleSkippedLinesWarning (codes "\\\n" ++ space)
         (space_warning from space next ++ items) rest)
 
 all-in : (mode : Mode) (begin close : ℕ) (ss : List Stretch) (items : List Item)

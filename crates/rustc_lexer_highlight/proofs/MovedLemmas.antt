@@ -1,6 +1,6 @@
 -- The contents of a literal in a file, and the same contents with LF line endings.
 use Rattle.std.proofs.Common.{◌≡◌, ℕ, zero, suc, add-zero, ◌+◌, ◌≤◌, ◌⊎◌, inl, inr, nat_lt, get_or, append-nil}
-use Rattle.std.proofs.Common.{IsCharBoundary, IsUtf8, Bool, true, List, [], ◌∷◌, length, map, refl, sym, ap, ◌∙◌, arith}
+use Rattle.std.proofs.Common.{IsCharBoundary, IsUtf8, Bool, true, List, [], ◌∷◌, length, map, refl, ap, arith}
 use Rattle.std.proofs.Common.{Option, Result}
 use Rattle.std.specs.{Option.{option_map}, Result.{result_err}, Str.{chars}}
 use Rattle.std.proofs.lemmas.{Bool.{cases_lt, Decides.{nat_tests}}, Grind.{common_steps}, List.{map-append}}
@@ -37,8 +37,7 @@ place-byte (c ∷ s) (suc i) =
 
 pub place-le : (s : List ℕ) (i j : ℕ) → i ≤ j → place s i ≤ place s j
 place-le s i j le = elim (cases_lt i j) [
-  | inl less ↦ let l = place_less s i j less in
-      omega arith
+  | inl less ↦ omega (arith, place_less s i j less)
   | inr more ↦ let same : i ≡ j = omega arith in omega (arith, ap (place s) same)
 ]
 
@@ -110,10 +109,12 @@ single-error : {U : Type 0} (meaning : Element → Result U EscapeError) (mode :
     → kind (single_left text mode (unix (chars text))) ≡
     result_err (without_range (single_of meaning (chars (unix text))))
 single-error meaning mode text is same =
-    kind-moved text (single_error (reading.place (length (unix text))) mode (unix (chars text)))
-    ∙ (literal-error meaning mode (reading.place (length (unix text))) (unix (chars text)) same
-    ∙ (ap result_err (sym (literal_read meaning (unix (chars text))))
-    ∙ ap (λ (s : List ℕ). result_err (without_range (single_of meaning s))) (sym (chars-unix text is))))
+    cc (
+      kind-moved text (single_error (reading.place (length (unix text))) mode (unix (chars text))),
+      literal-error meaning mode (reading.place (length (unix text))) (unix (chars text)) same,
+      literal_read meaning (unix (chars text)),
+      chars-unix text is,
+    )
 
 -- Returns `Char` for a mode without single quotes.
 abbrev pub alone_mode : Mode → Mode
@@ -123,8 +124,6 @@ alone_mode mode = Char
 pub error_found : (mode picked : Mode) (text : List ℕ) (found : Option Error) → IsUtf8 text → picked ≡ alone_mode mode
     → found ≡ single_left text picked (unix (chars text)) → option_map (λ (e : Error). e.1) found ≡ char_error mode text
 error_found Byte picked text found is pick f =
-    ap kind (f ∙ ap (λ (m : Mode). single_left text m (unix (chars text))) pick)
-    ∙ single-error byte_of Byte text is (λ e. refl)
+    rw (f, pick) (single-error byte_of Byte text is (λ e. refl))
 error_found mode picked text found is pick f =
-    ap kind (f ∙ ap (λ (m : Mode). single_left text m (unix (chars text))) pick)
-    ∙ single-error char_of Char text is (λ e. refl)
+    rw (f, pick) (single-error char_of Char text is (λ e. refl))

@@ -1,6 +1,6 @@
 -- The text of a part with its markup, and the calls that write it.
 use Rattle.std.proofs.Common.{◌≡◌, ℕ, zero, suc, ◌%◌, ◌==◌, Bool, true, false, List, [], ◌∷◌, ◌++◌, length, take, drop}
-use Rattle.std.proofs.Common.{refl, sym, ap, subst, ◌∙◌, arith, append_assoc, not, take-append-drop, ◌-◌, append-nil}
+use Rattle.std.proofs.Common.{refl, ap, ◌∙◌, arith, append_assoc, not, take-append-drop, ◌-◌, append-nil}
 use Rattle.std.proofs.Common.{true≢false, ◌<◌, IsCharBoundary}
 use Rattle.std.proofs.Math.Seq.{drop-length, split_at}
 use Rattle.std.specs.{Prelude.{decimal}, Fmt.{digit_glyph, digits, digits_onto, WritesInCalls}}
@@ -80,16 +80,20 @@ shows_part part rest =
 -- A page displays all parts as their escaped text.
 pub shows : (ps : List Part) → untagged (with_markup Html ps) ≡ escaped (without_markup ps)
 shows [] = refl
-shows (p ∷ ps) = shows_part p (with_markup Html ps)
-    ∙ (ap (λ xs. escaped (own p) ++ xs) (shows ps) ∙ sym (flat_map-append escaped_byte (own p) (without_markup ps)))
+shows (p ∷ ps) =
+    cc (shows_part p (with_markup Html ps), shows ps, flat_map-append escaped_byte (own p) (without_markup ps))
 
 -- ---- the calls that write it
 
 with_markup-append : (format : Format) (ps qs : List Part) → with_markup format (ps ++ qs) ≡
     with_markup format ps ++ with_markup format qs
 with_markup-append format [] qs = refl
-with_markup-append format (p ∷ ps) qs = ap (λ xs. written format p ++ xs) (with_markup-append format ps qs)
-    ∙ sym (append_assoc (written format p) (with_markup format ps) (with_markup format qs))
+with_markup-append format (p ∷ ps) qs =
+    cc (
+      with_markup-append format ps qs,
+      append_assoc (written format p) (with_markup format ps)
+          (with_markup format qs),
+    )
 
 module _ {W : Type 0} (took : W → List ℕ → W → Type 0) where
   -- Writing two lists of parts writes both.
@@ -97,8 +101,7 @@ module _ {W : Type 0} (took : W → List ℕ → W → Type 0) where
       → WritesInCalls took w0 (with_markup format ps) w1 → WritesInCalls took w1 (with_markup format qs) w2
       → WritesInCalls took w0 (with_markup format (ps ++ qs)) w2
   writes_parts format ps qs w0 w1 w2 first more =
-      subst (λ (bs : List ℕ). WritesInCalls took w0 bs w2) (sym (with_markup-append format ps qs))
-      (writes_both took w0 w1 w2 _ _ first more)
+      rw (with_markup-append format ps qs) (writes_both took w0 w1 w2 _ _ first more)
 
   -- Writing the opening markup, the text and the closing markup writes a part.
   pub writes_in_class : (format : Format) (class : Class) (text : List ℕ) (w0 w1 w2 w3 : W) (before after : List ℕ)
@@ -107,8 +110,8 @@ module _ {W : Type 0} (took : W → List ℕ → W → Type 0) where
       → WritesInCalls took w0 (with_markup format (Own class text ∷ [])) w3
   writes_in_class format class [] w0 w1 w2 w3 before after some opens closes a b d = absurd (true≢false some)
   writes_in_class format class (x ∷ xs) w0 w1 w2 w3 before after some opens closes a b d =
-      let open_call = subst (λ (bs : List ℕ). took w0 bs w1) opens a in
-      let close_call = subst (λ (bs : List ℕ). took w2 bs w3) closes d in
+      let open_call = rw opens at a in
+      let close_call = rw closes at d in
       writes_both took w0 w3 w3 _ _ (
       writes_both took w0 w1 w3 _ _ (one_call took w0 w1 _ open_call) (
       writes_both took w1 w2 w3 _ _ b (one_call took w2 w3 _ close_call))) (no_calls took w3)
@@ -121,7 +124,7 @@ module _ {W : Type 0} (took : W → List ℕ → W → Type 0) where
       → WritesInCalls took w0 (with_markup format (malformed_parts error class text next)) w2
   writes_return format error class text next line w0 w1 w2 ends front a b =
       let same : length text - 1 - 0 ≡ length text - 1 = omega arith in
-      let is_line : line ≡ take (length text - 1) text = front ∙ ap (λ (k : ℕ). take k text) same in
+      let is_line : line ≡ take (length text - 1) text = rw same at front in
       let whole = writes_parts format (error_parts error class line) (Return ∷ []) w0 w1 w2 a
       (writes_both took w1 w2 w2 _ _ b (no_calls took w2)) in
       rw (ends, ← is_line) whole

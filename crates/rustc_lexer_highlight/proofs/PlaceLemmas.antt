@@ -1,5 +1,5 @@
 -- The first and the last byte of a text that pass a test.
-use Rattle.std.proofs.Common.{◌≡◌, ℕ, ◌+◌, ◌-◌, ◌<◌, ◌==◌, Bool, List, length, not, ap, sym, arith, ◌∙◌, Some, None}
+use Rattle.std.proofs.Common.{◌≡◌, ℕ, ◌+◌, ◌-◌, ◌<◌, ◌==◌, Bool, List, length, not, arith, Some, None}
 use Rattle.std.proofs.Common.{IsCharBoundary, IsUtf8}
 use Rattle.std.specs.List.{position_or_len}
 use Rattle.std.proofs.lemmas.Bool.{eqb-true, false_from_ne_true, not_from_false, not_from_true}
@@ -15,10 +15,8 @@ first_found test bytes text n same found = grind (arith, common_steps, position_
 pub first_none : (test : ℕ → Bool) (bytes text : List ℕ) → bytes ≡ text → IsFirstByte test bytes None
     → length text ≡ position_or_len test text
 first_none test bytes text same none =
-    ap length (sym same)
-    ∙ (sym (position_or_len_is test bytes (length bytes) 0 (omega arith)
+    cc (position_or_len_is test bytes (length bytes) 0 (omega arith)
     (λ k low. false_from_ne_true _ (none k (omega arith) low)) (λ low. absurd (omega arith)))
-    ∙ ap (position_or_len test) same)
 
 module _ (b : ℕ) (bytes text : List ℕ) where
   pub place_found : (n : ℕ) → bytes ≡ text → IsFirstByte (is_byte b) bytes (Some n) → n ≡ first_offset b text
@@ -37,14 +35,14 @@ module _ (b : ℕ) (bytes text : List ℕ) where
       let long = suffix_len_is (λ x. not (x == b)) bytes (n + 1) 0 (omega arith)
       (λ k low less. not_from_false _ (false_from_ne_true _ (found.0.after k low less)))
       (λ _. rw back (not_from_true _ found.1)) in
-      let here : n ≡ last_offset b bytes = omega arith in here ∙ ap (last_offset b) same
+      let here : n ≡ last_offset b bytes = omega arith in cc
 
   pub last_none : bytes ≡ text → IsLastByte (is_byte b) bytes None → 0 ≡ last_offset b text
   unfolding last_offset
   last_none same none =
       let long = suffix_len_is (λ x. not (x == b)) bytes 0 0 (omega arith)
       (λ k low less. not_from_false _ (false_from_ne_true _ (none k low less))) (λ some. absurd (omega arith)) in
-      let here : 0 ≡ last_offset b bytes = omega arith in here ∙ ap (last_offset b) same
+      let here : 0 ≡ last_offset b bytes = omega arith in cc
 
   -- The end of an ASCII byte is a char boundary.
   pub past_first : (n : ℕ) → bytes ≡ text → IsUtf8 text → b < 128 → IsFirstByte (is_byte b) bytes (Some n)

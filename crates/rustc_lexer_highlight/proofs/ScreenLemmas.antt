@@ -1,20 +1,16 @@
 -- The output for a terminal: the calls that write it, and that it contains no control characters other than tabs and
 -- line endings.
-use Rattle.std.proofs.Common.{◌≡◌, ℕ, ◌+◌, ◌<◌, ◌≤◌, ◌==◌, Bool, true, false, ◌&&◌, ◌||◌, not}
-use Rattle.std.proofs.Common.{inl, inr, List, [], ◌∷◌, ◌++◌, length, take, drop, get_or, refl, sym, ap, subst, ◌∙◌}
-use Rattle.std.proofs.Common.{arith, length-append, length-drop, take-append-drop, Some, None, IsCharBoundary}
-use Rattle.std.specs.{Char.{encode_utf8, is_control}, Fmt.{WritesInCalls}, List.{list_all, list_any}}
-use Rattle.std.specs.Str.{IsUtf8, chars, encode_utf8_all}
-use Rattle.std.proofs.lemmas.Bool.{cases_Bool, cases_lt, false_from_ne_true, Decides.{nat_tests}}
-use Rattle.std.proofs.lemmas.Grind.{common_steps}
-use Rattle.std.proofs.lemmas.List.{get_or-append-add, get_or-take, length-take}
-use Rattle.std.proofs.lemmas.Str.{encode_ascii, IsUtf8-take, chars-append}
-use Rattle.std.proofs.lemmas.Str.{encodes-append, encodes-chars, length-encode, len_utf8_bounds}
+use Rattle.std.proofs.Common.{◌≡◌, ℕ, ◌+◌, ◌<◌, ◌≤◌, ◌==◌, Bool, true, false, ◌&&◌, ◌||◌, not, inl, inr, List, [], ◌∷◌}
+use Rattle.std.proofs.Common.{◌++◌, length, take, drop, get_or, refl, sym, ap, ◌∙◌, arith, length-append}
+use Rattle.std.proofs.{Common.{length-drop, take-append-drop, Some, None, IsCharBoundary}, lemmas.Bool.{cases_Bool}}
+use Rattle.std.proofs.lemmas.{Bool.{cases_lt, false_from_ne_true, Decides.{nat_tests}}, Grind.{common_steps}}
+use Rattle.std.proofs.lemmas.{List.{get_or-append-add, get_or-take, length-take}, Str.{encode_ascii, IsUtf8-take}}
+use Rattle.std.proofs.lemmas.Str.{chars-append, encodes-append, encodes-chars, length-encode, len_utf8_bounds}
+use Rattle.std.specs.{Char.{encode_utf8, is_control}, Fmt.{WritesInCalls}, List.{list_all, list_any}, Str.{IsUtf8}}
+use Rattle.std.specs.Str.{chars, encode_utf8_all}
 use Rattle.memchr.specs.Find.{IsFirstByte}
-use Rattle.rustc_lexer_highlight.specs.declared.class.Class.{Class}
-use Rattle.rustc_lexer_highlight.specs.Screen.{at_line_end, is_layout, is_replaceable, is_shown, may_begin_replaceable}
-use Rattle.rustc_lexer_highlight.specs.Screen.{seen, seen_char}
-use Rattle.rustc_lexer_highlight.specs.Screen.{symbol}
+use Rattle.rustc_lexer_highlight.specs.{declared.class.Class.{Class}, Screen.{at_line_end, is_layout, is_replaceable}}
+use Rattle.rustc_lexer_highlight.specs.Screen.{is_shown, may_begin_replaceable, seen, seen_char, symbol}
 use Rattle.rustc_lexer_highlight.proofs.CallLemmas.{one_call, writes_both}
 
 far : (c : ℕ) → 160 ≤ c → is_shown c ≡ true
@@ -100,7 +96,7 @@ front_irreplaceable bs n utf8 found =
     let long = length-take n bs in
     irreplaceable_text (take n bs) (IsUtf8-take bs n utf8 (may_cut bs n found))
     (λ k less set. found.0.before k (omega arith) (omega arith)
-    (subst (λ (b : ℕ). may_begin_replaceable b ≡ true) (get_or-take n bs k 0 (omega arith)) set))
+    (rw (get_or-take n bs k 0 (omega arith)) at set))
 
 -- Divides a text at the first byte that can start a replaceable character: the text before it, the character, and the
 -- rest.
@@ -111,9 +107,13 @@ pub splits : (text front rest past : List ℕ) (c n : ℕ) → IsUtf8 text → I
     × (length past < length text)
 splits text front rest past c n utf8 found is_front is_rest reads less =
     let long = ap length is_rest ∙ length-drop n text in
-    let cut : chars text ≡ chars (take n text) ++ chars (drop n text) = ap chars (sym (take-append-drop n text))
-    ∙ chars-append (take n text) (drop n text) (IsUtf8-take text n utf8 (may_cut text n found)) in (
-      ap (λ (xs : List ℕ). list_any is_replaceable (chars xs)) is_front ∙ front_irreplaceable text n utf8 found,
+    let cut : chars text ≡ chars (take n text) ++ chars (drop n text) =
+    cc (
+      take-append-drop n text,
+      chars-append (take n text) (drop n text)
+          (IsUtf8-take text n utf8 (may_cut text n found)),
+    ) in (
+      rw is_front (front_irreplaceable text n utf8 found),
       rw (is_front, ← reads, is_rest) cut,
       omega arith,
     )
@@ -121,18 +121,13 @@ splits text front rest past c n utf8 found is_front is_rest reads less =
 pub some_left : (text rest : List ℕ) (n : ℕ) → IsUtf8 rest → IsFirstByte may_begin_replaceable text (Some n)
     → rest ≡ drop n text → chars rest ≡ [] → ⊥
 some_left text rest n utf8 found is none =
-    let high = found.0.high in
     let empty : [] ≡ rest = sym (ap encode_utf8_all none) ∙ encodes-chars rest utf8 in
-    let long = ap length is ∙ length-drop n text in
-    let short = ap length empty in
-    omega arith
+    omega (arith, found.0.high, ap length is, length-drop n text, ap length empty)
 
 pub none_replaceable : (bs text : List ℕ) → bs ≡ text → IsUtf8 text → IsFirstByte may_begin_replaceable bs None
     → list_any is_replaceable (chars text) ≡ false
 none_replaceable bs text same utf8 none =
-    irreplaceable_text text utf8
-    (λ k less set. subst (λ (xs : List ℕ). IsFirstByte may_begin_replaceable xs None) same none k
-    (omega arith) less set)
+    irreplaceable_text text utf8 (λ k less set. (rw same at none) k (omega arith) less set)
 
 module _ {W : Type 0} (took : W → List ℕ → W → Type 0) where
   -- Writing the text before a character, that character or its symbol, and then the rest writes the text, if no
@@ -150,8 +145,7 @@ module _ {W : Type 0} (took : W → List ℕ → W → Type 0) where
       ∙ ap encode_utf8_all (seen-append class (chars front) (c ∷ chars rest) none)
       ∙ encodes-append (chars front) (seen class (c ∷ chars rest))
       ∙ rw (encodes-chars front utf8, is) refl in
-      subst (λ (xs : List ℕ). WritesInCalls took w0 xs w) (sym split)
-      (writes_both took w0 w1 w _ _ (one_call took w0 w1 front a)
+      rw split (writes_both took w0 w1 w _ _ (one_call took w0 w1 front a)
       (writes_both took w1 w2 w _ _ (one_call took w1 w2 _ b) more))
 
   pub writes_irreplaceable : (class : Class) (w v : W) (bs : List ℕ) → IsUtf8 bs → list_any is_replaceable (chars bs) ≡

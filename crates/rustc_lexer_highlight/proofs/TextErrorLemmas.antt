@@ -1,6 +1,6 @@
 -- Bare carriage returns, and ranges of a text whose offsets can be after its end.
 use Rattle.std.proofs.Common.{◌≡◌, ℕ, zero, suc, ◌+◌, ◌-◌, ◌<◌, ◌||◌, true, false, List, [], ◌∷◌, drop, take, length}
-use Rattle.std.proofs.Common.{get_or, min, sym, ap, refl, arith, ◌∙◌, Some, None}
+use Rattle.std.proofs.Common.{get_or, min, ap, refl, arith, ◌∙◌, Some, None}
 use Rattle.std.specs.{List.{between, list_any}, Str.{IsAscii, chars}}
 use Rattle.std.proofs.lemmas.{Bool.{false_from_ne_true, Decides.{nat_tests}}, Grind.{common_steps}}
 use Rattle.std.proofs.lemmas.List.{drop_min, length-take, take_min, Elements.{All-from_get_or}, Folds.{list_any_none}}
@@ -56,10 +56,8 @@ pub digits_here : (n : ℕ) (text : List ℕ) → between (min (min n (length te
 digits_here n text =
     let end : ℕ = min n (length text) in
     let long = length-take n text in
-    between_is text (min end 2) end ∙ ap (drop (min end 2)) (take_min n text)
-    ∙ ap (λ (k : ℕ). drop k (take n text)) (let same : min end 2 ≡ min 2 (length (take n text)) = omega (arith, long) in
-    same)
-    ∙ drop_min 2 (take n text) ∙ sym (between_is text 2 n)
+    let same : min end 2 ≡ min 2 (length (take n text)) = omega (arith, long) in
+    cc (between_is text (min end 2) end, take_min n text, drop_min 2 (take n text), between_is text 2 n)
 
 pub suffix_here : (n : ℕ) (text : List ℕ) → take (length text - min n (length text)) (drop (min n (length text)) text) ≡
     drop n text

@@ -54,7 +54,7 @@ impl<'a> EscapeErrorsInFile<'a> {
     /// Returns an iterator over the errors and warnings of a literal.
     ///
     /// `contents` is the text between the quotes.
-    #[tactic(auto, using(crate::proofs::FileErrorLemmas::error_lemmas, std::proofs::lemmas::Grind::common_steps))]
+    #[tactic(auto, using(crate::proofs::FileErrorLemmas::error_lemmas))]
     pub fn new(contents: &'a str, mode: Mode) -> EscapeErrorsInFile<'a>
         ensures { result ≡ escape_errors_in_file mode contents.now }
     {

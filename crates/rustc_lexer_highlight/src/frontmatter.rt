@@ -61,7 +61,7 @@ fn is_end(rest: &[u8]) -> bool
 }
 
 /// Returns the length of the longest prefix that consists of these bytes.
-#[tactic(auto, using(crate::proofs::FrontmatterLemmas::run_lemmas, std::proofs::lemmas::Grind::common_steps))]
+#[tactic(auto, using(crate::proofs::FrontmatterLemmas::run_lemmas))]
 pub fn run_of(these: &[u8], bytes: &[u8]) -> usize
     ensures value { result ≡ prefix_len (spec.is_of these.now) bytes.now }
     ensures inside { result ≤ length bytes.now }

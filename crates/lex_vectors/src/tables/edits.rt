@@ -25,22 +25,22 @@ macro_rules! edits {
         $($made:literal)?
         [$($token:expr),* $(,)?]),* $(,)?) => {
         &[$(
-            $($($crate::tables::row::Entry::Fragment($part, 1 $(* $times)?),)+)?
-            $($crate::tables::row::Entry::Fragment($text, 1),)?
-            $crate::tables::row::Entry::End($crate::tables::edits::Role::Before(rustc_lexer::Edition::$edition)),
+            $($(Entry::Fragment($part, 1 $(* $times)?),)+)?
+            $(Entry::Fragment($text, 1),)?
+            Entry::End(Role::Before(rustc_lexer::Edition::$edition)),
             $(
-                $($($crate::tables::row::Entry::Fragment($new_part, 1 $(* $new_times)?),)+)?
-                $($crate::tables::row::Entry::Fragment($new, 1),)?
-                $crate::tables::row::Entry::End($crate::tables::edits::Role::Edit(
+                $($(Entry::Fragment($new_part, 1 $(* $new_times)?),)+)?
+                $(Entry::Fragment($new, 1),)?
+                Entry::End(Role::Edit(
                     $start,
                     $stop,
                     $crate::tables::edits::counts!($($kept_front, $lexed, $kept_back)?),
                 )),
             )*
-            $($($($crate::tables::row::Entry::Token($of_each),)* $crate::tables::row::Entry::Fragment($each, 1 $(* $each_times)?),)+)?
-            $($crate::tables::row::Entry::Fragment($made, 1),)?
-            $($crate::tables::row::Entry::Token($token),)*
-            $crate::tables::row::Entry::End($crate::tables::edits::Role::After),
+            $($($(Entry::Token($of_each),)* Entry::Fragment($each, 1 $(* $each_times)?),)+)?
+            $(Entry::Fragment($made, 1),)?
+            $(Entry::Token($token),)*
+            Entry::End(Role::After),
         )*]
     };
 }

@@ -77,16 +77,16 @@ macro_rules! rows {
         $([$($part:literal $(* $times:literal)?),+])? $($text:literal)? $($name:ident)?
         => [$($token:expr),* $(,)?]),* $(,)?) => {
         &[$(
-            $($($($crate::tables::row::Entry::Token($of_each),)* $crate::tables::row::Entry::Fragment($each, 1 $(* $each_times)?),)+)?
-            $($($crate::tables::row::Entry::Fragment($part, 1 $(* $times)?),)+)?
-            $($crate::tables::row::Entry::Fragment($text, 1),)?
-            $($crate::tables::row::Entry::Fragment($name, 1),)?
-            $($crate::tables::row::Entry::Token($token),)*
-            $crate::tables::row::Entry::End($ways),
+            $($($(Entry::Token($of_each),)* Entry::Fragment($each, 1 $(* $each_times)?),)+)?
+            $($(Entry::Fragment($part, 1 $(* $times)?),)+)?
+            $(Entry::Fragment($text, 1),)?
+            $(Entry::Fragment($name, 1),)?
+            $(Entry::Token($token),)*
+            Entry::End($ways),
         )*]
     };
     ($ways:ident: $($text:tt => $tokens:tt),* $(,)?) => {
-        $crate::tables::row::rows!($($ways: $text => $tokens),*)
+        rows!($($ways: $text => $tokens),*)
     };
 }
 

@@ -11,7 +11,6 @@ pub returns-clause-enough : goal.returns-clause-enough
 returns-clause-enough g c =
     let text = c.args.lexed.now.text in
     let is : IsText text = subst IsText c.text.ensures.text record { utf8 = c.text.utf8; fits = c.text.ensures.fits } in
-    enough_for (g.S.Stepper.law c.args.lexed.now.stepper) text is c.args.start c.args.stop c.args.insert.now
-    c.utf8.insert c.requires.accepted c.edit.result _ _ _
+    enough_for (g.S.Stepper.law c.args.lexed.now.stepper) text is _ _ _ c.utf8.insert c.requires.accepted _ _ _ _
     (sym c.tokens.ensures.tokens ∙ c.tokens.ensures.from_scratch) c.edit.ensures.edited.from_scratch
     c.edit.ensures.edited.text c.edit.ensures.edited.relexed

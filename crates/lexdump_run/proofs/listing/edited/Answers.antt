@@ -1,8 +1,8 @@
-use Rattle.std.proofs.{Common.{List, ℕ, arith, ap, ◌∙◌, subst}, lemmas.Grind.{common_steps}}
+use Rattle.std.proofs.{Common.{List, ℕ, arith, ap, ◌∙◌}, lemmas.Grind.{common_steps}}
 use Rattle.rustc_lexer.specs.declared.relex.{edit.Edit.{Edit as TextEdit}, edit_list.EditStop.{EditStop}}
 use Rattle.lexdump_run.specs.{Fault.{stop_fault}, Outcome.{IsRefused, StopsAt}}
 use Rattle.lexdump_run.proofs.listing.edited.Goals as goal
-use Rattle.rustc_lexer.specs.{Edits.{IsStop}, LanguageText.{part}, Locality.{Grammar}}
+use Rattle.rustc_lexer.specs.{LanguageText.{part}, Locality.{Grammar}}
 use Rattle.rustc_lexer.specs.Tokens.{tokens_by, tokens_of}
 
 refused : (text : List ℕ) (edits : List TextEdit) (stop : EditStop) → StopsAt stop text edits
@@ -13,10 +13,9 @@ pub returns-in-Err-clause-err : goal.returns-in-Err-clause-err
 returns-in-Err-clause-err c =
     let stop = c.in-Err.ensures.made in
     rw (c.stop_fault.ensures, ← c.in_ok-lexed.ensures.text)
-    (refused c.in_ok-lexed.lexed.text c.args.edits.now c.in-Err.stop (
+    (refused _ _ _ (
       stop.stop_accepted,
-      subst (λ (text : List ℕ). IsStop c.in-Err.stop text c.args.edits.now) stop.stop_text
-          stop.stop,
+      rw stop.stop_text at stop.stop,
     ))
 
 pub returns-in-Ok-clause-ok : goal.returns-in-Ok-clause-ok

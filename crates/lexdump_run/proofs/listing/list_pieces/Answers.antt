@@ -4,9 +4,9 @@ use Rattle.lexdump_run.proofs.listing.list_pieces.Goals as goal
 
 pub loop-piece-preserved : goal.loop-piece-preserved
 loop-piece-preserved g c =
-    pushing_first _ _ _ _ _ _ _ _ c.loop-piece.invariant (ap lines c.in-Some.ensures.steps.0) c.in_ok-push_line.ensures
+    pushing_first c.loop-piece.invariant (ap lines c.in-Some.ensures.steps.0) c.in_ok-push_line.ensures
 
 pub returns-in_err-push_line : goal.returns-in_err-push_line
 returns-in_err-push_line g c =
-    pushing_stopped _ _ _ _ _ _ _ _ c.loop-piece.invariant (ap lines c.in-Some.ensures.steps.0) _ _
+    pushing_stopped _ _ c.loop-piece.invariant (ap lines c.in-Some.ensures.steps.0)
     c.in_err-push_line.ensures c.from_residual.ensures.1

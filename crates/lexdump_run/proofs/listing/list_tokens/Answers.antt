@@ -7,7 +7,7 @@ use Rattle.std.proofs.lemmas.Grind.{common_steps}
 
 pub left-preserved : goal.left-preserved
 left-preserved g c =
-    let leaves = past_fill c.left.tokens c.fill-count.new.self (length c.left.buffer) c.fill-count.result
+    let leaves = past_fill c.left.tokens _ (length c.left.buffer) _
     (subst IsText c.as_str-in-left.ensures.rest record
     { utf8 = c.as_str-in-left.utf8; fits = c.as_str-in-left.ensures.fits }) c.as_str-in-left.ensures.pending
     c.fill-count.ensures.count c.fill-count.ensures.state in
@@ -20,9 +20,8 @@ left-preserved g c =
                 c.left.tokens.rest,
             c.left.invariant.within,
           );
-      lines = pushing_first _ _ _ _ _ _ _ _ c.left.invariant.lines
-          (buffer-split c.args.text.now c.as_str-in-left.result.now c.left.tokens.rest c.left.tokens.mode c.left.buffer
-          c.fill-count.new.buffer c.fill-count.result c.as_str-in-left.ensures.rest c.as_str-in-left.utf8
+      lines = pushing_first c.left.invariant.lines
+          (buffer-split _ _ _ _ c.left.buffer _ _ c.as_str-in-left.ensures.rest c.as_str-in-left.utf8
           c.left.invariant.within c.requires
           (record { as_many = c.fill-count.ensures.count; tokens = c.fill-count.ensures.tokens }) _ _ leaves.tokens
           leaves.rest)
@@ -31,7 +30,7 @@ left-preserved g c =
 
 pub left-smaller : goal.left-smaller
 left-smaller g c =
-    let leaves = past_fill c.left.tokens c.fill-count.new.self (length c.left.buffer) c.fill-count.result
+    let leaves = past_fill c.left.tokens _ (length c.left.buffer) _
     (subst IsText c.as_str-in-left.ensures.rest record
     { utf8 = c.as_str-in-left.utf8; fits = c.as_str-in-left.ensures.fits }) c.as_str-in-left.ensures.pending
     c.fill-count.ensures.count c.fill-count.ensures.state in
@@ -40,9 +39,8 @@ left-smaller g c =
 
 pub returns-in_err-push_lines : goal.returns-in_err-push_lines
 returns-in_err-push_lines g c =
-    pushing_stopped _ _ _ _ _ _ _ _ c.left.invariant.lines
-    (buffer-split c.args.text.now c.as_str-in-left.result.now c.left.tokens.rest c.left.tokens.mode c.left.buffer
-    c.fill-count.new.buffer c.fill-count.result c.as_str-in-left.ensures.rest c.as_str-in-left.utf8
+    pushing_stopped _ _ c.left.invariant.lines
+    (buffer-split _ _ _ _ c.left.buffer _ _ c.as_str-in-left.ensures.rest c.as_str-in-left.utf8
     c.left.invariant.within c.requires
     (record { as_many = c.fill-count.ensures.count; tokens = c.fill-count.ensures.tokens }) _ _ refl refl)
-    _ _ c.in_err-push_lines.ensures c.from_residual.ensures.1
+    c.in_err-push_lines.ensures c.from_residual.ensures.1

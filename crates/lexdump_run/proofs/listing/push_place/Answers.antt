@@ -1,7 +1,6 @@
-use Rattle.std.proofs.Common.{◌≡◌, ◌≤◌, ◌+◌, ℕ, List, length, ◌∙◌, refl, arith, subst}
+use Rattle.std.proofs.Common.{◌≡◌, ◌≤◌, ◌+◌, length, refl, arith}
 use Rattle.std.specs.Fmt.{decimal}
-use Rattle.lexdump_run.specs.Pushed.{Pushes}
-use Rattle.lexdump_run.proofs.PlaceLemmas.{short, place-written, same-place}
+use Rattle.lexdump_run.proofs.PlaceLemmas.{short, place-written}
 use Rattle.lexdump_run.proofs.listing.push_place.Goals as goal
 
 pub returns : goal.returns
@@ -13,5 +12,4 @@ returns g c =
     let is = place-written c.from-2.result c.from.result _ _ _ _ _ refl one
     (omega arith) at c.write_digits-len_at.ensures.written c.write_digits-len_at.ensures.before two
     c.write_digits-start_at.ensures.written in
-    subst (λ (xs : List ℕ). Pushes g.W.Write.contents c.args.lines.now c.push_bytes.new.self xs c.push_bytes.result)
-    (is ∙ same-place _ _ _ _ c.from-2.ensures c.from.ensures) c.push_bytes.ensures
+    rw (is, c.from-2.ensures, c.from.ensures) at c.push_bytes.ensures

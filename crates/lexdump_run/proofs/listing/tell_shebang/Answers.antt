@@ -5,5 +5,5 @@ use Rattle.lexdump_run.proofs.listing.tell_shebang.Goals as goal
 
 pub returns-in_ok-push_number-in-Some : goal.returns-in_ok-push_number-in-Some
 returns-in_ok-push_number-in-Some g c =
-    pushes_both _ _ _ _ _ _ _ _ (ap shebang_line (sym c.in-Some.ensures.line)) c.in_ok-push_number-in-Some.ensures
+    pushes_both _ (ap shebang_line (sym c.in-Some.ensures.line)) c.in_ok-push_number-in-Some.ensures
     c.push.ensures

@@ -4,8 +4,7 @@ use Rattle.lexdump_run.proofs.run_job.run.Goals as goal
 
 pub returns-clause-ends : goal.returns-clause-ends
 returns-clause-ends g c =
-    ends_listed g.W.Write.contents c.args.job.now _ c.as_str.result.now c.new-lines.result c.print.new.lines
-    c.finish.new.self _ _ c.finish.result
+    ends_listed g.W.Write.contents _ _ c.as_str.result.now _ _ _ _ _ _
     (rw c.as_str.ensures.value c.in_ok-text.ensures.bytes) c.as_str.utf8
     (rw c.as_str.ensures.value c.in_ok-text.ensures.fits) c.new-lines.ensures.none
     (ap (λ w. g.W.Write.contents w.inner) c.new-lines.ensures.output)

@@ -1,4 +1,4 @@
-use Rattle.std.proofs.Common.{◌≡◌, ◌-◌, ℕ, List, length, ap, ◌∙◌, arith}
+use Rattle.std.proofs.Common.{◌≡◌, ◌-◌, ℕ, List, length, ap, arith}
 use Rattle.rustc_lexer.specs.declared.{edition.Edition.{Edition}, token.FrontmatterAllowed.{FrontmatterAllowed}}
 use Rattle.rustc_lexer.specs.{LanguageText.{mode_in}, Classes.{IsText}, State.{State}, laws.State.{state}}
 use Rattle.rustc_lexer_c.specs.Batch.{state_at}
@@ -9,18 +9,15 @@ begun : (edition : Edition) (rest cut : List ℕ) (allowed given : FrontmatterAl
     → s ≡ record { pending = 0; rest = rest; mode = mode_in allowed edition } → rest ≡ cut → allowed ≡ given
     → s ≡ record { pending = 0; rest = cut; mode = mode_in given edition }
 begun edition rest cut allowed given s e f g =
-    e ∙ (ap (λ xs. state 0 xs (mode_in allowed edition)) f
-    ∙ ap (λ (a : FrontmatterAllowed). state 0 cut (mode_in a edition)) g)
+    rw (← f, ← g) e
 
 pub returns : goal.returns
 returns c =
     let text : List ℕ = c.args.text.now in
     let is : IsText text = record { utf8 = c.utf8.text; fits = c.requires.fits } in
     let from : c.tokenize_as-tokens.result ≡ state_at c.args.edition text c.args.place.now =
-    begun c.args.edition _ _ _ _ c.tokenize_as-tokens.result c.tokenize_as-tokens.ensures.state
-    c.range_from.ensures.value c.allowed_of-allowed.ensures in
-    batch_is c.args.edition text is c.args.place.now c.requires.boundary c.tokenize_as-tokens.result
-    c.fill-count.new.self c.args.buffer.now c.fill-count.new.buffer c.fill-count.result from
+    begun _ _ _ _ _ _ c.tokenize_as-tokens.ensures.state c.range_from.ensures.value c.allowed_of-allowed.ensures in
+    batch_is _ _ is _ c.requires.boundary _ _ _ _ _ from
     (record { as_many = c.fill-count.ensures.count; tokens = c.fill-count.ensures.tokens }) c.fill-count.ensures.state _
     c.frontmatter_allowed.result
     (ap (λ (xs : List ℕ). length text - length xs) c.as_str.ensures.rest) c.frontmatter_allowed.ensures
@@ -31,13 +28,11 @@ overflow_sub-place c =
     let text : List ℕ = c.args.text.now in
     let is : IsText text = record { utf8 = c.utf8.text; fits = c.requires.fits } in
     let from : c.tokenize_as-tokens.result ≡ state_at c.args.edition text c.args.place.now =
-    begun c.args.edition _ _ _ _ c.tokenize_as-tokens.result c.tokenize_as-tokens.ensures.state
-    c.range_from.ensures.value c.allowed_of-allowed.ensures in
+    begun _ _ _ _ _ _ c.tokenize_as-tokens.ensures.state c.range_from.ensures.value c.allowed_of-allowed.ensures in
     omega (
       arith,
-      ap (λ (xs : List ℕ). length xs) c.as_str.ensures.rest,
-      left_within c.args.edition text is c.args.place.now c.requires.boundary c.tokenize_as-tokens.result
-          c.fill-count.new.self c.args.buffer.now c.fill-count.new.buffer c.fill-count.result from
+      ap length c.as_str.ensures.rest,
+      left_within _ _ is _ c.requires.boundary _ _ _ _ _ from
           (record { as_many = c.fill-count.ensures.count; tokens = c.fill-count.ensures.tokens })
           c.fill-count.ensures.state,
     )

@@ -8,5 +8,5 @@ returns g c = grind (arith, common_steps, rules, units_done, count_first, all_ta
 
 pub returns-then-is_none : goal.returns-then-is_none
 returns-then-is_none g c =
-    none_left (g.U.Units.units c.args.units) _ _ c.passed.over c.args.passed c.args.buffer.now _ c.passed.invariant.left
+    none_left _ _ _ _ _ _ _ c.passed.invariant.left
     c.passed.invariant.low (c.if-is_none.ensures) c.next_unit.ensures

@@ -1,4 +1,4 @@
-use Rattle.std.proofs.Common.{ℕ, List, sym, true≢false, ◌∙◌}
+use Rattle.std.proofs.Common.{ℕ, List, sym}
 use Rattle.rustc_lexer.specs.{Classes.{IsText}, Relexing.{IsChange}}
 use Rattle.rustc_lexer_c.proofs.HeadLemmas.{Changes, found, refused_body, refused_edit}
 use Rattle.rustc_lexer_c.specs.Relex.{change_of}
@@ -9,9 +9,9 @@ returns-then-not-is_valid_for c =
     let text : List ℕ = c.in-Ok.text.now in
     let is : IsText text = rw c.in-Ok.ensures.0 c.in-Ok.ensures.1 in
     let not : ¬ (IsChange text (change_of c.args.edit.now)) =
-    λ fine. true≢false (sym (c.is_valid_for.ensures.1 (rw c.change_of-change.ensures fine)) ∙ c.if-not-is_valid_for.true) in
+    λ fine. let valid = c.is_valid_for.ensures.1 (rw c.change_of-change.ensures fine) in cc in
     rw (← c.in-Ok.ensures.0, c.number-then-not-is_valid_for.ensures)
-    (refused_edit text is c.args.edit.now c.args.head.now c.args.body_edit.now c.args.head_kept.now not)
+    (refused_edit _ is _ _ _ _ not)
 
 pub returns-then-not-is_valid_for-2 : goal.returns-then-not-is_valid_for-2
 returns-then-not-is_valid_for-2 c =
@@ -21,11 +21,9 @@ returns-then-not-is_valid_for-2 c =
     let all : Changes c.args.head.now c.args.edit.now c.find-now.result body.keeps_head body.change =
     rw (sym c.head_of.ensures.head, sym c.change_of-change.ensures) c.change_to-body.ensures.body in
     let not : ¬ (IsChange c.range_from.result.now body.change) =
-    λ may. true≢false (sym (c.is_valid_for-2.ensures.1 may) ∙ c.if-not-is_valid_for-2.true) in
+    λ may. let valid = c.is_valid_for-2.ensures.1 may in cc in
     rw (← c.in-Ok.ensures.0, c.number-then-not-is_valid_for-2.ensures)
-    (refused_body text is c.args.edit.now c.args.head.now c.args.body_edit.now c.args.head_kept.now
-    c.find-now.result body.keeps_head body.change c.find-now.ensures.head all
-    (rw c.range_from.ensures.value at not))
+    (refused_body _ is _ _ _ _ _ _ _ c.find-now.ensures.head all (rw c.range_from.ensures.value at not))
 
 pub returns : goal.returns
 returns c =
@@ -37,5 +35,4 @@ returns c =
     let fine = rw c.change_of-change.ensures at (c.is_valid_for.ensures.0 c.if-not-is_valid_for.false) in
     let may = rw c.range_from.ensures.value at (c.is_valid_for-2.ensures.0 c.if-not-is_valid_for-2.false) in
     rw (← c.in-Ok.ensures.0, c.numbers_of_head.ensures, c.edit_of.ensures, c.from.ensures)
-    (found text is c.args.edit.now c.args.head.now c.args.body_edit.now c.args.head_kept.now c.find-now.result
-    body.keeps_head body.change c.find-now.ensures.head all fine may)
+    (found _ is _ _ _ _ _ _ _ c.find-now.ensures.head all fine may)

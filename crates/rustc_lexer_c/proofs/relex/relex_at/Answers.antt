@@ -39,9 +39,9 @@ returns-clause-some c =
     let state = c.in-Some.ensures.some.1 in
     if_some c.resume.result c.resume.ensures.some (λ r is.
     let at = ap (λ (m : RelexModel). m.at) is ∙ state in (
-      ap (λ (m : RelexModel). m.text) is,
-      ap (λ (m : RelexModel). m.lengths) is,
-      ap (λ (m : RelexModel). m.change) is,
+      rw is refl,
+      rw is refl,
+      rw is refl,
       rw at (grind (arith, common_steps, later)),
       λ _. rw at refl,
       λ first before insert law made passed. rw at (passed.under_way later),

@@ -1,7 +1,7 @@
 use Rattle.std.proofs.Common.{◌≡◌, ◌<◌, List, ℕ, ◌++◌, length, map, take, drop, subst, true, ◌∙◌, Some}
 use Rattle.std.proofs.lemmas.List.{length-map}
 use Rattle.rustc_lexer.specs.{declared.relex.relexing.Change.{Change}, Classes.{IsText}, Relexing.{known}}
-use Rattle.rustc_lexer.specs.{Relexing.{IsMadeOf, IsUnderWay, TakesSteps, is_done}, Answers.{grammar_of}}
+use Rattle.rustc_lexer.specs.{Relexing.{IsMadeOf, IsUnderWay, TakesSteps, is_done}}
 use Rattle.rustc_lexer.specs.{LanguageCalls.{edition_of_year}, Locality.{Grammar}, Tokens.{tokens_by}}
 use Rattle.rustc_lexer_c.specs.{declared.token.CToken.{CToken}, Numbers.{token_numbers}, Relex.{change_of}}
 use Rattle.rustc_lexer_c.proofs.RelexLemmas.{none_some, relexed}
@@ -29,19 +29,14 @@ returns c =
     → IsUnderWay g.first before ch t now.at
     × (tokens_by g.first (drop begin.at.at t) ≡ drop (known begin.at) (tokens_by g.first t)))
     × (c.fill.result < length c.args.buffer.now → is_done t now.at ≡ true) in
-    let grammar : Grammar = grammar_of c.in-Some.edition in
     let begun = subst (λ (g : Grammar). Fills g begin.text begin.lengths begin.change) c.new_in.ensures.grammar
     (f.steps, f.tokens, f.under_way, f.over) in
-    let changed = subst (λ (ch : Change). Fills grammar begin.text begin.lengths ch) change_is begun in
-    let old_are = subst (λ (ls : List ℕ). Fills grammar begin.text ls change) some.1 changed in
-    let fills = subst (λ (t : List ℕ). Fills grammar t lens change) some.0 old_are in
+    let fills = rw (change_is, some.1, some.0) at begun in
     let numbers = rw (text_is, lens_are, many) at c.relexing_numbers.ensures.numbers in
     let may = rw (text_is, lens_are, many) at c.relexing_numbers.ensures.can_continue in
     let passes = rw c.change_of.ensures at some.5 in
     let year_is : edition_of_year c.args.edition ≡ Some c.in-Some.edition = cc in
     let asked = rw c.change_of.ensures at c.in-Some-relex_at.ensures.none.1 in
     rw (← c.in-Ok.ensures.0, numbers)
-    (relexed c.in-Some.edition text c.args.old.now c.args.edit.now c.args.relexing.now c.args.buffer.now
-    c.fill.new.buffer c.fill.result begin.at now.at
-    is c.args.edition year_is (λ not. none_some (asked not)) f.buffer fills.0 fills.1 may fills.3 some.3 some.4 passes
-    fills.2)
+    (relexed _ _ _ _ _ _ _ _ _ _ f.buffer fills.0 fills.1 may fills.3 some.3 some.4 passes fills.2 is _ year_is
+    (λ not. none_some (asked not)))

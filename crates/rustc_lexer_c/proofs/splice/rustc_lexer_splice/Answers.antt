@@ -11,8 +11,7 @@ returns c =
     omega (arith, inside, apart, c.if-lexed-places.false) in
     record {
       list = λ _. rw c.done.ensures.written
-          (put_between c.args.buffer.now c.args.lexed.now c.args.kept_front c.args.kept_back c.args.count.now apart
-          inside room c.copy_within.new.self c.put.new.all c.copy_within.ensures.after c.put.ensures);
+          (put_between _ _ _ _ _ apart inside room _ _ c.copy_within.ensures.after c.put.ensures);
       count_is = λ _. c.done.ensures.written;
       refused = λ not. absurd (not c.done.ensures.status);
       ok = λ _ _. c.done.ensures.status;

@@ -1,53 +1,36 @@
-use Rattle.std.proofs.Common.{◌≡◌, ℕ, ◌-◌, List, length, take, arith, ap, sym, subst, ◌∙◌}
-use Rattle.std.specs.Fmt.{WritesInCalls}
-use Rattle.rustc_lexer.specs.{Document.{tokens_start}, State.{State}, Tokens.{tokens_left}}
+use Rattle.std.proofs.Common.{◌≡◌, ℕ, ◌-◌, List, length, arith, ap, ◌∙◌}
+use Rattle.rustc_lexer.specs.{Document.{tokens_start}, State.{State}}
 use Rattle.rustc_lexer.proofs.lemmas.tokens.Places.{document_start}
-use Rattle.rustc_lexer_highlight.specs.{Highlighted.{marked_tokens, start_parts}, Part.{with_markup}}
 use Rattle.rustc_lexer_highlight.proofs.HighlightedLemmas.{past_piece, writes_past, writes_token}
 use Rattle.rustc_lexer_highlight.proofs.highlighted.write_highlighted.Goals as goal
 
 pub loop-token-preserved : goal.loop-token-preserved
 loop-token-preserved g c =
-    let at = c.loop-token.token-iterator in
-    let past = c.next.new.self in
     let step = c.in-Some.ensures.steps in
     let cut = c.split_at.ensures in
-    let next = past_piece at past c.in-Some.token c.loop-token.rest.now c.split_at.result.1.now c.loop-token.invariant.utf8
-    c.loop-token.invariant.place step cut.back in
+    let next = past_piece _ _ _ _ _ c.loop-token.invariant.utf8 c.loop-token.invariant.place step cut.back in
     record {
       utf8 = next.0;
       place = next.1;
       left = λ w more. c.loop-token.invariant.left w
-          (writes_token g.W.Write.write_str_gives c.args.format c.args.edition c.loop-token.output
-          c.write_token.new.output w c.loop-token.rest.now c.split_at.result.1.now c.split_at.result.0.now
-          (tokens_left at) (tokens_left past) c.in-Some.token
-          step.first cut.back cut.front c.in_ok-write_token.ensures more);
+          (writes_token g.W.Write.write_str_gives _ _ _ _ w _ _ _ _ _ _ step.first cut.back cut.front
+          c.in_ok-write_token.ensures more);
     }
 
 pub loop-token-init : goal.loop-token-init
 loop-token-init g c =
     let text : List ℕ = c.args.text.now in
-    let took = g.W.Write.write_str_gives in
     let tokens = c.tokenize_document-tokens in
     let state = c.into_iter-token-iterator.ensures.into_iter_gives ∙ tokens.ensures.state in
     let rest : c.as_str-rest.result.now ≡ c.into_iter-token-iterator.result.rest =
-    c.as_str-rest.ensures.rest ∙ ap (λ (s : State). s.rest) (sym c.into_iter-token-iterator.ensures.into_iter_gives) in
+    rw c.into_iter-token-iterator.ensures.into_iter_gives c.as_str-rest.ensures.rest in
     let left = ap (λ (s : State). s.rest) state in
-    let begins = document_start text c.as_str-rest.result.now c.into_iter-token-iterator.result tokens.ensures.boundary rest
-    left in
-    let before : c.range.result.now ≡ take (tokens_start text) text =
-    c.range.ensures.value ∙ ap (λ (n : ℕ). take n text)
-    (let e : length text - length c.as_str-rest.result.now - 0 ≡ tokens_start text = omega (arith, begins) in e) in
+    let begins = document_start _ _ c.into_iter-token-iterator.result tokens.ensures.boundary rest left in
+    let size : length text - length c.as_str-rest.result.now - 0 ≡ tokens_start text = omega (arith, begins) in
+    let before = rw size at c.range.ensures.value in
     record {
       utf8 = c.as_str-rest.utf8;
       place = rest;
-      left = λ w more. writes_past took c.args.format c.args.edition c.args.output.now c.write_start.new.output w text
-          (subst (λ (bs : List ℕ). WritesInCalls took c.args.output.now (with_markup c.args.format (start_parts bs))
-          c.write_start.new.output)
-          before c.in_ok-write_start.ensures)
-          (subst (λ (s : State). WritesInCalls took c.write_start.new.output
-          (marked_tokens c.args.format c.args.edition s.rest (tokens_left s)) w)
-          state (subst (λ (bs : List ℕ). WritesInCalls took c.write_start.new.output
-          (marked_tokens c.args.format c.args.edition bs (tokens_left c.into_iter-token-iterator.result)) w)
-          rest more));
+      left = λ w more. writes_past g.W.Write.write_str_gives _ _ _ _ w text (rw before at c.in_ok-write_start.ensures)
+          (rw (rest, state) at more);
     }

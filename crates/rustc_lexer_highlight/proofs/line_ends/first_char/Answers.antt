@@ -7,8 +7,7 @@ returns-in-Some c =
     let read = c.in_ok-first.ensures in
     let line = c.in-Some.ensures in (
       rw (read.0, line.1, line.0) refl,
-      read_line c.args.rest.now c.in_ok-first.left.now c.in-Some.line.now
-          (c.in_ok-first.first ∷ []) c.utf8.rest line.3 read.0 line.1,
+      read_line _ _ _ (c.in_ok-first.first ∷ []) c.utf8.rest line.3 read.0 line.1,
       omega arith,
     )
 
@@ -16,7 +15,6 @@ pub returns-in-None : goal.returns-in-None
 returns-in-None c =
     let read = c.in_ok-first.ensures in (
       rw (read.0, c.in-None.ensures) refl,
-      read_left c.args.rest.now c.in_ok-first.left.now
-          (c.in_ok-first.first ∷ []) c.utf8.rest read.2 read.0 c.in-None.ensures,
+      read_left _ _ (c.in_ok-first.first ∷ []) c.utf8.rest read.2 read.0 c.in-None.ensures,
       read.1,
     )

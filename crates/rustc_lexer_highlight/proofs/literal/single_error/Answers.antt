@@ -5,13 +5,11 @@ use Rattle.rustc_lexer_highlight.proofs.literal.single_error.Goals as goal
 pub returns-in_err-error : goal.returns-in_err-error
 returns-in_err-error c =
     let picks : c.match-mode.mode ≡ alone_mode c.args.mode = grind (arith, common_steps, rules) in
-    let found = error_found c.args.mode c.match-mode.mode c.args.inside.now c.single_error.result c.utf8.inside picks
-    c.single_error.ensures in
+    let found = error_found _ _ _ _ c.utf8.inside picks c.single_error.ensures in
     grind (arith, common_steps, rules)
 
 pub returns : goal.returns
 returns c =
     let picks : c.match-mode.mode ≡ alone_mode c.args.mode = grind (arith, common_steps, rules) in
-    let found = error_found c.args.mode c.match-mode.mode c.args.inside.now c.single_error.result c.utf8.inside picks
-    c.single_error.ensures in
+    let found = error_found _ _ _ _ c.utf8.inside picks c.single_error.ensures in
     grind (arith, common_steps, rules)

@@ -5,7 +5,7 @@ use Rattle.lexdump_run.proofs.output.BlockWriter.push_past.Goals as goal
 pub returns-then-bytes-gt-BLOCK : goal.returns-then-bytes-gt-BLOCK
 returns-then-bytes-gt-BLOCK g c =
     let none = ap (λ n. take n c.write_out.new.self.bytes) c.in_ok-write_out.ensures.empty in
-    pushes_both _ _ _ _ [] c.args.bytes.now _ _ refl c.in_ok-write_out.ensures.pushed record {
+    pushes_both {one = []} {two = c.args.bytes.now} _ refl c.in_ok-write_out.ensures.pushed record {
       same_output = refl;
       failed = c.write_bytes.ensures.failed;
       only = c.write_bytes.ensures.only;
@@ -14,4 +14,4 @@ returns-then-bytes-gt-BLOCK g c =
     }
 
 pub returns : goal.returns
-returns g c = pushes_both _ _ _ _ [] c.args.bytes.now _ _ refl c.in_ok-write_out.ensures.pushed c.hold.ensures
+returns g c = pushes_both {one = []} {two = c.args.bytes.now} _ refl c.in_ok-write_out.ensures.pushed c.hold.ensures

@@ -13,5 +13,5 @@ unfolding kind_entry has_fields token_numbers first_byte second_of third_of
 bare_numbers kind len none = grind (arith, common_steps)
 
 pub returns : goal.returns
-returns c = c.bare.ensures ∙ bare_numbers c.args.token.kind c.args.token.len
+returns c = c.bare.ensures ∙ bare_numbers _ _
     (sym c.has_fields.ensures ∙ c.if-has_fields.false)

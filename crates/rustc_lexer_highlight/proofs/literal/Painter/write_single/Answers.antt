@@ -5,7 +5,5 @@ use Rattle.rustc_lexer_highlight.proofs.literal.Painter.write_single.Goals as go
 pub returns : goal.returns
 returns g c =
     on_ok_weaker c.write_rest.result
-    (λ wrote. paints_single g.W.Write.write_str_gives c.args.self.now c.mark.new.self c.args.mode c.range.result.now
-    c.args.close c.single_look-look.result
-    c.args.output.now c.mark.new.output c.write_rest.new.output c.single_look-look.ensures c.range.ensures.value
+    (λ wrote. paints_single g.W.Write.write_str_gives _ _ _ _ _ _ _ _ _ c.single_look-look.ensures c.range.ensures.value
     c.in_ok-mark.ensures wrote) c.write_rest.ensures
