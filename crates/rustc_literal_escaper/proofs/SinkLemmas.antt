@@ -28,6 +28,10 @@ pub plain_reads : (c : ℕ) (s : List ℕ) → (c ≡ 92 → ⊥) → front c s 
 unfolding front
 plain_reads c s other = grind (arith, common_steps)
 
+pub plain_above : (c : ℕ) (s : List ℕ) → 34 < c → (c ≡ 92 → ⊥) → front c s ≡ one (Plain c, s)
+unfolding front
+plain_above c s above other = grind (arith, common_steps, nat_tests)
+
 pub escape_reads : (c : ℕ) (s left : List ℕ) (e : Element) → c ≡ 92 → begins_line s ≡ false → (e, left) ≡ escape s
     → front c s ≡ one (e, left)
 unfolding front
@@ -94,8 +98,8 @@ module _ {S : Type 0} (took : S → Item → Bool → S → Type 0) where
   at_end s raw offset xs ys a b = rw (a, b, nothing (front_by raw) offset) sinks.all
 
   -- The sink consumes an element.
-  module _ (raw : Bool) (offset : List ℕ → ℕ) (more : Bool) (s u : S) (start end : ℕ) (xs ys zs : List ℕ) (c : ℕ)
-      (e : Element)
+  module _ (raw : Bool) (offset : List ℕ → ℕ) {more : Bool} {s u : S} {start end : ℕ} {xs ys zs : List ℕ} {c : ℕ}
+      {e : Element}
       (is : xs ≡ c ∷ ys) (reads : front_by raw c ys ≡ one (e, zs)) (begins : start ≡ offset xs) (ends : end ≡ offset zs)
       (took_one : took s (record { start = start; end = end }, e) more u) where
     one_taken : (t : S) (left : List Item) → (more ≡ true → Runs took u (items_by (front_by raw) offset zs) t left)

@@ -12,9 +12,8 @@ use crate::element::Element;
 use crate::elements::{Sink, each};
 use crate::error::EscapeError;
 use crate::mode::Mode;
-use crate::simple::skip_simple;
 use crate::single::single_error;
-use crate::text::Plain;
+use crate::text::{Plain, Text};
 use std::ops::Range;
 
 /// Calls `error_callback` with the byte range of each error and warning in a literal, and the error.
@@ -78,7 +77,9 @@ fn each_error<F: FnMut(Range<usize>, EscapeError)>(src: &str, mode: Mode, callba
 {
     let raw = is_raw(mode);
     let mut errors = Errors { mode, callback };
-    each(&mut skip_simple(src, raw), raw, None, &mut errors);
+    let mut rest = Plain::new(src);
+    rest.skip_simple(raw);
+    each(&mut rest, raw, None, &mut errors);
 }
 
 /// Returns whether a literal of this kind is raw.

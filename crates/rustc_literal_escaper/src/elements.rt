@@ -1,9 +1,9 @@
 //! The elements of a string: two loops that read them, and an iterator.
-ghost use Rattle.std.specs.Prelude.{◌≡◌, ◌∷◌, [], None, true, false, length, map, if◌then◌else◌};
+ghost use Rattle.std.specs.Prelude.{◌≡◌, ◌≤◌, ◌∷◌, [], ℕ, List, None, true, false, length, map, if◌then◌else◌};
 ghost use Rattle.std.specs.Iterator.{at_most};
 ghost use Rattle.std.specs.List.{list_any};
 ghost use Rattle.rustc_literal_escaper.specs.Answers.{items_of};
-ghost use Rattle.rustc_literal_escaper.specs.Grammar.{is_newline, is_passed_over};
+ghost use Rattle.rustc_literal_escaper.specs.Grammar.{Item, is_newline, is_passed_over};
 ghost use Rattle.rustc_literal_escaper.specs.Grammar as grammar;
 ghost use Rattle.rustc_literal_escaper.specs.Items.{ArePlaced, IsRebuilt, StandsForItself, TakesFirst};
 ghost use Rattle.rustc_literal_escaper.specs.Meaning.{errors_in};
@@ -23,8 +23,9 @@ use std::ops::Range;
 
 /// A consumer of elements.
 pub(crate) trait Sink {
-    ghost use Rattle.std.specs.Prelude.{Bool};
+    ghost use Rattle.std.specs.Prelude.{◌≡◌, Bool, true};
     ghost use Rattle.rustc_literal_escaper.specs.Grammar.{Item};
+    ghost use Rattle.rustc_literal_escaper.specs.model.Sinks.{IgnoresSimple};
 
     /// Whether the sink can be called.
     ghost ready: { Self → Type 0 };
@@ -37,6 +38,14 @@ pub(crate) trait Sink {
         requires ready { ready self.old }
         ensures ready { ready self.new }
         ensures took { took self.old (range, element) result self.new };
+
+    /// Returns whether the sink ignores simple characters, so that they can be skipped.
+    #[inline(always)]
+    fn ignores_simple(&self) -> bool
+        ensures ignores { result ≡ true → IgnoresSimple took self.now }
+    {
+        false
+    }
 }
 
 /// Passes the elements of a text to `sink` until it returns `false`.
@@ -59,6 +68,7 @@ pub(crate) fn each<T: Text, S: Sink>(
     if !warn_of_line(rest, line, sink) {
         return None;
     }
+    skip_ignored(rest, raw, sink);
     if raw {
         each_raw(rest, sink);
         return None;
@@ -80,8 +90,16 @@ fn each_escaped<T: Text, S: Sink>(rest: &mut T, sink: &mut S) -> Option<usize>
         let Some(c) = rest.next_char() else {
             return None;
         };
-        if c != '\\' {
-            if !take_unescaped(start..rest.offset(), c, sink) {
+        // Most characters need only these two comparisons, and `sink` sees a plain character.
+        if c > '"' {
+            if c != '\\' {
+                if !sink.take(start..rest.offset(), Element::Plain(c)) {
+                    return None;
+                }
+                continue;
+            }
+        } else {
+            if !sink.take(start..rest.offset(), unescaped(c)) {
                 return None;
             }
             continue;
@@ -94,12 +112,14 @@ fn each_escaped<T: Text, S: Sink>(rest: &mut T, sink: &mut S) -> Option<usize>
             if !warn_of_space(rest, start, sink) {
                 return None;
             }
+            skip_ignored(rest, false, sink);
             continue;
         }
         let element = read_escape(rest);
         if !sink.take(start..rest.offset(), element) {
             return None;
         }
+        skip_ignored(rest, false, sink);
     }
 }
 
@@ -130,18 +150,18 @@ fn each_raw<T: Text, S: Sink>(rest: &mut T, sink: &mut S)
     }
 }
 
-/// Passes an unescaped character of a string that is not raw to `sink`. Returns whether `sink` wants more.
+/// Skips simple characters if `sink` ignores them.
 #[inline(always)]
-fn take_unescaped<S: Sink>(range: Range<usize>, c: char, sink: &mut S) -> bool
-    requires ready { S.ready sink.old }
-    ensures ready { S.ready sink.new }
-    ensures took { S.took sink.old (range, spec.unescaped c) result sink.new }
+fn skip_ignored<T: Text, S: Sink>(rest: &mut T, raw: bool, sink: &S)
+    ensures same { T.offset_of rest.new ≡ T.offset_of rest.old }
+    ensures shorter { length (T.left rest.new) ≤ length (T.left rest.old) }
+    ensures runs { (offset : List ℕ → ℕ) (last : S) (left : List Item)
+        → Runs S.took sink.now (items_by (front_by raw) offset (T.left rest.new)) last left
+        → Runs S.took sink.now (items_by (front_by raw) offset (T.left rest.old)) last left }
 {
-    // Most characters need only this comparison, and `sink` sees a plain character.
-    if c > '"' {
-        return sink.take(range, Element::Plain(c));
+    if sink.ignores_simple() {
+        rest.skip_simple(raw);
     }
-    sink.take(range, unescaped(c))
 }
 
 /// Passes the second warning of a skipped line ending to `sink` if the last call stopped before it. Returns whether
@@ -225,10 +245,12 @@ fn pass_over<T: Text>(rest: &mut T) -> bool
         let Some(c) = ahead.next_char() else {
             return newline;
         };
-        if !is_passed_over(c) {
-            return newline;
+        if c != ' ' {
+            if !is_passed_over(c) {
+                return newline;
+            }
+            newline |= c == '\n';
         }
-        newline |= c == '\n';
         *rest = ahead;
     }
 }
@@ -413,6 +435,11 @@ impl Sink for FirstError {
             self.found = Some((range, error));
             return false;
         }
+        true
+    }
+
+    #[inline(always)]
+    fn ignores_simple(&self) -> bool {
         true
     }
 }

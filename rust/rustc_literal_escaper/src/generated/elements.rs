@@ -13,6 +13,12 @@ use core::ops::Range;
 pub(crate) trait Sink {
     /// Consumes an element. Returns whether the sink wants more.
     fn take(&mut self, range: Range<usize>, element: Element) -> bool;
+
+    /// Returns whether the sink ignores simple characters, so that they can be skipped.
+    #[inline(always)]
+    fn ignores_simple(&self) -> bool {
+        false
+    }
 }
 
 /// Passes the elements of a text to `sink` until it returns `false`.
@@ -29,6 +35,7 @@ pub(crate) fn each<T: Text, S: Sink>(
     if !warn_of_line(rest, line, sink) {
         return None;
     }
+    skip_ignored(rest, raw, sink);
     if raw {
         each_raw(rest, sink);
         return None;
@@ -44,8 +51,16 @@ fn each_escaped<T: Text, S: Sink>(rest: &mut T, sink: &mut S) -> Option<usize> {
         let Some(c) = rest.next_char() else {
             return None;
         };
-        if c != '\\' {
-            if !take_unescaped(start..rest.offset(), c, sink) {
+        // Most characters need only these two comparisons, and `sink` sees a plain character.
+        if c > '"' {
+            if c != '\\' {
+                if !sink.take(start..rest.offset(), Element::Plain(c)) {
+                    return None;
+                }
+                continue;
+            }
+        } else {
+            if !sink.take(start..rest.offset(), unescaped(c)) {
                 return None;
             }
             continue;
@@ -58,12 +73,14 @@ fn each_escaped<T: Text, S: Sink>(rest: &mut T, sink: &mut S) -> Option<usize> {
             if !warn_of_space(rest, start, sink) {
                 return None;
             }
+            skip_ignored(rest, false, sink);
             continue;
         }
         let element = read_escape(rest);
         if !sink.take(start..rest.offset(), element) {
             return None;
         }
+        skip_ignored(rest, false, sink);
     }
 }
 
@@ -88,14 +105,12 @@ fn each_raw<T: Text, S: Sink>(rest: &mut T, sink: &mut S) {
     }
 }
 
-/// Passes an unescaped character of a string that is not raw to `sink`. Returns whether `sink` wants more.
+/// Skips simple characters if `sink` ignores them.
 #[inline(always)]
-fn take_unescaped<S: Sink>(range: Range<usize>, c: char, sink: &mut S) -> bool {
-    // Most characters need only this comparison, and `sink` sees a plain character.
-    if c > '"' {
-        return sink.take(range, Element::Plain(c));
+fn skip_ignored<T: Text, S: Sink>(rest: &mut T, raw: bool, sink: &S) {
+    if sink.ignores_simple() {
+        rest.skip_simple(raw);
     }
-    sink.take(range, unescaped(c))
 }
 
 /// Passes the second warning of a skipped line ending to `sink` if the last call stopped before it. Returns whether
@@ -153,10 +168,12 @@ fn pass_over<T: Text>(rest: &mut T) -> bool {
         let Some(c) = ahead.next_char() else {
             return newline;
         };
-        if !is_passed_over(c) {
-            return newline;
+        if c != ' ' {
+            if !is_passed_over(c) {
+                return newline;
+            }
+            newline |= c == '\n';
         }
-        newline |= c == '\n';
         *rest = ahead;
     }
 }
@@ -283,6 +300,11 @@ impl Sink for FirstError {
             self.found = Some((range, error));
             return false;
         }
+        true
+    }
+
+    #[inline(always)]
+    fn ignores_simple(&self) -> bool {
         true
     }
 }

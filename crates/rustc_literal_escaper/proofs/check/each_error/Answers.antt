@@ -7,8 +7,8 @@ use Rattle.rustc_literal_escaper.proofs.check.each_error.Goals as goal
 
 pub returns : goal.returns
 returns g c =
-    let runs = rw (c.skip_simple.ensures.total, c.is_raw-raw.ensures) at c.each.ensures.runs in
-    let passes = rw c.is_raw-raw.ensures at c.skip_simple.ensures.passes in
+    let runs = rw (c.skip_simple.ensures.same, c.new-rest.ensures, c.is_raw-raw.ensures) at c.each.ensures.runs in
+    let passes = rw (c.new-rest.ensures, c.is_raw-raw.ensures) at c.skip_simple.ensures.passes in
     record {
       calls = (
         c.each.new.sink.callback,
