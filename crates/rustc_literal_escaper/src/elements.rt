@@ -1,5 +1,5 @@
 //! The elements of a string: two loops that read them, and an iterator.
-ghost use Rattle.std.specs.Prelude.{◌≡◌, ◌≤◌, ◌∷◌, [], ℕ, List, None, true, false, length, map, if◌then◌else◌};
+ghost use Rattle.std.specs.Prelude.{◌≡◌, ◌≤◌, ◌∷◌, [], ℕ, List, None, Some, true, false, length, map, if◌then◌else◌};
 ghost use Rattle.std.specs.Iterator.{at_most};
 ghost use Rattle.std.specs.List.{list_any};
 ghost use Rattle.rustc_literal_escaper.specs.Answers.{items_of};
@@ -9,12 +9,12 @@ ghost use Rattle.rustc_literal_escaper.specs.Items.{ArePlaced, IsRebuilt, Stands
 ghost use Rattle.rustc_literal_escaper.specs.Meaning.{errors_in};
 ghost use Rattle.rustc_literal_escaper.specs.model.Elements as spec;
 ghost use Rattle.rustc_literal_escaper.specs.model.Elements.{all_items, front_by, item_by, items_by};
-ghost use Rattle.rustc_literal_escaper.specs.model.Escape.{front_run, past_run};
+ghost use Rattle.rustc_literal_escaper.specs.model.Escape.{escape, front_run, past_run, StartsWith};
 ghost use Rattle.rustc_literal_escaper.specs.model.Sinks.{Runs, Takes};
 
 use crate::element::Element;
 use crate::error::EscapeError;
-use crate::escape::read_escape;
+use crate::escape::{byte_escape, escape_at};
 use crate::mode::Mode;
 use crate::text::{Plain, Text};
 use std::iter::Iterator;
@@ -104,7 +104,8 @@ fn each_escaped<T: Text, S: Sink>(rest: &mut T, sink: &mut S) -> Option<usize>
             }
             continue;
         }
-        if skip_newline(rest) {
+        let next = rest.next_char();
+        if is_newline(next) {
             let lines = pass_over(rest);
             if !warn_of_lines(rest, start, lines, sink) {
                 return Some(start);
@@ -115,8 +116,7 @@ fn each_escaped<T: Text, S: Sink>(rest: &mut T, sink: &mut S) -> Option<usize>
             skip_ignored(rest, false, sink);
             continue;
         }
-        let element = read_escape(rest);
-        if !sink.take(start..rest.offset(), element) {
+        if !take_escape(start, next, rest, sink) {
             return None;
         }
         skip_ignored(rest, false, sink);
@@ -148,6 +148,30 @@ fn each_raw<T: Text, S: Sink>(rest: &mut T, sink: &mut S)
             return;
         }
     }
+}
+
+/// Passes the element of the escape after a backslash at `start` to `sink`. Returns whether `sink` wants more. `next`
+/// and `rest` are those of [`escape_at`].
+#[inline(always)]
+fn take_escape<T: Text, S: Sink>(
+    start: usize,
+    next: Option<char>,
+    rest: &mut T,
+    sink: &mut S,
+) -> bool
+    requires ready { S.ready sink.old }
+    ensures ready { S.ready sink.new }
+    ensures same { T.offset_of rest.new ≡ T.offset_of rest.old }
+    ensures left { (s : List ℕ) → StartsWith s next (T.left rest.old)
+        → T.left rest.new ≡ (escape s).1 }
+    ensures took { (s : List ℕ) → StartsWith s next (T.left rest.old)
+        → S.took sink.old (item_by (T.offset_of rest.old) start (escape s)) result sink.new }
+{
+    if let Some(byte) = byte_escape(next, rest) {
+        return sink.take(start..rest.offset(), Element::Byte(byte));
+    }
+    let element = escape_at(next, rest);
+    sink.take(start..rest.offset(), element)
 }
 
 /// Skips simple characters if `sink` ignores them.
@@ -215,20 +239,14 @@ fn warn_of_space<T: Text, S: Sink>(rest: &T, start: usize, sink: &mut S) -> bool
     sink.take(start..ahead.offset(), warning)
 }
 
-/// Skips a newline if it is the next character. Returns whether it was.
+/// Returns whether the next character is a newline.
 #[inline(always)]
-fn skip_newline<T: Text>(rest: &mut T) -> bool
-    ensures same { T.offset_of rest.new ≡ T.offset_of rest.old }
-    ensures found { result ≡ true → T.left rest.old ≡ 10 ∷ T.left rest.new }
+fn is_newline(next: Option<char>) -> bool
+    ensures found { result ≡ true → next ≡ Some 10 }
     ensures none { result ≡ false
-        → (spec.begins_line (T.left rest.old) ≡ false) × (T.left rest.new ≡ T.left rest.old) }
+        → (s left : List ℕ) → StartsWith s next left → spec.begins_line s ≡ false }
 {
-    let mut line = rest.copy();
-    let newline = matches!(line.next_char(), Some('\n'));
-    if newline {
-        *rest = line;
-    }
-    newline
+    matches!(next, Some('\n'))
 }
 
 /// Skips the whitespace that a backslash at the end of a line skips. Returns whether it contains a newline.

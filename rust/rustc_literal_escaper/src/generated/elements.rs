@@ -3,7 +3,7 @@
 
 use crate::generated::element::Element;
 use crate::generated::error::EscapeError;
-use crate::generated::escape::read_escape;
+use crate::generated::escape::{byte_escape, escape_at};
 use crate::generated::mode::Mode;
 use crate::generated::text::{Plain, Text};
 use core::iter::Iterator;
@@ -65,7 +65,8 @@ fn each_escaped<T: Text, S: Sink>(rest: &mut T, sink: &mut S) -> Option<usize> {
             }
             continue;
         }
-        if skip_newline(rest) {
+        let next = rest.next_char();
+        if is_newline(next) {
             let lines = pass_over(rest);
             if !warn_of_lines(rest, start, lines, sink) {
                 return Some(start);
@@ -76,8 +77,7 @@ fn each_escaped<T: Text, S: Sink>(rest: &mut T, sink: &mut S) -> Option<usize> {
             skip_ignored(rest, false, sink);
             continue;
         }
-        let element = read_escape(rest);
-        if !sink.take(start..rest.offset(), element) {
+        if !take_escape(start, next, rest, sink) {
             return None;
         }
         skip_ignored(rest, false, sink);
@@ -103,6 +103,22 @@ fn each_raw<T: Text, S: Sink>(rest: &mut T, sink: &mut S) {
             return;
         }
     }
+}
+
+/// Passes the element of the escape after a backslash at `start` to `sink`. Returns whether `sink` wants more. `next`
+/// and `rest` are those of [`escape_at`].
+#[inline(always)]
+fn take_escape<T: Text, S: Sink>(
+    start: usize,
+    next: Option<char>,
+    rest: &mut T,
+    sink: &mut S,
+) -> bool {
+    if let Some(byte) = byte_escape(next, rest) {
+        return sink.take(start..rest.offset(), Element::Byte(byte));
+    }
+    let element = escape_at(next, rest);
+    sink.take(start..rest.offset(), element)
 }
 
 /// Skips simple characters if `sink` ignores them.
@@ -148,15 +164,10 @@ fn warn_of_space<T: Text, S: Sink>(rest: &T, start: usize, sink: &mut S) -> bool
     sink.take(start..ahead.offset(), warning)
 }
 
-/// Skips a newline if it is the next character. Returns whether it was.
+/// Returns whether the next character is a newline.
 #[inline(always)]
-fn skip_newline<T: Text>(rest: &mut T) -> bool {
-    let mut line = rest.copy();
-    let newline = matches!(line.next_char(), Some('\n'));
-    if newline {
-        *rest = line;
-    }
-    newline
+fn is_newline(next: Option<char>) -> bool {
+    matches!(next, Some('\n'))
 }
 
 /// Skips the whitespace that a backslash at the end of a line skips. Returns whether it contains a newline.
