@@ -3,7 +3,7 @@ use Rattle.std.proofs.Common.{◌≡◌, ℕ, ◌≤◌, ◌==◌, nat_lt, not, 
 use Rattle.std.proofs.Common.{sym, ap, ◌∙◌, [], ◌∷◌, refl, length-append}
 use Rattle.std.specs.{Char.{is_ascii}, List.{list_all, prefix_len}}
 use Rattle.std.specs.Str.{chars, IsAscii, IsCharBoundary, IsUtf8}
-use Rattle.std.proofs.lemmas.{Bool.{and_parts, not-true}, List.{take-append-drop}}
+use Rattle.std.proofs.lemmas.{Bool.{and_parts, not-true}, List.{append-nil, take-append-drop}}
 use Rattle.std.proofs.lemmas.Str.{chars-append, chars-IsAscii, IsCharBoundary-from_take, IsUtf8-from_ascii}
 use Rattle.std.proofs.lemmas.Grind.{common_steps}
 use Rattle.rustc_literal_escaper.specs.declared.{element.Element.TheVariants.{Plain}, mode.Mode.{Mode}}
@@ -46,6 +46,15 @@ passes-simple raw bs n run =
 
 pub passes-none : (raw : Bool) (s : List ℕ) → Passes (is_simple raw) s s
 passes-none raw s = record { passed = []; all = refl; whole = refl }
+
+-- A text of simple bytes.
+pub passes-all : (bs : List ℕ) → list_all (is_simple true) bs ≡ true → Passes (is_simple true) (chars bs) []
+unfolding chars
+passes-all bs e = record {
+  passed = bs;
+  all = e;
+  whole = ap chars (sym (append-nil bs)) ∙ chars-simple true bs [] e;
+}
 
 -- The end of such a run is a char boundary.
 pub cut-simple : (raw : Bool) (bs : List ℕ) (n : ℕ) → IsUtf8 bs → n ≤ length bs → n ≤ prefix_len (is_simple raw) bs

@@ -12,6 +12,7 @@ use crate::element::Element;
 use crate::elements::{Sink, each};
 use crate::error::EscapeError;
 use crate::mode::Mode;
+use crate::simple::is_short_and_simple;
 use crate::single::single_error;
 use crate::text::{Plain, Text};
 use std::ops::Range;
@@ -76,6 +77,9 @@ fn each_error<F: FnMut(Range<usize>, EscapeError)>(src: &str, mode: Mode, callba
         callback (errors_of mode src.now) last }
 {
     let raw = is_raw(mode);
+    if raw && is_short_and_simple(src) {
+        return;
+    }
     let mut errors = Errors { mode, callback };
     let mut rest = Plain::new(src);
     rest.skip_simple(raw);

@@ -1,5 +1,5 @@
 //! Skips simple characters at the start of a text, 32 bytes at a time. They are valid in every kind of string.
-ghost use Rattle.std.specs.Prelude.{◌≡◌, ◌≤◌, true, false, length, map};
+ghost use Rattle.std.specs.Prelude.{◌≡◌, ◌≤◌, [], true, false, length, map};
 ghost use Rattle.std.specs.List.{prefix_len};
 ghost use Rattle.std.specs.Simd.Lanes.{mask_l};
 ghost use Rattle.std.specs.Str.{chars, IsUtf8};
@@ -24,6 +24,24 @@ pub(crate) fn past_simple(rest: &str, raw: bool) -> &str
     }
     let end = simple_end(bytes, raw);
     &rest[end..]
+}
+
+/// Returns whether the text is the contents of a raw string of fewer than 32 bytes, all of them simple. It also returns
+/// `false` for some control characters that are simple, since one comparison less per byte matters more.
+#[inline(always)]
+pub(crate) fn is_short_and_simple(text: &str) -> bool
+    ensures { result ≡ true → spec.Passes (spec.is_simple true) (chars text.now) [] }
+{
+    let bytes = text.as_bytes();
+    if bytes.len() >= 32 {
+        return false;
+    }
+    for byte in bytes {
+        if *byte <= b'\r' || *byte >= 128 {
+            return false;
+        }
+    }
+    true
 }
 
 /// Returns the length of a prefix of simple bytes. Searches 32 bytes at a time.

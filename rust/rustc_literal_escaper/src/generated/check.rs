@@ -5,6 +5,7 @@ use crate::generated::element::Element;
 use crate::generated::elements::{Sink, each};
 use crate::generated::error::EscapeError;
 use crate::generated::mode::Mode;
+use crate::generated::simple::is_short_and_simple;
 use crate::generated::single::single_error;
 use crate::generated::text::{Plain, Text};
 use core::ops::Range;
@@ -55,6 +56,9 @@ fn each_single_error<F: FnMut(Range<usize>, EscapeError)>(src: &str, mode: Mode,
 #[inline(always)]
 fn each_error<F: FnMut(Range<usize>, EscapeError)>(src: &str, mode: Mode, callback: F) {
     let raw = is_raw(mode);
+    if raw && is_short_and_simple(src) {
+        return;
+    }
     let mut errors = Errors { mode, callback };
     let mut rest = Plain::new(src);
     rest.skip_simple(raw);

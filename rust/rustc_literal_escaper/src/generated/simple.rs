@@ -17,6 +17,22 @@ pub(crate) fn past_simple(rest: &str, raw: bool) -> &str {
     &rest[end..]
 }
 
+/// Returns whether the text is the contents of a raw string of fewer than 32 bytes, all of them simple. It also returns
+/// `false` for some control characters that are simple, since one comparison less per byte matters more.
+#[inline(always)]
+pub(crate) fn is_short_and_simple(text: &str) -> bool {
+    let bytes = text.as_bytes();
+    if bytes.len() >= 32 {
+        return false;
+    }
+    for byte in bytes {
+        if *byte <= b'\r' || *byte >= 128 {
+            return false;
+        }
+    }
+    true
+}
+
 /// Returns the length of a prefix of simple bytes. Searches 32 bytes at a time.
 #[inline(never)]
 fn simple_end(bytes: &[u8], raw: bool) -> usize {
