@@ -6,7 +6,7 @@ use Rattle.rustc_literal_escaper.specs.declared.error.EscapeError.TheVariants.{M
 use Rattle.std.specs.List.{FoldsTo, list_any}
 use Rattle.std.proofs.lemmas.{Bool.Decides.{nat_tests}, Grind.{common_steps}, List.{map-append}}
 use Rattle.rustc_literal_escaper.specs.Grammar.{is_newline, is_passed_over}
-use Rattle.rustc_literal_escaper.specs.model.Escape.{escape, front_run, past_run}
+use Rattle.rustc_literal_escaper.specs.model.Escape.{escape, front_run, past_run, StartsWith}
 use Rattle.rustc_literal_escaper.specs.{Grammar.{Error, Item}, Items.{TakesFirst}, Meaning.{error_of, errors_in, put}}
 use Rattle.rustc_literal_escaper.specs.model.Sinks.{Runs, Takes}
 use Rattle.rustc_literal_escaper.specs.model.Sinks as sinks
@@ -28,30 +28,35 @@ pub plain_reads : (c : ℕ) (s : List ℕ) → (c ≡ 92 → ⊥) → front c s 
 unfolding front
 plain_reads c s other = grind (arith, common_steps)
 
+pub plain_above : (c : ℕ) (s : List ℕ) → 34 < c → (c ≡ 92 → ⊥) → front c s ≡ one (Plain c, s)
+unfolding front
+plain_above c s above other = grind (arith, common_steps, nat_tests)
+
 pub escape_reads : (c : ℕ) (s left : List ℕ) (e : Element) → c ≡ 92 → begins_line s ≡ false → (e, left) ≡ escape s
     → front c s ≡ one (e, left)
 unfolding front
 escape_reads c [] left e slash other read = grind (arith, common_steps)
 escape_reads c (d ∷ s) left e slash other read = grind (arith, common_steps)
 
-pub line_reads : (c : ℕ) (s t : List ℕ) → c ≡ 92 → s ≡ 10 ∷ t → front c s ≡ line_end t
+pub line_reads : (c : ℕ) (s t : List ℕ) (next : Option ℕ) → c ≡ 92 → StartsWith s next t → next ≡ Some 10
+    → front c s ≡ line_end t
 unfolding front
-line_reads c s t slash line = rw (slash, line) refl
+line_reads c s t next slash begins line = rw (slash, rw line at begins) refl
 
 -- The items of a skipped line ending, and the items after it.
-pub items_line : (offset : List ℕ → ℕ) (start c : ℕ) (xs ys zs left : List ℕ) (newline : Bool) → xs ≡ c ∷ ys → c ≡ 92
-    → ys ≡ 10 ∷ zs → start ≡ offset xs
+pub items_line : (offset : List ℕ → ℕ) (start c : ℕ) (xs ys zs left : List ℕ) (newline : Bool) (next : Option ℕ)
+    → xs ≡ c ∷ ys → c ≡ 92 → StartsWith ys next zs → next ≡ Some 10 → start ≡ offset xs
     → newline ≡ list_any is_newline (front_run is_passed_over zs) → left ≡ past_run is_passed_over zs
     → items_by front offset xs ≡
     map (item_by offset start) (if newline then (Diagnostic MultipleSkippedLinesWarning, left) ∷ [] else [])
     ++ (map (item_by offset start) (more_space left) ++ items_by front offset left)
-items_line offset start c xs ys zs left newline is slash line begins lines past =
+items_line offset start c xs ys zs left newline next is slash after line begins lines past =
     let here : offset (c ∷ ys) ≡ start = sym (begins ∙ ap offset is) in
     grind (
       arith,
       common_steps,
       items-cons false offset c ys,
-      line_reads c ys zs slash line,
+      line_reads c ys zs next slash after line,
       map-append (item_by offset start),
       append_assoc {A = Item},
     )
@@ -94,8 +99,8 @@ module _ {S : Type 0} (took : S → Item → Bool → S → Type 0) where
   at_end s raw offset xs ys a b = rw (a, b, nothing (front_by raw) offset) sinks.all
 
   -- The sink consumes an element.
-  module _ (raw : Bool) (offset : List ℕ → ℕ) (more : Bool) (s u : S) (start end : ℕ) (xs ys zs : List ℕ) (c : ℕ)
-      (e : Element)
+  module _ (raw : Bool) (offset : List ℕ → ℕ) {more : Bool} {s u : S} {start end : ℕ} {xs ys zs : List ℕ} {c : ℕ}
+      {e : Element}
       (is : xs ≡ c ∷ ys) (reads : front_by raw c ys ≡ one (e, zs)) (begins : start ≡ offset xs) (ends : end ≡ offset zs)
       (took_one : took s (record { start = start; end = end }, e) more u) where
     one_taken : (t : S) (left : List Item) → (more ≡ true → Runs took u (items_by (front_by raw) offset zs) t left)

@@ -12,9 +12,9 @@ use crate::element::Element;
 use crate::elements::{Sink, each};
 use crate::error::EscapeError;
 use crate::mode::Mode;
-use crate::simple::skip_simple;
+use crate::simple::is_short_and_simple;
 use crate::single::single_error;
-use crate::text::Plain;
+use crate::text::{Plain, Text};
 use std::ops::Range;
 
 /// Calls `error_callback` with the byte range of each error and warning in a literal, and the error.
@@ -77,8 +77,13 @@ fn each_error<F: FnMut(Range<usize>, EscapeError)>(src: &str, mode: Mode, callba
         callback (errors_of mode src.now) last }
 {
     let raw = is_raw(mode);
+    if raw && is_short_and_simple(src) {
+        return;
+    }
     let mut errors = Errors { mode, callback };
-    each(&mut skip_simple(src, raw), raw, None, &mut errors);
+    let mut rest = Plain::new(src);
+    rest.skip_simple(raw);
+    each(&mut rest, raw, None, &mut errors);
 }
 
 /// Returns whether a literal of this kind is raw.

@@ -1,20 +1,20 @@
 //! The elements of a string: two loops that read them, and an iterator.
-ghost use Rattle.std.specs.Prelude.{◌≡◌, ◌∷◌, [], None, true, false, length, map, if◌then◌else◌};
+ghost use Rattle.std.specs.Prelude.{◌≡◌, ◌≤◌, ◌∷◌, [], ℕ, List, None, Some, true, false, length, map, if◌then◌else◌};
 ghost use Rattle.std.specs.Iterator.{at_most};
 ghost use Rattle.std.specs.List.{list_any};
 ghost use Rattle.rustc_literal_escaper.specs.Answers.{items_of};
-ghost use Rattle.rustc_literal_escaper.specs.Grammar.{is_newline, is_passed_over};
+ghost use Rattle.rustc_literal_escaper.specs.Grammar.{Item, is_newline, is_passed_over};
 ghost use Rattle.rustc_literal_escaper.specs.Grammar as grammar;
 ghost use Rattle.rustc_literal_escaper.specs.Items.{ArePlaced, IsRebuilt, StandsForItself, TakesFirst};
 ghost use Rattle.rustc_literal_escaper.specs.Meaning.{errors_in};
 ghost use Rattle.rustc_literal_escaper.specs.model.Elements as spec;
 ghost use Rattle.rustc_literal_escaper.specs.model.Elements.{all_items, front_by, item_by, items_by};
-ghost use Rattle.rustc_literal_escaper.specs.model.Escape.{front_run, past_run};
+ghost use Rattle.rustc_literal_escaper.specs.model.Escape.{escape, front_run, past_run, StartsWith};
 ghost use Rattle.rustc_literal_escaper.specs.model.Sinks.{Runs, Takes};
 
 use crate::element::Element;
 use crate::error::EscapeError;
-use crate::escape::read_escape;
+use crate::escape::{byte_escape, escape_at};
 use crate::mode::Mode;
 use crate::text::{Plain, Text};
 use std::iter::Iterator;
@@ -23,8 +23,9 @@ use std::ops::Range;
 
 /// A consumer of elements.
 pub(crate) trait Sink {
-    ghost use Rattle.std.specs.Prelude.{Bool};
+    ghost use Rattle.std.specs.Prelude.{◌≡◌, Bool, true};
     ghost use Rattle.rustc_literal_escaper.specs.Grammar.{Item};
+    ghost use Rattle.rustc_literal_escaper.specs.model.Sinks.{IgnoresSimple};
 
     /// Whether the sink can be called.
     ghost ready: { Self → Type 0 };
@@ -37,6 +38,14 @@ pub(crate) trait Sink {
         requires ready { ready self.old }
         ensures ready { ready self.new }
         ensures took { took self.old (range, element) result self.new };
+
+    /// Returns whether the sink ignores simple characters, so that they can be skipped.
+    #[inline(always)]
+    fn ignores_simple(&self) -> bool
+        ensures ignores { result ≡ true → IgnoresSimple took self.now }
+    {
+        false
+    }
 }
 
 /// Passes the elements of a text to `sink` until it returns `false`.
@@ -59,6 +68,7 @@ pub(crate) fn each<T: Text, S: Sink>(
     if !warn_of_line(rest, line, sink) {
         return None;
     }
+    skip_ignored(rest, raw, sink);
     if raw {
         each_raw(rest, sink);
         return None;
@@ -80,13 +90,22 @@ fn each_escaped<T: Text, S: Sink>(rest: &mut T, sink: &mut S) -> Option<usize>
         let Some(c) = rest.next_char() else {
             return None;
         };
-        if c != '\\' {
-            if !take_unescaped(start..rest.offset(), c, sink) {
+        // Most characters need only these two comparisons, and `sink` sees a plain character.
+        if c > '"' {
+            if c != '\\' {
+                if !sink.take(start..rest.offset(), Element::Plain(c)) {
+                    return None;
+                }
+                continue;
+            }
+        } else {
+            if !sink.take(start..rest.offset(), unescaped(c)) {
                 return None;
             }
             continue;
         }
-        if skip_newline(rest) {
+        let next = rest.next_char();
+        if is_newline(next) {
             let lines = pass_over(rest);
             if !warn_of_lines(rest, start, lines, sink) {
                 return Some(start);
@@ -94,12 +113,13 @@ fn each_escaped<T: Text, S: Sink>(rest: &mut T, sink: &mut S) -> Option<usize>
             if !warn_of_space(rest, start, sink) {
                 return None;
             }
+            skip_ignored(rest, false, sink);
             continue;
         }
-        let element = read_escape(rest);
-        if !sink.take(start..rest.offset(), element) {
+        if !take_escape(start, next, rest, sink) {
             return None;
         }
+        skip_ignored(rest, false, sink);
     }
 }
 
@@ -130,18 +150,42 @@ fn each_raw<T: Text, S: Sink>(rest: &mut T, sink: &mut S)
     }
 }
 
-/// Passes an unescaped character of a string that is not raw to `sink`. Returns whether `sink` wants more.
+/// Passes the element of the escape after a backslash at `start` to `sink`. Returns whether `sink` wants more. `next`
+/// and `rest` are those of [`escape_at`].
 #[inline(always)]
-fn take_unescaped<S: Sink>(range: Range<usize>, c: char, sink: &mut S) -> bool
+fn take_escape<T: Text, S: Sink>(
+    start: usize,
+    next: Option<char>,
+    rest: &mut T,
+    sink: &mut S,
+) -> bool
     requires ready { S.ready sink.old }
     ensures ready { S.ready sink.new }
-    ensures took { S.took sink.old (range, spec.unescaped c) result sink.new }
+    ensures same { T.offset_of rest.new ≡ T.offset_of rest.old }
+    ensures left { (s : List ℕ) → StartsWith s next (T.left rest.old)
+        → T.left rest.new ≡ (escape s).1 }
+    ensures took { (s : List ℕ) → StartsWith s next (T.left rest.old)
+        → S.took sink.old (item_by (T.offset_of rest.old) start (escape s)) result sink.new }
 {
-    // Most characters need only this comparison, and `sink` sees a plain character.
-    if c > '"' {
-        return sink.take(range, Element::Plain(c));
+    if let Some(byte) = byte_escape(next, rest) {
+        return sink.take(start..rest.offset(), Element::Byte(byte));
     }
-    sink.take(range, unescaped(c))
+    let element = escape_at(next, rest);
+    sink.take(start..rest.offset(), element)
+}
+
+/// Skips simple characters if `sink` ignores them.
+#[inline(always)]
+fn skip_ignored<T: Text, S: Sink>(rest: &mut T, raw: bool, sink: &S)
+    ensures same { T.offset_of rest.new ≡ T.offset_of rest.old }
+    ensures shorter { length (T.left rest.new) ≤ length (T.left rest.old) }
+    ensures runs { (offset : List ℕ → ℕ) (last : S) (left : List Item)
+        → Runs S.took sink.now (items_by (front_by raw) offset (T.left rest.new)) last left
+        → Runs S.took sink.now (items_by (front_by raw) offset (T.left rest.old)) last left }
+{
+    if sink.ignores_simple() {
+        rest.skip_simple(raw);
+    }
 }
 
 /// Passes the second warning of a skipped line ending to `sink` if the last call stopped before it. Returns whether
@@ -195,20 +239,14 @@ fn warn_of_space<T: Text, S: Sink>(rest: &T, start: usize, sink: &mut S) -> bool
     sink.take(start..ahead.offset(), warning)
 }
 
-/// Skips a newline if it is the next character. Returns whether it was.
+/// Returns whether the next character is a newline.
 #[inline(always)]
-fn skip_newline<T: Text>(rest: &mut T) -> bool
-    ensures same { T.offset_of rest.new ≡ T.offset_of rest.old }
-    ensures found { result ≡ true → T.left rest.old ≡ 10 ∷ T.left rest.new }
+fn is_newline(next: Option<char>) -> bool
+    ensures found { result ≡ true → next ≡ Some 10 }
     ensures none { result ≡ false
-        → (spec.begins_line (T.left rest.old) ≡ false) × (T.left rest.new ≡ T.left rest.old) }
+        → (s left : List ℕ) → StartsWith s next left → spec.begins_line s ≡ false }
 {
-    let mut line = rest.copy();
-    let newline = matches!(line.next_char(), Some('\n'));
-    if newline {
-        *rest = line;
-    }
-    newline
+    matches!(next, Some('\n'))
 }
 
 /// Skips the whitespace that a backslash at the end of a line skips. Returns whether it contains a newline.
@@ -225,10 +263,12 @@ fn pass_over<T: Text>(rest: &mut T) -> bool
         let Some(c) = ahead.next_char() else {
             return newline;
         };
-        if !is_passed_over(c) {
-            return newline;
+        if c != ' ' {
+            if !is_passed_over(c) {
+                return newline;
+            }
+            newline |= c == '\n';
         }
-        newline |= c == '\n';
         *rest = ahead;
     }
 }
@@ -413,6 +453,11 @@ impl Sink for FirstError {
             self.found = Some((range, error));
             return false;
         }
+        true
+    }
+
+    #[inline(always)]
+    fn ignores_simple(&self) -> bool {
         true
     }
 }

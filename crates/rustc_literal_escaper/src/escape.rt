@@ -1,8 +1,10 @@
 //! Reads escapes.
-ghost use Rattle.std.specs.Prelude.{◌≡◌, ◌<◌, ◌^◌, ◌+◌, ◌*◌, ◌∷◌, ℕ, min, nat_le, nat_lt, if◌then◌else◌, MatchOption};
+ghost use Rattle.std.specs.Prelude.{◌≡◌, ◌<◌, ◌^◌, ◌+◌, ◌*◌, ◌∷◌, ℕ, List, min, nat_le, nat_lt};
+ghost use Rattle.std.specs.Prelude.{if◌then◌else◌, MatchOption};
 ghost use Rattle.std.specs.Char.{digit_value};
 ghost use Rattle.rustc_literal_escaper.specs.model.Escape as spec;
-ghost use Rattle.rustc_literal_escaper.specs.model.Escape.{closed_at_run};
+ghost use Rattle.rustc_literal_escaper.specs.declared.element.Element.TheVariants.{Byte};
+ghost use Rattle.rustc_literal_escaper.specs.model.Escape.{closed_at_run, StartsWith};
 
 use crate::element::Element;
 use crate::element::Element::{Byte, Diagnostic};
@@ -18,7 +20,18 @@ pub fn read_escape<T: Text>(rest: &mut T) -> Element
     ensures same { T.offset_of rest.new ≡ T.offset_of rest.old }
     ensures read { (result, T.left rest.new) ≡ spec.escape (T.left rest.old) }
 {
-    let Some(c) = rest.next_char() else {
+    let next = rest.next_char();
+    escape_at(next, rest)
+}
+
+/// Reads the escape after a backslash. `next` is the character after the backslash, and `rest` is the text after that.
+#[inline(always)]
+pub(crate) fn escape_at<T: Text>(next: Option<char>, rest: &mut T) -> Element
+    ensures same { T.offset_of rest.new ≡ T.offset_of rest.old }
+    ensures read { (s : List ℕ) → StartsWith s next (T.left rest.old)
+        → (result, T.left rest.new) ≡ spec.escape s }
+{
+    let Some(c) = next else {
         return Element::Diagnostic(EscapeError::LoneSlash);
     };
     match c {
@@ -32,6 +45,23 @@ pub fn read_escape<T: Text>(rest: &mut T) -> Element
         }
         _ => short(c),
     }
+}
+
+/// Reads the escape after a backslash if it is an escape for a byte. Otherwise, it returns `None` and reads nothing.
+///
+/// Most escapes are for bytes. The parameters are those of [`escape_at`].
+#[inline(always)]
+pub(crate) fn byte_escape<T: Text>(next: Option<char>, rest: &mut T) -> Option<u8>
+    ensures same { T.offset_of rest.new ≡ T.offset_of rest.old }
+    ensures read { MatchOption result (T.left rest.new ≡ T.left rest.old)
+        (λ value. (s : List ℕ) → StartsWith s next (T.left rest.old)
+        → (Byte value, T.left rest.new) ≡ spec.escape s) }
+{
+    let c = next?;
+    if let Byte(byte) = short(c) {
+        return Some(byte);
+    }
+    if c == 'x' { hex_byte(rest) } else { None }
 }
 
 /// The element for a backslash and a character that are not an escape.
@@ -127,6 +157,23 @@ fn hex<T: Text>(rest: &mut T) -> Element
         return Element::Diagnostic(EscapeError::InvalidCharInHexEscape);
     };
     Element::Byte((high * 16 + low) as u8)
+}
+
+/// Reads the two digits after an `x` if they are valid. Otherwise, it returns `None` and reads nothing.
+#[inline(always)]
+fn hex_byte<T: Text>(rest: &mut T) -> Option<u8>
+    ensures same { T.offset_of rest.new ≡ T.offset_of rest.old }
+    ensures read { MatchOption result (T.left rest.new ≡ T.left rest.old)
+        (λ value. (Byte value, T.left rest.new) ≡ spec.hex (T.left rest.old)) }
+{
+    let mut ahead = rest.copy();
+    let high = digit_or_16(ahead.next_char()?);
+    let low = digit_or_16(ahead.next_char()?);
+    if high < 16 && low < 16 {
+        *rest = ahead;
+        return Some(high * 16 + low);
+    }
+    None
 }
 
 /// Reads the number between braces after a `u`.

@@ -6,10 +6,9 @@ ghost use Rattle.rustc_literal_escaper.specs.Items.{TakesFirst};
 ghost use Rattle.rustc_literal_escaper.specs.Meaning.{errors_in};
 
 use crate::check::is_raw;
-use crate::elements::{Elements, ElementsOf};
+use crate::elements::{Elements, elements_of};
 use crate::error::EscapeError;
 use crate::mode::Mode;
-use crate::simple::skip_simple;
 use crate::single::single_error;
 use crate::text::Plain;
 use std::iter::Iterator;
@@ -60,10 +59,9 @@ impl<'a> EscapeErrors<'a> {
                 mode,
             };
         }
-        let raw = is_raw(mode);
         EscapeErrors {
             alone: None,
-            elements: ElementsOf::of_text(skip_simple(src, raw), raw),
+            elements: elements_of(src, is_raw(mode)),
             mode,
         }
     }

@@ -1,27 +1,16 @@
 //! Skips simple characters at the start of a text, 32 bytes at a time. They are valid in every kind of string.
-ghost use Rattle.std.specs.Prelude.{◌≡◌, ◌≤◌, true, false, length, map};
+ghost use Rattle.std.specs.Prelude.{◌≡◌, ◌≤◌, [], true, false, length, map};
 ghost use Rattle.std.specs.List.{prefix_len};
 ghost use Rattle.std.specs.Simd.Lanes.{mask_l};
 ghost use Rattle.std.specs.Str.{chars, IsUtf8};
 ghost use Rattle.rustc_literal_escaper.specs.model.Plain as spec;
 
-use crate::text::Plain;
 use std::simd::prelude::*;
 
-/// Returns the characters of `src` after the simple characters at its start. A text of fewer than 32 bytes is not
-/// searched.
-#[inline(always)]
-pub(crate) fn skip_simple(src: &str, raw: bool) -> Plain<'_>
-    ensures total { result.0 ≡ length src.now }
-    ensures passes { spec.Passes (spec.is_simple raw) (chars src.now) result.1 }
-{
-    Plain::end_of(src.len(), past_simple(src, raw))
-}
-
-/// Returns the text after the simple characters at its start, or all of it if it has fewer than 32 bytes.
+/// Returns the text after the simple characters at its start. A text of fewer than 32 bytes is not searched.
 #[inline(always)]
 #[tactic(auto, using(crate::proofs::RunLemmas::simple_lemmas))]
-fn past_simple(rest: &str, raw: bool) -> &str
+pub(crate) fn past_simple(rest: &str, raw: bool) -> &str
     ensures passes { spec.Passes (spec.is_simple raw) (chars rest.now) (chars result.now) }
     ensures text { IsUtf8 result.now }
     ensures shorter { length result.now ≤ length rest.now }
@@ -29,8 +18,30 @@ fn past_simple(rest: &str, raw: bool) -> &str
     if rest.len() < 32 {
         return rest;
     }
-    let end = simple_end(rest.as_bytes(), raw);
+    let bytes = rest.as_bytes();
+    if bytes[0] == b'\\' || bytes[0] >= 128 {
+        return rest;
+    }
+    let end = simple_end(bytes, raw);
     &rest[end..]
+}
+
+/// Returns whether the text is the contents of a raw string of fewer than 32 bytes, all of them simple. It also returns
+/// `false` for some control characters that are simple, since one comparison less per byte matters more.
+#[inline(always)]
+pub(crate) fn is_short_and_simple(text: &str) -> bool
+    ensures { result ≡ true → spec.Passes (spec.is_simple true) (chars text.now) [] }
+{
+    let bytes = text.as_bytes();
+    if bytes.len() >= 32 {
+        return false;
+    }
+    for byte in bytes {
+        if *byte <= b'\r' || *byte >= 128 {
+            return false;
+        }
+    }
+    true
 }
 
 /// Returns the length of a prefix of simple bytes. Searches 32 bytes at a time.

@@ -1,13 +1,15 @@
 //! Texts that are read character by character.
-ghost use Rattle.std.specs.Prelude.{◌≡◌, ◌≤◌, length};
+ghost use Rattle.std.specs.Prelude.{◌≡◌, length};
 ghost use Rattle.std.specs.Str.{chars};
 
+use crate::simple::past_simple;
 use std::marker::Model;
 use std::str::Chars;
 
 /// A text that is read character by character.
 pub trait Text: Drop {
     ghost use Rattle.std.specs.Prelude.{◌≡◌, ◌∷◌, ℕ, List, [], MatchOption};
+    ghost use Rattle.rustc_literal_escaper.specs.model.Plain.{is_simple, Passes};
 
     /// The remaining characters.
     ghost left: { Self → List ℕ };
@@ -28,6 +30,13 @@ pub trait Text: Drop {
     /// Returns a copy with the same remaining characters.
     fn copy(&self) -> Self
         ensures { result ≡ self.now };
+
+    /// Skips simple characters, possibly none. They are valid in every kind of string.
+    fn skip_simple(&mut self, _raw: bool)
+        ensures same { offset_of self.new ≡ offset_of self.old }
+        ensures passes { Passes (is_simple _raw) (left self.old) (left self.new) }
+    {
+    }
 }
 
 /// A text whose characters are read without changes.
@@ -61,18 +70,6 @@ impl<'a> Plain<'a> {
             ahead: text.chars(),
         }
     }
-
-    /// Returns the characters of `rest`, the end of a text of `total` bytes.
-    #[inline(always)]
-    pub(crate) fn end_of(total: usize, rest: &'a str) -> Plain<'a>
-        requires { length rest.now ≤ total }
-        ensures { result ≡ (total, chars rest.now) }
-    {
-        Plain {
-            total,
-            ahead: rest.chars(),
-        }
-    }
 }
 
 impl<'a> Text for Plain<'a> {
@@ -98,5 +95,10 @@ impl<'a> Text for Plain<'a> {
             total: self.total,
             ahead: self.ahead.as_str().chars(),
         }
+    }
+
+    #[inline(always)]
+    fn skip_simple(&mut self, raw: bool) {
+        self.ahead = past_simple(self.ahead.as_str(), raw).chars();
     }
 }

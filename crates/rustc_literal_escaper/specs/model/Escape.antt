@@ -1,5 +1,6 @@
 -- The model of reading an escape: the element after a backslash, and the rest of the text.
-use Rattle.std.specs.Prelude.{ℕ, ◌+◌, ◌*◌, ◌==◌, nat_le, Bool, if◌then◌else◌, List, [], ◌∷◌, length, filter}
+use Rattle.std.specs.Prelude.{◌≡◌, ℕ, ◌+◌, ◌*◌, ◌==◌, nat_le, Bool, if◌then◌else◌, List, [], ◌∷◌, length, filter}
+use Rattle.std.specs.Prelude.{Option, MatchOption}
 use Rattle.std.specs.{Char.{digit_value}, Str.{byte}}
 use Rattle.rustc_literal_escaper.specs.declared.element.Element.{Element}
 use Rattle.rustc_literal_escaper.specs.declared.element.Element.TheVariants.{Byte, Unicode, Diagnostic}
@@ -89,3 +90,7 @@ escape (c ∷ s) =
     if c == byte "x" then hex s else
     if c == byte "u" then unicode s else
     (short c, s)
+
+-- Holds if the text `s` is the character `next` followed by `left`, or is empty if there is no such character.
+abbrev pub StartsWith : List ℕ → Option ℕ → List ℕ → Type 0
+StartsWith s next left = MatchOption next ((s ≡ []) × (left ≡ [])) (λ c. s ≡ c ∷ left)

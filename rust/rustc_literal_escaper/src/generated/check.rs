@@ -5,9 +5,9 @@ use crate::generated::element::Element;
 use crate::generated::elements::{Sink, each};
 use crate::generated::error::EscapeError;
 use crate::generated::mode::Mode;
-use crate::generated::simple::skip_simple;
+use crate::generated::simple::is_short_and_simple;
 use crate::generated::single::single_error;
-use crate::generated::text::Plain;
+use crate::generated::text::{Plain, Text};
 use core::ops::Range;
 
 /// Calls `error_callback` with the byte range of each error and warning in a literal, and the error.
@@ -56,8 +56,13 @@ fn each_single_error<F: FnMut(Range<usize>, EscapeError)>(src: &str, mode: Mode,
 #[inline(always)]
 fn each_error<F: FnMut(Range<usize>, EscapeError)>(src: &str, mode: Mode, callback: F) {
     let raw = is_raw(mode);
+    if raw && is_short_and_simple(src) {
+        return;
+    }
     let mut errors = Errors { mode, callback };
-    each(&mut skip_simple(src, raw), raw, None, &mut errors);
+    let mut rest = Plain::new(src);
+    rest.skip_simple(raw);
+    each(&mut rest, raw, None, &mut errors);
 }
 
 /// Returns whether a literal of this kind is raw.

@@ -3,7 +3,7 @@
 
 use crate::generated::element::Element;
 use crate::generated::error::EscapeError;
-use crate::generated::escape::read_escape;
+use crate::generated::escape::{byte_escape, escape_at};
 use crate::generated::mode::Mode;
 use crate::generated::text::{Plain, Text};
 use core::iter::Iterator;
@@ -13,6 +13,12 @@ use core::ops::Range;
 pub(crate) trait Sink {
     /// Consumes an element. Returns whether the sink wants more.
     fn take(&mut self, range: Range<usize>, element: Element) -> bool;
+
+    /// Returns whether the sink ignores simple characters, so that they can be skipped.
+    #[inline(always)]
+    fn ignores_simple(&self) -> bool {
+        false
+    }
 }
 
 /// Passes the elements of a text to `sink` until it returns `false`.
@@ -29,6 +35,7 @@ pub(crate) fn each<T: Text, S: Sink>(
     if !warn_of_line(rest, line, sink) {
         return None;
     }
+    skip_ignored(rest, raw, sink);
     if raw {
         each_raw(rest, sink);
         return None;
@@ -44,13 +51,22 @@ fn each_escaped<T: Text, S: Sink>(rest: &mut T, sink: &mut S) -> Option<usize> {
         let Some(c) = rest.next_char() else {
             return None;
         };
-        if c != '\\' {
-            if !take_unescaped(start..rest.offset(), c, sink) {
+        // Most characters need only these two comparisons, and `sink` sees a plain character.
+        if c > '"' {
+            if c != '\\' {
+                if !sink.take(start..rest.offset(), Element::Plain(c)) {
+                    return None;
+                }
+                continue;
+            }
+        } else {
+            if !sink.take(start..rest.offset(), unescaped(c)) {
                 return None;
             }
             continue;
         }
-        if skip_newline(rest) {
+        let next = rest.next_char();
+        if is_newline(next) {
             let lines = pass_over(rest);
             if !warn_of_lines(rest, start, lines, sink) {
                 return Some(start);
@@ -58,12 +74,13 @@ fn each_escaped<T: Text, S: Sink>(rest: &mut T, sink: &mut S) -> Option<usize> {
             if !warn_of_space(rest, start, sink) {
                 return None;
             }
+            skip_ignored(rest, false, sink);
             continue;
         }
-        let element = read_escape(rest);
-        if !sink.take(start..rest.offset(), element) {
+        if !take_escape(start, next, rest, sink) {
             return None;
         }
+        skip_ignored(rest, false, sink);
     }
 }
 
@@ -88,14 +105,28 @@ fn each_raw<T: Text, S: Sink>(rest: &mut T, sink: &mut S) {
     }
 }
 
-/// Passes an unescaped character of a string that is not raw to `sink`. Returns whether `sink` wants more.
+/// Passes the element of the escape after a backslash at `start` to `sink`. Returns whether `sink` wants more. `next`
+/// and `rest` are those of [`escape_at`].
 #[inline(always)]
-fn take_unescaped<S: Sink>(range: Range<usize>, c: char, sink: &mut S) -> bool {
-    // Most characters need only this comparison, and `sink` sees a plain character.
-    if c > '"' {
-        return sink.take(range, Element::Plain(c));
+fn take_escape<T: Text, S: Sink>(
+    start: usize,
+    next: Option<char>,
+    rest: &mut T,
+    sink: &mut S,
+) -> bool {
+    if let Some(byte) = byte_escape(next, rest) {
+        return sink.take(start..rest.offset(), Element::Byte(byte));
     }
-    sink.take(range, unescaped(c))
+    let element = escape_at(next, rest);
+    sink.take(start..rest.offset(), element)
+}
+
+/// Skips simple characters if `sink` ignores them.
+#[inline(always)]
+fn skip_ignored<T: Text, S: Sink>(rest: &mut T, raw: bool, sink: &S) {
+    if sink.ignores_simple() {
+        rest.skip_simple(raw);
+    }
 }
 
 /// Passes the second warning of a skipped line ending to `sink` if the last call stopped before it. Returns whether
@@ -133,15 +164,10 @@ fn warn_of_space<T: Text, S: Sink>(rest: &T, start: usize, sink: &mut S) -> bool
     sink.take(start..ahead.offset(), warning)
 }
 
-/// Skips a newline if it is the next character. Returns whether it was.
+/// Returns whether the next character is a newline.
 #[inline(always)]
-fn skip_newline<T: Text>(rest: &mut T) -> bool {
-    let mut line = rest.copy();
-    let newline = matches!(line.next_char(), Some('\n'));
-    if newline {
-        *rest = line;
-    }
-    newline
+fn is_newline(next: Option<char>) -> bool {
+    matches!(next, Some('\n'))
 }
 
 /// Skips the whitespace that a backslash at the end of a line skips. Returns whether it contains a newline.
@@ -153,10 +179,12 @@ fn pass_over<T: Text>(rest: &mut T) -> bool {
         let Some(c) = ahead.next_char() else {
             return newline;
         };
-        if !is_passed_over(c) {
-            return newline;
+        if c != ' ' {
+            if !is_passed_over(c) {
+                return newline;
+            }
+            newline |= c == '\n';
         }
-        newline |= c == '\n';
         *rest = ahead;
     }
 }
@@ -283,6 +311,11 @@ impl Sink for FirstError {
             self.found = Some((range, error));
             return false;
         }
+        true
+    }
+
+    #[inline(always)]
+    fn ignores_simple(&self) -> bool {
         true
     }
 }

@@ -12,7 +12,14 @@ const MOST_DIGITS: usize = 6;
 /// Reads the escape after a backslash.
 #[inline(always)]
 pub fn read_escape<T: Text>(rest: &mut T) -> Element {
-    let Some(c) = rest.next_char() else {
+    let next = rest.next_char();
+    escape_at(next, rest)
+}
+
+/// Reads the escape after a backslash. `next` is the character after the backslash, and `rest` is the text after that.
+#[inline(always)]
+pub(crate) fn escape_at<T: Text>(next: Option<char>, rest: &mut T) -> Element {
+    let Some(c) = next else {
         return Element::Diagnostic(EscapeError::LoneSlash);
     };
     match c {
@@ -26,6 +33,18 @@ pub fn read_escape<T: Text>(rest: &mut T) -> Element {
         }
         _ => short(c),
     }
+}
+
+/// Reads the escape after a backslash if it is an escape for a byte. Otherwise, it returns `None` and reads nothing.
+///
+/// Most escapes are for bytes. The parameters are those of [`escape_at`].
+#[inline(always)]
+pub(crate) fn byte_escape<T: Text>(next: Option<char>, rest: &mut T) -> Option<u8> {
+    let c = next?;
+    if let Byte(byte) = short(c) {
+        return Some(byte);
+    }
+    if c == 'x' { hex_byte(rest) } else { None }
 }
 
 /// The element for a backslash and a character that are not an escape.
@@ -111,6 +130,19 @@ fn hex<T: Text>(rest: &mut T) -> Element {
         return Element::Diagnostic(EscapeError::InvalidCharInHexEscape);
     };
     Element::Byte((high * 16 + low) as u8)
+}
+
+/// Reads the two digits after an `x` if they are valid. Otherwise, it returns `None` and reads nothing.
+#[inline(always)]
+fn hex_byte<T: Text>(rest: &mut T) -> Option<u8> {
+    let mut ahead = rest.copy();
+    let high = digit_or_16(ahead.next_char()?);
+    let low = digit_or_16(ahead.next_char()?);
+    if high < 16 && low < 16 {
+        *rest = ahead;
+        return Some(high * 16 + low);
+    }
+    None
 }
 
 /// Reads the number between braces after a `u`.

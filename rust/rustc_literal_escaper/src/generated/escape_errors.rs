@@ -2,10 +2,9 @@
 //! An iterator over the errors and warnings in a literal.
 
 use crate::generated::check::is_raw;
-use crate::generated::elements::{Elements, ElementsOf};
+use crate::generated::elements::{Elements, elements_of};
 use crate::generated::error::EscapeError;
 use crate::generated::mode::Mode;
-use crate::generated::simple::skip_simple;
 use crate::generated::single::single_error;
 use crate::generated::text::Plain;
 use core::iter::Iterator;
@@ -36,10 +35,9 @@ impl<'a> EscapeErrors<'a> {
                 mode,
             };
         }
-        let raw = is_raw(mode);
         EscapeErrors {
             alone: None,
-            elements: ElementsOf::of_text(skip_simple(src, raw), raw),
+            elements: elements_of(src, is_raw(mode)),
             mode,
         }
     }

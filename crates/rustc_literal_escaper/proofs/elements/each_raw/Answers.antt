@@ -1,5 +1,5 @@
 use Rattle.std.proofs.Common.{List, ℕ, true, sym, ap, ◌∙◌, rules}
-use Rattle.rustc_literal_escaper.specs.declared.element.Element.{Element, TheVariants.{Plain}}
+use Rattle.rustc_literal_escaper.specs.declared.element.Element.{Element}
 use Rattle.rustc_literal_escaper.specs.model.Elements.{one}
 use Rattle.rustc_literal_escaper.proofs.SinkLemmas.{at_end, at_same, one_enough, one_more, raw_above, raw_reads}
 use Rattle.rustc_literal_escaper.proofs.elements.each_raw.Goals as goal
@@ -13,9 +13,8 @@ pub returns-then-not-take-clause-runs : goal.returns-then-not-take-clause-runs
 returns-then-not-take-clause-runs g c =
     let ys : List ℕ = g.T.Text.left c.next_char.new.self in
     c.characters.invariant.2 _ _
-    (one_enough g.S.Sink.took true (g.T.Text.offset_of c.args.rest.now) c.take.result _ _ c.offset-start.result
-    c.offset.result _ ys ys c.in-Some.c (Plain c.in-Some.c)
-    c.in-Some.ensures.left (raw_above c.in-Some.c ys c.if-c-gt13.true)
+    (one_enough g.S.Sink.took true (g.T.Text.offset_of c.args.rest.now) c.in-Some.ensures.left
+    (raw_above c.in-Some.c ys c.if-c-gt13.true)
     (at_same _ c.offset-start.ensures c.characters.invariant.1)
     (at_same ys c.offset.ensures (c.in-Some.ensures.same ∙ c.characters.invariant.1)) c.take.ensures.took
     (search rules))
@@ -26,10 +25,8 @@ characters-preserved-then-c-gt13 g c =
       c.take.ensures.ready,
       c.in-Some.ensures.same ∙ c.characters.invariant.1,
       λ last left runs. c.characters.invariant.2 last left
-          (one_more g.S.Sink.took true (g.T.Text.offset_of c.args.rest.now) c.take.result _ _ c.offset-start.result
-          c.offset.result _ ys ys c.in-Some.c (Plain c.in-Some.c)
-          c.in-Some.ensures.left
-          (raw_above c.in-Some.c ys c.if-c-gt13.true)
+          (one_more g.S.Sink.took true (g.T.Text.offset_of c.args.rest.now) c.in-Some.ensures.left
+    (raw_above c.in-Some.c ys c.if-c-gt13.true)
           (at_same _ c.offset-start.ensures c.characters.invariant.1)
           (at_same ys c.offset.ensures (c.in-Some.ensures.same ∙ c.characters.invariant.1)) c.take.ensures.took
           (search rules) last left runs),
@@ -39,9 +36,8 @@ pub returns-then-not-take-2-clause-runs : goal.returns-then-not-take-2-clause-ru
 returns-then-not-take-2-clause-runs g c =
     let ys : List ℕ = g.T.Text.left c.next_char.new.self in
     c.characters.invariant.2 _ _
-    (one_enough g.S.Sink.took true (g.T.Text.offset_of c.args.rest.now) c.take-in-characters.result _ _
-    c.offset-start.result c.offset-in-characters.result _ ys ys c.in-Some.c c.raw_element.result
-    c.in-Some.ensures.left (raw_reads c.in-Some.c ys ∙ ap (λ (e : Element). one (e, ys)) (sym c.raw_element.ensures))
+    (one_enough g.S.Sink.took true (g.T.Text.offset_of c.args.rest.now) c.in-Some.ensures.left
+    (raw_reads c.in-Some.c ys ∙ ap (λ (e : Element). one (e, ys)) (sym c.raw_element.ensures))
     (at_same _ c.offset-start.ensures c.characters.invariant.1)
     (at_same ys c.offset-in-characters.ensures (c.in-Some.ensures.same ∙ c.characters.invariant.1))
     c.take-in-characters.ensures.took (search rules))
@@ -52,10 +48,8 @@ characters-preserved g c =
       c.take-in-characters.ensures.ready,
       c.in-Some.ensures.same ∙ c.characters.invariant.1,
       λ last left runs. c.characters.invariant.2 last left
-          (one_more g.S.Sink.took true (g.T.Text.offset_of c.args.rest.now) c.take-in-characters.result _ _
-          c.offset-start.result c.offset-in-characters.result _ ys ys c.in-Some.c c.raw_element.result
-          c.in-Some.ensures.left
-          (raw_reads c.in-Some.c ys ∙ ap (λ (e : Element). one (e, ys)) (sym c.raw_element.ensures))
+          (one_more g.S.Sink.took true (g.T.Text.offset_of c.args.rest.now) c.in-Some.ensures.left
+    (raw_reads c.in-Some.c ys ∙ ap (λ (e : Element). one (e, ys)) (sym c.raw_element.ensures))
           (at_same _ c.offset-start.ensures c.characters.invariant.1)
           (at_same ys c.offset-in-characters.ensures (c.in-Some.ensures.same ∙ c.characters.invariant.1))
           c.take-in-characters.ensures.took (search rules) last left runs),

@@ -3,5 +3,5 @@ use Rattle.rustc_literal_escaper.proofs.simple.past_simple.Goals as goal
 
 pub range_from-requires : goal.range_from-requires
 range_from-requires c = λ some. cut-simple c.args.raw c.args.rest.now c.simple_end-end.result c.utf8.rest
-    (rw (c.as_bytes.ensures.value) at c.simple_end-end.ensures.inside)
-    (rw (c.as_bytes.ensures.value) at c.simple_end-end.ensures.simple)
+    (rw (c.as_bytes-bytes.ensures.value) at c.simple_end-end.ensures.inside)
+    (rw (c.as_bytes-bytes.ensures.value) at c.simple_end-end.ensures.simple)
