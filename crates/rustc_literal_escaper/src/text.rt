@@ -35,8 +35,7 @@ pub trait Text: Drop {
     fn skip_simple(&mut self, _raw: bool)
         ensures same { offset_of self.new ≡ offset_of self.old }
         ensures passes { Passes (is_simple _raw) (left self.old) (left self.new) }
-    {
-    }
+    {}
 }
 
 /// A text whose characters are read without changes.

@@ -28,7 +28,7 @@ elements-preserved-then-c-ne92 g c =
       c.in-Some.ensures.same ∙ c.elements.invariant.1,
       λ last left runs. c.elements.invariant.2 last left
           (one_more g.S.Sink.took false (g.T.Text.offset_of c.args.rest.now) c.in-Some.ensures.left
-    (plain_above c.in-Some.c ys c.if-c-gt34.true c.if-c-ne92.true)
+          (plain_above c.in-Some.c ys c.if-c-gt34.true c.if-c-ne92.true)
           (at_same _ c.offset-start.ensures c.elements.invariant.1)
           (at_same ys c.offset.ensures (c.in-Some.ensures.same ∙ c.elements.invariant.1)) c.take.ensures.took
           (search rules) last left runs),
@@ -53,7 +53,7 @@ elements-preserved-else-c-gt34 g c =
       c.in-Some.ensures.same ∙ c.elements.invariant.1,
       λ last left runs. c.elements.invariant.2 last left
           (one_more g.S.Sink.took false (g.T.Text.offset_of c.args.rest.now) c.in-Some.ensures.left
-    (plain_reads c.in-Some.c ys other ∙ ap (λ (e : Element). one (e, ys)) (sym c.unescaped.ensures))
+          (plain_reads c.in-Some.c ys other ∙ ap (λ (e : Element). one (e, ys)) (sym c.unescaped.ensures))
           (at_same _ c.offset-start.ensures c.elements.invariant.1)
           (at_same ys c.offset-else-c-gt34.ensures (c.in-Some.ensures.same ∙ c.elements.invariant.1))
           c.take-else-c-gt34.ensures.took (search rules) last left runs),
@@ -152,7 +152,7 @@ elements-preserved g c =
       c.skip_ignored-in-elements.ensures.same ∙ (c.take_escape.ensures.same ∙ same),
       λ last rest runs. c.elements.invariant.2 last rest
           (one_more g.S.Sink.took false (g.T.Text.offset_of c.args.rest.now) c.in-Some.ensures.left
-    reads
+          reads
           (at_same _ c.offset-start.ensures c.elements.invariant.1) (at_same _ refl same)
           (c.take_escape.ensures.took ys begins) (search rules) last rest
           (rw left at (c.skip_ignored-in-elements.ensures.runs _ last rest runs))),

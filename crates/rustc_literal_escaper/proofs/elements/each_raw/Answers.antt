@@ -26,7 +26,7 @@ characters-preserved-then-c-gt13 g c =
       c.in-Some.ensures.same ∙ c.characters.invariant.1,
       λ last left runs. c.characters.invariant.2 last left
           (one_more g.S.Sink.took true (g.T.Text.offset_of c.args.rest.now) c.in-Some.ensures.left
-    (raw_above c.in-Some.c ys c.if-c-gt13.true)
+          (raw_above c.in-Some.c ys c.if-c-gt13.true)
           (at_same _ c.offset-start.ensures c.characters.invariant.1)
           (at_same ys c.offset.ensures (c.in-Some.ensures.same ∙ c.characters.invariant.1)) c.take.ensures.took
           (search rules) last left runs),
@@ -49,7 +49,7 @@ characters-preserved g c =
       c.in-Some.ensures.same ∙ c.characters.invariant.1,
       λ last left runs. c.characters.invariant.2 last left
           (one_more g.S.Sink.took true (g.T.Text.offset_of c.args.rest.now) c.in-Some.ensures.left
-    (raw_reads c.in-Some.c ys ∙ ap (λ (e : Element). one (e, ys)) (sym c.raw_element.ensures))
+          (raw_reads c.in-Some.c ys ∙ ap (λ (e : Element). one (e, ys)) (sym c.raw_element.ensures))
           (at_same _ c.offset-start.ensures c.characters.invariant.1)
           (at_same ys c.offset-in-characters.ensures (c.in-Some.ensures.same ∙ c.characters.invariant.1))
           c.take-in-characters.ensures.took (search rules) last left runs),
