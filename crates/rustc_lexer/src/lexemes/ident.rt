@@ -63,9 +63,7 @@ pub fn is_ident(string: &str) -> bool
     ensures { result ≡ Classes.is_ident (chars string.now) }
 {
     match split_first(string) {
-        Some((first, tail)) => {
-            is_id_start(first) && (tail.is_empty() || eat_continue(tail).is_empty())
-        }
+        Some((first, tail)) => is_id_start(first) && eat_continue(tail).is_empty(),
         None => false,
     }
 }

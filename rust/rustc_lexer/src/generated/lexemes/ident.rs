@@ -48,9 +48,7 @@ pub(crate) fn eat_hash_ident(tail: &str) -> Option<&str> {
 #[inline]
 pub fn is_ident(string: &str) -> bool {
     match split_first(string) {
-        Some((first, tail)) => {
-            is_id_start(first) && (tail.is_empty() || eat_continue(tail).is_empty())
-        }
+        Some((first, tail)) => is_id_start(first) && eat_continue(tail).is_empty(),
         None => false,
     }
 }
