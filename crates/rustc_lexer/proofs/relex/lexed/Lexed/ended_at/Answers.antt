@@ -1,4 +1,4 @@
-use Rattle.std.proofs.Common.{◌+◌, length, ap, arith, refl, string_bytes}
+use Rattle.std.proofs.Common.{◌+◌, length, ap, arith, refl}
 use Rattle.rustc_lexer.proofs.lemmas.edits.{Bounds.{bound_mono}, KeptBounds.{end_seen, none_past, start_seen}}
 use Rattle.rustc_lexer.proofs.lemmas.edits.Offsets.{ended, not_ended}
 use Rattle.rustc_lexer.proofs.relex.lexed.Lexed.ended_at.Goals as goal
@@ -17,8 +17,7 @@ returns-in-None-clause-ended g c = λ k less.
       arith,
       c.if-offset-self.false,
       start_seen (g.S.Stepper.law c.self.inside.kept.stepper) g.E.Extent.whole
-          (string_bytes c.self.inside.kept.text) c.self.inside.kept.tokens.items c.self.inside.kept.head
-          c.self.inside.kept.checkpoints c.self.invariant c.args.self.now (ap (λ h. h.text) c.self.view_is)
+          _ _ _ _ c.self.invariant c.args.self.now (ap (λ h. h.text) c.self.view_is)
           (ap (λ h. h.tokens) c.self.view_is),
     )) in
     let most = bound_mono c.args.self.now.tokens (k + 1) (length c.args.self.now.tokens)
@@ -28,8 +27,7 @@ returns-in-None-clause-ended g c = λ k less.
       past,
       most,
       end_seen (g.S.Stepper.law c.self.inside.kept.stepper) g.E.Extent.whole
-          (string_bytes c.self.inside.kept.text) c.self.inside.kept.tokens.items c.self.inside.kept.head
-          c.self.inside.kept.checkpoints c.self.invariant c.args.self.now (ap (λ h. h.text) c.self.view_is)
+          _ _ _ _ c.self.invariant c.args.self.now (ap (λ h. h.text) c.self.view_is)
           (ap (λ h. h.tokens) c.self.view_is),
     )
 
@@ -39,7 +37,6 @@ returns-then-offset-self-clause-others g c =
       arith,
       c.if-offset-self.true,
       start_seen (g.S.Stepper.law c.self.inside.kept.stepper) g.E.Extent.whole
-          (string_bytes c.self.inside.kept.text) c.self.inside.kept.tokens.items c.self.inside.kept.head
-          c.self.inside.kept.checkpoints c.self.invariant c.args.self.now (ap (λ h. h.text) c.self.view_is)
+          _ _ _ _ c.self.invariant c.args.self.now (ap (λ h. h.text) c.self.view_is)
           (ap (λ h. h.tokens) c.self.view_is),
     )

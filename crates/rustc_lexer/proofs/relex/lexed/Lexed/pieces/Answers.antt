@@ -8,8 +8,7 @@ pub overflow_cast-start : goal.overflow_cast-start
 overflow_cast-start g c =
     omega (
       arith,
-      offset_fits (g.S.Stepper.law c.self.inside.kept.stepper) (string_bytes c.self.inside.kept.text)
-          c.self.inside.kept.tokens.items c.self.inside.kept.head c.self.inside.kept.checkpoints c.self.invariant 0
+      offset_fits (g.S.Stepper.law c.self.inside.kept.stepper) _ _ _ _ c.self.invariant 0
           (omega arith),
     )
 
@@ -18,15 +17,13 @@ overflow_cast-end g c =
     omega (
       arith,
       ap length c.as_str-text.ensures.value,
-      (kept_cuts (g.S.Stepper.law c.self.inside.kept.stepper) (string_bytes c.self.inside.kept.text)
-          c.self.inside.kept.tokens.items c.self.inside.kept.head c.self.inside.kept.checkpoints c.self.invariant).0,
+      (kept_cuts (g.S.Stepper.law c.self.inside.kept.stepper) _ _ _ _ c.self.invariant).0,
     )
 
 pub invariant_of-result : goal.invariant_of-result
 invariant_of-result g c =
     rw (c.as_str-text.ensures.value, c.as_slice.ensures.value)
-    (kept_cuts (g.S.Stepper.law c.self.inside.kept.stepper) (string_bytes c.self.inside.kept.text)
-    c.self.inside.kept.tokens.items c.self.inside.kept.head c.self.inside.kept.checkpoints c.self.invariant)
+    (kept_cuts (g.S.Stepper.law c.self.inside.kept.stepper) _ _ _ _ c.self.invariant)
 
 pub returns-clause-pieces : goal.returns-clause-pieces
 returns-clause-pieces g c =
