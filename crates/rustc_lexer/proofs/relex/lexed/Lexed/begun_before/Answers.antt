@@ -1,3 +1,4 @@
+use Rattle.std.proofs.lemmas.Grind.{common_steps}
 use Rattle.std.proofs.Common.{◌-◌, length, ap, arith, refl}
 use Rattle.rustc_lexer.proofs.lemmas.edits.{Bounds.{bound_mono}, KeptBounds.{end_seen, none_past, start_seen}}
 use Rattle.rustc_lexer.proofs.lemmas.edits.Offsets.{begun, not_begun}
@@ -39,11 +40,4 @@ returns-in-None-clause-begun g c = λ k less.
     )
 
 pub returns-then-offset-self-clause-others : goal.returns-then-offset-self-clause-others
-returns-then-offset-self-clause-others g c =
-    λ k from few. omega (
-      arith,
-      c.if-offset-self.true,
-      start_seen (g.S.Stepper.law c.self.inside.kept.stepper) g.E.Extent.whole
-          _ _ _ _ c.self.invariant c.args.self.now (ap (λ h. h.text) c.self.view_is)
-          (ap (λ h. h.tokens) c.self.view_is),
-    )
+returns-then-offset-self-clause-others g c = grind (arith, common_steps, start_seen)

@@ -1,3 +1,4 @@
+use Rattle.std.proofs.lemmas.Grind.{common_steps}
 use Rattle.std.proofs.Common.{◌+◌, length, ap, arith}
 use Rattle.rustc_lexer.specs.Tokens.{bound}
 use Rattle.rustc_lexer.proofs.lemmas.edits.KeptBounds.{near_at, offset_fits, start_seen}
@@ -37,10 +38,4 @@ returns-clause-offset g c =
     )
 
 pub returns-then-number-count-clause-offset : goal.returns-then-number-count-clause-offset
-returns-then-number-count-clause-offset g c =
-    omega (
-      arith,
-      start_seen (g.S.Stepper.law c.self.inside.kept.stepper) g.E.Extent.whole
-          _ _ _ _ c.self.invariant c.args.self.now (ap (λ h. h.text) c.self.view_is)
-          (ap (λ h. h.tokens) c.self.view_is),
-    )
+returns-then-number-count-clause-offset g c = grind (arith, common_steps, start_seen)

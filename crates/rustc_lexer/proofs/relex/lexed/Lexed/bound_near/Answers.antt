@@ -1,3 +1,4 @@
+use Rattle.std.proofs.lemmas.Grind.{common_steps}
 use Rattle.std.proofs.{Common.{◌+◌, drop, length, ap, arith}, lemmas.List.Elements.{All-contains}}
 use Rattle.rustc_lexer.specs.{Offsets.{IsBound}, Tokens.{bound}, model.Document.{tokens_of_head}}
 use Rattle.rustc_lexer.proofs.lemmas.edits.KeptBounds.{near_from, offset_fits, start_seen}
@@ -35,12 +36,4 @@ returns g c =
     )
 
 pub returns-then-offset-self : goal.returns-then-offset-self
-returns-then-offset-self g c = (
-  omega arith,
-  omega (
-    arith,
-    start_seen (g.S.Stepper.law c.self.inside.kept.stepper) g.E.Extent.whole
-        _ _ _ _ c.self.invariant c.args.self.now (ap (λ h. h.text) c.self.view_is)
-        (ap (λ h. h.tokens) c.self.view_is),
-  ),
-)
+returns-then-offset-self g c = grind (arith, common_steps, start_seen)
