@@ -96,12 +96,12 @@ stays : {edition : Edition} {kind : TokenKind} {c : ℕ} {w next : List ℕ} {to
     → Parts (record { kind = kind; len = bytes (c ∷ w) } ∷ tokens) after
     → IsTokenIn edition (next ++ after) kind (c ∷ w)
 stays {kind = kind} p none good after (inl e) =
-    in-apart p (omega arith) good after (changed refl e.0) (kind-goes kind after e.1)
+    in-apart p (omega arith) good (changed refl e.0) (kind-goes kind after e.1)
 stays {edition} {kind} {c} {w} p none good after (inr e) = let is = kind-space kind e.0 in
     subst (λ (k : TokenKind). IsTokenIn edition after k (c ∷ w)) (sym is)
     (kept (oldest edition) (the.whitespace (space-text-in p is) e.1))
 stays {kind = kind} p (one {c = d} {w = v} {next = next} q rest) good after e =
-    in-apart p (omega arith) good ((d ∷ v ++ next) ++ after) (changes (one q rest) after e)
+    in-apart p (omega arith) good (changes (one q rest) after e)
     (goes-behind kind d (v ++ next) ((v ++ next) ++ after))
 
 one-more : {edition : Edition} {kind : TokenKind} {c : ℕ} {w : List ℕ} (next after : List ℕ) {us : List Token}
