@@ -1,11 +1,11 @@
 -- Whitespace separates tokens: a token that is not open does not change before whitespace.
 use Rattle.std.proofs.Common.{◌≡◌, ℕ, ◌<◌, ◌==◌, ◌&&◌, not, codes, Bool, true, false, true≢false, List, [], ◌∷◌, ◌++◌}
-use Rattle.std.proofs.Common.{length, refl, sym, ap, ◌∙◌, subst, arith, Option, is_some}
+use Rattle.std.proofs.Common.{length, refl, sym, ap, ◌∙◌, arith, Option, is_some}
 use Rattle.std.proofs.lemmas.Bool.{and_parts, false_from_ne_true}
 use Rattle.std.specs.List.{list_all}
 use Rattle.std.proofs.lemmas.Grind.{common_steps}
 use Rattle.unicode_ident.proofs.Computing.{unicode_ident}
-use Rattle.rustc_lexer.specs.{LiteralKind, TokenKind, Whitespace, LineComment, UnknownPrefix, UnknownPrefixLifetime}
+use Rattle.rustc_lexer.specs.{LiteralKind, TokenKind, Whitespace, LineComment}
 use Rattle.rustc_lexer.specs.{Edition}
 use Rattle.rustc_lexer.specs.Classes.{is_among, is_whitespace, is_id_start, is_id_continue, is_word_continue}
 use Rattle.rustc_lexer.specs.Classes.{ends_prefix, begins_ident_after, NextIs, NextIsNot, is_inline}
@@ -14,7 +14,7 @@ use Rattle.rustc_lexer.specs.Language as the
 use Rattle.rustc_lexer.specs.Language.{IsTokenBefore, begins_prefixed}
 use Rattle.rustc_lexer.specs.LiteralGrammar as lit
 use Rattle.rustc_lexer.specs.LiteralGrammar.{IsDoubleQuoted, IsSingleQuoted, IsRaw, IsLiteralBefore, IsSuffixBefore}
-use Rattle.rustc_lexer.specs.{NumberGrammar.{is_no_fraction, IsNumberBefore}, Tokens.{is_faulty}, Joined.{is_malformed}}
+use Rattle.rustc_lexer.specs.{NumberGrammar.{IsNumberBefore}, Tokens.{is_faulty}, Joined.{is_malformed}}
 use Rattle.rustc_lexer.specs.LanguageText.{IsTokenIn, kept, pound, ident, lifetime, lifetime_r}
 use Rattle.rustc_lexer.specs.model.{Number.{begins_fraction}, Scan.{begins, next_is}}
 use Rattle.rustc_lexer.specs.laws.{LanguageLiterals.{number-digit}, LanguageReach.{raw-alike}}
