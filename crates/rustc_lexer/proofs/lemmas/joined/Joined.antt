@@ -1,5 +1,5 @@
 -- Texts that may touch: how to decide it, and that a suffix of the first text is enough.
-use Rattle.std.proofs.Common.{◌≡◌, ◌↔◌, ℕ, zero, suc, ◌+◌, ◌-◌, ◌<◌, ◌≤◌, true, List, [], ◌∷◌, ◌++◌, length, take, drop}
+use Rattle.std.proofs.Common.{◌≡◌, ◌↔◌, ℕ, zero, suc, ◌+◌, ◌-◌, ◌<◌, ◌≤◌, true, List, [], ◌++◌, length, take, drop}
 use Rattle.std.proofs.Common.{refl, sym, ap, ◌∙◌, arith, length-append, length-drop, length-take, length-take-le}
 use Rattle.std.proofs.Common.{take-append-drop, slice_range, IsUtf8, IsCharBoundary}
 use Rattle.std.proofs.{Math.Seq.{drop-append_seam}, lemmas.List.{append_cancel_left, drop-append-le}}
@@ -21,6 +21,10 @@ front_cancels : {whole left : List Token} (front rest more us : List Token) → 
     ↔ rest ≡ more ++ us
 front_cancels front rest more us w5 w6 = grind (arith, common_steps, append_cancel_left)
 
+pub front_text : {text : List ℕ} {at : ℕ} → IsText text → IsCharBoundary text at → IsText (take at text)
+front_text {text} {at} is cut =
+    record { utf8 = IsUtf8-take text at is.utf8 cut; fits = omega (arith, length-take at text, is.fits) }
+
 -- Holds if the texts on both sides of `at` may touch exactly if the part from `offset` to `at` may touch the second
 -- text.
 pub record IsSeamFrom (edition : Edition) (text : List ℕ) (at offset : ℕ) : Type 0 where
@@ -38,12 +42,9 @@ module _ {first : List ℕ → Token} (law : IsGrammar first) where
       → first (left ++ right) ≡ first left
       → Touch left right ↔ Touch (drop (first left).len left) right
   touch_past left right is whole some same =
-      let its : tokens_by first (left ++ right) ≡ first left ∷ tokens_by first (drop (first left).len left ++ right) =
-      tokens-cons law (left ++ right) whole (omega (arith, length-append left right))
-      ∙ (ap (λ (t : Token). t ∷ tokens_by first (drop t.len (left ++ right))) same
-      ∙ ap (λ xs. first left ∷ tokens_by first xs)
-      (drop-append-le (first left).len left right (law.boundary left is some).0)) in
-      rw (its, tokens-cons law left is some) (λ e. cc, λ e. ap (λ (ts : List Token). first left ∷ ts) e)
+      let its = rw (same, drop-append-le (first left).len left right (law.boundary left is some).0) at
+      (tokens-cons law (left ++ right) whole (omega (arith, length-append left right))) in
+      rw (its, tokens-cons law left is some) (λ e. cc, λ e. cc)
 
   pub touch_first : (left right : List ℕ) → IsText left → IsText (left ++ right) → 0 < length left → Touch left right
       → first (left ++ right) ≡ first left
@@ -86,11 +87,7 @@ module _ {first : List ℕ → Token} (law : IsGrammar first) where
       rw (same, drop-append-le from left more inside) at its_cut.rest in (
         inside,
         front_cancels (take k (tokens_by first left)) _ _ (tokens_by first more)
-            (sym (take-append-drop k (tokens_by first (left ++ more)))
-            ∙ (ap (λ (ts : List Token). ts ++ drop k (tokens_by first (left ++ more))) stays
-            ∙ ap (λ (ts : List Token). take k (tokens_by first left) ++ ts) its_rest))
-            (sym (take-append-drop k (tokens_by first left))
-            ∙ ap (λ (ts : List Token). take k (tokens_by first left) ++ ts) rest),
+            (cc (take-append-drop k (tokens_by first (left ++ more)))) (cc (take-append-drop k (tokens_by first left))),
       )
 
 -- A separator that keeps texts apart may touch the second text.
@@ -100,20 +97,19 @@ pub separated_past : (edition : Edition) (text : List ℕ) (at len : ℕ) → Is
 separated_past edition text at len is cut e =
     let left : List Token = tokens_by (first_in edition) (take at text) in
     let last : bound left (length left) ≡ length (take at text) = bound-last (edition_grammar edition)
-    (take at text) record
-    { utf8 = IsUtf8-take text at is.utf8 cut; fits = omega (arith, length-take at text, is.fits) } in
+    (take at text) (front_text is cut) in
     let whole = rw (take-append-drop len (drop at text), take-append-drop at text) at e in
     let here : bound (tokens_by (first_in edition) text) (length left) ≡ at =
     ap (λ (ts : List Token). bound ts (length left)) whole
     ∙ (bound-append left _ ∙ (last ∙ length-take-le at text cut.0)) in
-    rw (take-append-drop len (drop at text)) (sym (ap (λ (k : ℕ). tokens_by (first_in edition) (drop k text)) here)
-    ∙ (sym (at_bound (edition_grammar edition) (length left) text is).rest
-    ∙ (ap (drop (length left)) whole ∙ drop-append_seam left _)))
+    rw (take-append-drop len (drop at text))
+    (sym (rw here at (at_bound (edition_grammar edition) (length left) text is).rest)
+    ∙ (ap (drop (length left)) whole ∙ drop-append_seam left _))
 
 -- The empty text may touch every text.
 pub touch_none : (edition : Edition) (text : List ℕ) → MayTouch edition (take 0 text) (drop 0 text)
 touch_none edition text =
-    sym (ap (λ (ts : List Token). ts ++ tokens_by (first_in edition) text) (tokens-nil (first_in edition)))
+    rw (tokens-nil (first_in edition)) refl
 
 -- ---- how to decide it
 
@@ -122,7 +118,7 @@ seam_start edition text at utf8 =
     let none : at - 0 ≡ at = omega arith in
     record { inside = omega arith; boundary = IsCharBoundary-start text utf8; touch = rw none (λ t. t, λ t. t) }
 
-module _ (edition : Edition) (text : List ℕ) (at : ℕ) (is : IsText text) (cut : IsCharBoundary text at) (offset : ℕ)
+module _ {edition : Edition} {text : List ℕ} {at : ℕ} (is : IsText text) (cut : IsCharBoundary text at) {offset : ℕ}
     (so : IsSeamFrom edition text at offset) where
   pub seam_end : at ≤ offset → MayTouch edition (take at text) (drop at text)
   seam_end all = grind (arith, common_steps, tokens-nil)
@@ -143,7 +139,7 @@ module _ (edition : Edition) (text : List ℕ) (at : ℕ) (is : IsText text) (cu
   whole_is = record
       { utf8 = IsUtf8-drop text offset is.utf8 so.boundary; fits = omega (arith, length-drop offset text, is.fits) }
 
-  module _ (more : offset < at) (alone together : Token) (e : alone ≡ first_in edition left)
+  module _ (more : offset < at) {alone together : Token} (e : alone ≡ first_in edition left)
       (f : together ≡ first_in edition (drop offset text)) where
     long : length left ≡ at - offset
     long = grind (arith, common_steps)

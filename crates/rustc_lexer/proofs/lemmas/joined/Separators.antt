@@ -17,7 +17,7 @@ use Rattle.rustc_lexer.specs.Language.{IsTokenBefore}
 use Rattle.rustc_lexer.specs.LanguageText as grammar
 use Rattle.rustc_lexer.specs.LanguageText.{AreTokens, IsTokenIn, Mode, kept, lexed_since, mode_after, mode_edition}
 use Rattle.rustc_lexer.specs.LanguageText.{part, year}
-use Rattle.rustc_lexer.specs.{laws.Choice.{by_symbol}, model.Scan.{next_is}}
+use Rattle.rustc_lexer.specs.{laws.Choice.{by_symbol}}
 use Rattle.std.proofs.lemmas.Bool.{and_parts, not-true}
 use Rattle.rustc_lexer.specs.laws.{Cuts.{tokens-nil}, LanguageFront.{empty-text}, LanguageIn.{oldest}}
 use Rattle.rustc_lexer.specs.laws.{LanguageTokens.{tokens-are, tokens-read}, Texts.{left_text}}
@@ -33,9 +33,8 @@ data Are (edition : Edition) : List ℕ → List Token → Type 0 where
 of_part : {mode : Mode} {cs : List ℕ} {tokens : List Token} → AreTokens mode cs tokens → (edition : Edition)
     → mode ≡ part edition → Are edition cs tokens
 of_part (grammar.nothing) edition e = none
-of_part (grammar.something {mode} {kind} {c} {w} {next} p free rest) edition e =
-    one (subst (λ (m : Mode). IsTokenIn (mode_edition m) next kind (c ∷ w)) e p)
-    (of_part rest edition (ap (λ (m : Mode). mode_after m kind) e))
+of_part (grammar.something p free rest) edition e =
+    one (rw e at p) (of_part rest edition (rw e refl))
 of_part (grammar.frontmatter_first body is_opening ends rest) edition e = absurd (cc e)
 
 to_part : {edition : Edition} {cs : List ℕ} {tokens : List Token} → Are edition cs tokens
@@ -86,9 +85,8 @@ changes {cs = cs} are after (inl e) =
 changes none after (inr e) = absurd (true≢false (sym e.0))
 changes (one {kind} {c} {w} p none) after (inr e) =
     rw (append-nil w) (white-first c w after (space-text-in p (kind-space kind e.0)))
-changes (one {c = c} {w = w} p (one {c = d} {w = v} {next = next} q rest)) after (inr e) =
-    subst (Changes (c ∷ w ++ (d ∷ v ++ next))) (sym (append_assoc (c ∷ w) (d ∷ v ++ next) after))
-    (changes-past (c ∷ w) (changes (one q rest) after (inr e)))
+changes (one {c = c} {w = w} p (one q rest)) after (inr e) =
+    rw append_assoc (changes-past (c ∷ w) (changes (one q rest) after (inr e)))
 
 stays : {edition : Edition} {kind : TokenKind} {c : ℕ} {w next : List ℕ} {tokens : List Token}
     → IsTokenIn edition next kind (c ∷ w)
@@ -96,20 +94,17 @@ stays : {edition : Edition} {kind : TokenKind} {c : ℕ} {w next : List ℕ} {to
     → Parts (record { kind = kind; len = bytes (c ∷ w) } ∷ tokens) after
     → IsTokenIn edition (next ++ after) kind (c ∷ w)
 stays {kind = kind} p none good after (inl e) =
-    in-apart p (omega arith) good after (changed refl e.0) (kind-goes kind after e.1)
-stays {edition} {kind} {c} {w} p none good after (inr e) = let is = kind-space kind e.0 in
-    subst (λ (k : TokenKind). IsTokenIn edition after k (c ∷ w)) (sym is)
-    (kept (oldest edition) (the.whitespace (space-text-in p is) e.1))
+    in-apart p (omega arith) good (changed refl e.0) (kind-goes kind after e.1)
+stays {edition} {kind} p none good after (inr e) =
+    let is = kind-space kind e.0 in rw is (kept (oldest edition) (the.whitespace (space-text-in p is) e.1))
 stays {kind = kind} p (one {c = d} {w = v} {next = next} q rest) good after e =
-    in-apart p (omega arith) good ((d ∷ v ++ next) ++ after) (changes (one q rest) after e)
+    in-apart p (omega arith) good (changes (one q rest) after e)
     (goes-behind kind d (v ++ next) ((v ++ next) ++ after))
 
 one-more : {edition : Edition} {kind : TokenKind} {c : ℕ} {w : List ℕ} (next after : List ℕ) {us : List Token}
     → IsTokenIn edition (next ++ after) kind (c ∷ w) → Are edition (next ++ after) us
     → Are edition ((c ∷ w ++ next) ++ after) (record { kind = kind; len = bytes (c ∷ w) } ∷ us)
-one-more {edition} {kind} {c} {w} next after {us} p rest =
-    subst (λ (xs : List ℕ). Are edition xs (record { kind = kind; len = bytes (c ∷ w) } ∷ us))
-    (sym (append_assoc (c ∷ w) next after)) (one p rest)
+one-more next after p rest = rw append_assoc (one p rest)
 
 keeps : {edition : Edition} {cs : List ℕ} {tokens : List Token} → Are edition cs tokens → AreWellFormed tokens
     → {after : List ℕ} {others : List Token}
@@ -123,9 +118,8 @@ keeps (one p (one {c = c} {w = w} {next = next} q rest)) closed {after} more e =
 
 rest-is : (text after : List ℕ) → IsText (text ++ after) → IsUtf8 text → IsText after
 rest-is text after is utf8 =
-    subst IsText (drop-append_seam text after)
-    (left_text (text ++ after) (length text) is (omega (arith, length-append text after))
-    (subst IsUtf8 (sym (take-append_seam text after)) utf8))
+    rw drop-append_seam at (left_text (text ++ after) (length text) is (omega (arith, length-append text after))
+    (rw take-append_seam utf8))
 
 module _ (edition : Edition) where
   abbrev pub Tokens : List ℕ → List Token
@@ -185,24 +179,18 @@ module _ (edition : Edition) (text piece : List ℕ) (is : IsText text) (utf8 : 
   parts d scalar encoded white out stop =
       let its : IsUtf8 (d ∷ []) = (d ∷ [], (scalar, encoded)) in
       let shown : chars (d ∷ []) ≡ d ∷ [] = ap chars (sym encoded) ∙ chars-encodes (d ∷ []) scalar in
-      let past : chars (d ∷ piece) ≡ d ∷ chars piece = chars-append (d ∷ []) piece its
-      ∙ ap (λ (cs : List ℕ). cs ++ chars piece) shown in
+      let past : chars (d ∷ piece) ≡ d ∷ chars piece = rw shown at (chars-append (d ∷ []) piece its) in
       let longer : IsUtf8 (d ∷ piece) = IsUtf8-append (d ∷ []) piece its utf8 in
       let left : Tokens edition (text ++ (d ∷ piece)) ≡ Tokens edition text ++ Tokens edition (d ∷ piece) =
       touches edition text (d ∷ piece) is record {
         utf8 = IsUtf8-append text (d ∷ piece) is.utf8 longer;
         fits = omega (arith, length-append text (d ∷ piece));
       }
-      closed (inl (
-        ap (next_is is_whitespace) past ∙ white,
-        ap (next_is (last_takes_in (Tokens edition text))) past
-            ∙ out,
-      )) in
+      closed (inl (rw past white, rw past out)) in
       let right : Tokens edition (d ∷ piece) ≡ Tokens edition (d ∷ []) ++ Tokens edition piece =
       space-touches edition (d ∷ []) piece record { utf8 = longer; fits = omega arith } record
-      { utf8 = its; fits = omega arith } (omega arith) (subst (AreAll is_whitespace) (sym shown) (rw white refl))
-      stop in
-      left ∙ ap (λ (us : List Token). Tokens edition text ++ us) right
+      { utf8 = its; fits = omega arith } (omega arith) (rw (shown, white) refl) stop in
+      rw right at left
 
   pub runs-on : AreInseparable edition text piece → RunsOn (Tokens edition text) (chars piece)
   runs-on apart = grind (

@@ -1,10 +1,10 @@
 -- A text that grows at its end: the part after a final boundary decides whether its tokens change, and the boundary
 -- moves forward.
 use Rattle.std.proofs.Common.{◌≡◌, ℕ, zero, suc, ◌+◌, ◌-◌, ◌^◌, ◌<◌, ◌≤◌, true, List, ◌++◌, codes, length, take, drop}
-use Rattle.std.proofs.Common.{refl, sym, ap, ◌∙◌, subst, arith, length-append, length-drop, length-take, length-take-le}
+use Rattle.std.proofs.Common.{refl, ap, ◌∙◌, arith, length-append, length-drop, length-take, length-take-le}
 use Rattle.std.proofs.Common.{take-append-drop, drop-drop, take_all, chars, IsUtf8, IsCharBoundary}
 use Rattle.std.proofs.lemmas.{Grind.{common_steps}, List.{drop-append-le, take_rest}}
-use Rattle.std.proofs.lemmas.Str.{IsCharBoundary-from_drop, IsUtf8-append, IsUtf8-between, IsUtf8-drop, IsUtf8-take}
+use Rattle.std.proofs.lemmas.Str.{IsCharBoundary-from_drop, IsUtf8-append, IsUtf8-between, IsUtf8-drop}
 use Rattle.std.proofs.lemmas.Str.{chars-append}
 use Rattle.rustc_lexer.specs.{Edition, Token, Answers.{first_in}, Classes.{IsText}}
 use Rattle.rustc_lexer.specs.Joined as the
@@ -16,7 +16,7 @@ use Rattle.rustc_lexer.proofs.lemmas.edits.FrontAndBack.{bound-same, drop_of-tak
 use Rattle.rustc_lexer.proofs.lemmas.edits.FrontAndBack.{has_two-count, has_two-intro, has_two-same}
 use Rattle.rustc_lexer.proofs.lemmas.{edits.Bounds.{bound-last}, edits.KeptFront.{bound-shift}}
 use Rattle.rustc_lexer.proofs.lemmas.heads.ByTokens.{bound-append}
-use Rattle.rustc_lexer.proofs.lemmas.joined.Joined.{IsSeamFrom, sure_touch, sure_stays}
+use Rattle.rustc_lexer.proofs.lemmas.joined.Joined.{IsSeamFrom, front_text, sure_touch, sure_stays}
 
 pub sure_start : (edition : Edition) (text : List ℕ) → IsSure (first_in edition) text 0
 sure_start edition text =
@@ -32,7 +32,7 @@ module _ (edition : Edition) where
   pub sure_place : (text : List ℕ) (from : ℕ) → IsText text → IsSure first text from → IsCharBoundary text from
   sure_place text from is at =
       let cut : IsCutAt first text (tokens_by first text) at.number = at_bound law at.number text is in
-      subst (IsCharBoundary text) at.offset_is
+      rw at.offset_is at
       (IsCharBoundary-from_drop text (bound (tokens_by first text) at.number) cut.inside cut.past.utf8)
 
   -- Two characters after an offset are still there after the text grew.
@@ -53,13 +53,13 @@ module _ (edition : Edition) where
       → (0 < from → has_two other from (length other) ≡ true) → IsSure first other from
   sure_same {text} {other} at same two = record {
     number = at.number;
-    few = (let few = at.few in
-        omega (
-          arith,
-          ap length same,
-          length-take at.number (tokens_by first other),
-          length-take at.number (tokens_by first text),
-        ));
+    few = omega (
+      arith,
+      at.few,
+      ap length same,
+      length-take at.number (tokens_by first other),
+      length-take at.number (tokens_by first text),
+    );
     offset_is = bound-same at.number (tokens_by first other) (tokens_by first text) same ∙ at.offset_is;
     two = two;
   }
@@ -71,36 +71,31 @@ module _ (edition : Edition) where
       let k : ℕ = here.number in
       let left : List ℕ = take at text in
       let size : length left ≡ at = length-take-le at text cut.0 in
-      let left_is : IsText left =
-      record { utf8 = IsUtf8-take text at is.utf8 cut; fits = omega (arith, size, cut.0, is.fits) } in
       let short : take at left ≡ take at text = take_all at left (omega (arith, size)) in
       let middle : IsUtf8 (take (at - from) (drop from text)) =
       IsUtf8-between text from at is.utf8 (omega (arith, has_two-before text from at two))
       (sure_place text from is here) cut in
       let past : AgreePast (bound (tokens_by first text) k) text left =
-      subst (λ (p : ℕ). AgreePast p text left) (sym here.offset_is)
-      (has_two-agree text left from at middle short two) in
+      rw here.offset_is (has_two-agree text left from at middle short two) in
       let same : take k (tokens_by first left) ≡ take k (tokens_by first text) =
-      tokens_local law k text left is left_is here.few past in
-      sure_same here same
-      (λ some. subst (λ (n : ℕ). has_two left from n ≡ true) (sym size)
-      (has_two-same left text from at short ∙ two))
+      tokens_local law k text left is (front_text is cut) here.few past in
+      sure_same here same (λ some. rw size (has_two-same left text from at short ∙ two))
 
   -- A final boundary of the rest is a final boundary of the text.
-  pub sure_on : (text : List ℕ) (from more : ℕ) → IsText text → IsSure first text from
+  pub sure_on : {text : List ℕ} {from more : ℕ} → IsText text → IsSure first text from
       → IsSettled (drop from text) (tokens_by first (drop from text)) more → IsSure first text (from + more)
-  sure_on text from more is at settled =
+  sure_on {text} {from} {more} is at settled =
       let k : ℕ = at.number in
       let j : ℕ = settled.at_bound.0 in
       let tokens : List Token = tokens_by first text in
       let cut : IsCutAt first text tokens k = at_bound law k text is in
       let rest : drop k tokens ≡ tokens_by first (drop from text) =
-      cut.rest ∙ ap (λ (p : ℕ). tokens_by first (drop p text)) at.offset_is in
+      rw at.offset_is at cut.rest in
       let few : j ≤ length (tokens_by first (drop from text)) = settled.at_bound.1 in
       let place : bound (drop k tokens) j ≡ more = ap (λ (ts : List Token). bound ts j) rest ∙ settled.at_bound.2 in
       record {
         number = k + j;
-        few = (let here = at.few in omega (arith, few, ap length rest, length-drop k tokens));
+        few = omega (arith, at.few, few, ap length rest, length-drop k tokens);
         offset_is = omega (arith, bound-shift tokens k j, place, at.offset_is);
         two = two more refl;
       }
@@ -108,7 +103,7 @@ module _ (edition : Edition) where
       two : (n : ℕ) → n ≡ more → 0 < from + more → has_two text (from + more) (length text) ≡ true
       two zero e some =
           let none : from + more ≡ from = omega arith in
-          subst (λ (p : ℕ). has_two text p (length text) ≡ true) (sym none) (at.two (omega arith))
+          rw none (at.two (omega arith))
       two (suc n) e some =
           let count = rw (take_rest (drop from text) more, drop-drop more from text) at
           (has_two-count (drop from text) more (length (drop from text)) (settled.two (omega arith))) in
@@ -120,17 +115,15 @@ module _ (edition : Edition) where
       → TailDecides edition (take at text) (drop at text)
   tail_decides text at is cut =
       let left : List ℕ = take at text in
-      let left_is : IsText left =
-      record { utf8 = IsUtf8-take text at is.utf8 cut; fits = omega (arith, length-take at text, is.fits) } in
+      let left_is : IsText left = front_text is cut in
       λ k few two. (sure_touch law left (drop at text) (bound (tokens_by first left) k) left_is
       (rw (take-append-drop at text) is) record { number = k; few = few; offset_is = refl; two = λ some. two }).1
 
-  pub near : (text : List ℕ) (sure at : ℕ) → IsText text → IsCharBoundary text at → IsSure first (take at text) sure
+  pub near : {text : List ℕ} {sure at : ℕ} → IsText text → IsCharBoundary text at → IsSure first (take at text) sure
       → IsSeamFrom edition text at sure
-  near text sure at is cut here =
+  near {text} {sure} {at} is cut here =
       let left : List ℕ = take at text in
-      let left_is : IsText left =
-      record { utf8 = IsUtf8-take text at is.utf8 cut; fits = omega (arith, length-take at text, is.fits) } in
+      let left_is : IsText left = front_text is cut in
       let split = sure_touch law left (drop at text) sure left_is (rw (take-append-drop at text) is) here in
       let few : sure ≤ at = omega (arith, split.0, length-take-le at text cut.0) in
       let past : drop sure text ≡ drop sure left ++ drop at text =
@@ -178,8 +171,7 @@ module _ (edition : Edition) where
   sure_end text more others is e two = record {
     number = length (tokens_by first text);
     few = omega (arith, ap length e, length-append (tokens_by first text) others);
-    offset_is = ap (λ (ts : List Token). bound ts (length (tokens_by first text))) e
-        ∙ (bound-append (tokens_by first text) others ∙ bound-last law text is);
+    offset_is = rw (e, bound-append (tokens_by first text) others) (bound-last law text is);
     two = λ some. two;
   }
 

@@ -5,17 +5,17 @@ use Rattle.rustc_lexer.proofs.relex.joined.is_prefix_stable.Goals as goal
 
 pub range_from-requires : goal.range_from-requires
 range_from-requires c =
-    λ some. (near c.args.edition c.args.text.now c.args.sure c.args.at record
+    λ some. (near c.args.edition record
     { utf8 = c.utf8.text; fits = c.requires.fits } c.requires.boundary c.requires.sure).boundary
 
 pub overflow_sub-at : goal.overflow_sub-at
 overflow_sub-at c =
-    (near c.args.edition c.args.text.now c.args.sure c.args.at record { utf8 = c.utf8.text; fits = c.requires.fits }
+    (near c.args.edition record { utf8 = c.utf8.text; fits = c.requires.fits }
     c.requires.boundary c.requires.sure).inside
 
 pub is_token_boundary-requires-clause-boundary : goal.is_token_boundary-requires-clause-boundary
 is_token_boundary-requires-clause-boundary c =
-    let its = near c.args.edition c.args.text.now c.args.sure c.args.at record
+    let its = near c.args.edition record
     { utf8 = c.utf8.text; fits = c.requires.fits } c.requires.boundary
     c.requires.sure in
     let sum : c.args.sure + (c.args.at - c.args.sure) ≡ c.args.at = omega (arith, its.inside) in
@@ -26,7 +26,7 @@ is_token_boundary-requires-clause-boundary c =
 
 pub returns : goal.returns
 returns c =
-    let its = near c.args.edition c.args.text.now c.args.sure c.args.at record
+    let its = near c.args.edition record
     { utf8 = c.utf8.text; fits = c.requires.fits } c.requires.boundary
     c.requires.sure in
     let sum : c.args.sure + (c.args.at - c.args.sure) ≡ c.args.at = omega (arith, its.inside) in

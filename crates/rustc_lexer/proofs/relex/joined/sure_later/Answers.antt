@@ -1,11 +1,11 @@
-use Rattle.std.proofs.Common.{◌+◌, arith, length-drop}
+use Rattle.std.proofs.Common.{arith, length-drop}
 use Rattle.rustc_lexer.specs.Classes.{IsText}
 use Rattle.rustc_lexer.proofs.lemmas.joined.Sure.{sure_on, sure_place}
 use Rattle.rustc_lexer.proofs.relex.joined.sure_later.Goals as goal
 
 pub range_from-requires : goal.range_from-requires
 range_from-requires c =
-    λ some. sure_place c.args.edition c.args.text.now c.args.sure record { utf8 = c.utf8.text; fits = c.requires.fits }
+    λ some. sure_place c.args.edition _ _ record { utf8 = c.utf8.text; fits = c.requires.fits }
     c.requires.sure
 
 pub settled_in-requires : goal.settled_in-requires
@@ -16,11 +16,11 @@ settled_in-requires c =
 pub overflow_add-result : goal.overflow_add-result
 overflow_add-result c =
     let is : IsText c.args.text.now = record { utf8 = c.utf8.text; fits = c.requires.fits } in
-    let sure = sure_on c.args.edition c.args.text.now c.args.sure c.settled_in.result is c.requires.sure
+    let sure = sure_on c.args.edition is c.requires.sure
     (rw c.range_from.ensures.value at c.settled_in.ensures.settled) in
-    omega (arith, (sure_place c.args.edition c.args.text.now (c.args.sure + c.settled_in.result) is sure).0, is.fits)
+    omega (arith, (sure_place c.args.edition _ _ is sure).0, is.fits)
 
 pub returns : goal.returns
-returns c = sure_on c.args.edition c.args.text.now c.args.sure c.settled_in.result record
+returns c = sure_on c.args.edition record
     { utf8 = c.utf8.text; fits = c.requires.fits } c.requires.sure
     (rw c.range_from.ensures.value at c.settled_in.ensures.settled)

@@ -1,4 +1,5 @@
-use Rattle.std.proofs.Common.{◌-◌, length, ap, arith, refl, string_bytes}
+use Rattle.std.proofs.lemmas.Grind.{common_steps}
+use Rattle.std.proofs.Common.{◌-◌, length, ap, arith, refl}
 use Rattle.rustc_lexer.proofs.lemmas.edits.{Bounds.{bound_mono}, KeptBounds.{end_seen, none_past, start_seen}}
 use Rattle.rustc_lexer.proofs.lemmas.edits.Offsets.{begun, not_begun}
 use Rattle.rustc_lexer.proofs.relex.lexed.Lexed.begun_before.Goals as goal
@@ -24,8 +25,7 @@ returns-in-None-clause-begun g c = λ k less.
       arith,
       c.if-offset-self.false,
       start_seen (g.S.Stepper.law c.self.inside.kept.stepper) g.E.Extent.whole
-          (string_bytes c.self.inside.kept.text) c.self.inside.kept.tokens.items c.self.inside.kept.head
-          c.self.inside.kept.checkpoints c.self.invariant c.args.self.now (ap (λ h. h.text) c.self.view_is)
+          _ _ _ _ c.self.invariant c.args.self.now (ap (λ h. h.text) c.self.view_is)
           (ap (λ h. h.tokens) c.self.view_is),
     )) in
     let most = bound_mono c.args.self.now.tokens k (length c.args.self.now.tokens)
@@ -35,18 +35,9 @@ returns-in-None-clause-begun g c = λ k less.
       c.if-offset-self.false,
       past,
       most,
-      end_seen (g.S.Stepper.law c.self.inside.kept.stepper) g.E.Extent.whole (string_bytes c.self.inside.kept.text)
-          c.self.inside.kept.tokens.items c.self.inside.kept.head c.self.inside.kept.checkpoints c.self.invariant
+      end_seen (g.S.Stepper.law c.self.inside.kept.stepper) g.E.Extent.whole _ _ _ _ c.self.invariant
           c.args.self.now (ap (λ h. h.text) c.self.view_is) (ap (λ h. h.tokens) c.self.view_is),
     )
 
 pub returns-then-offset-self-clause-others : goal.returns-then-offset-self-clause-others
-returns-then-offset-self-clause-others g c =
-    λ k from few. omega (
-      arith,
-      c.if-offset-self.true,
-      start_seen (g.S.Stepper.law c.self.inside.kept.stepper) g.E.Extent.whole
-          (string_bytes c.self.inside.kept.text) c.self.inside.kept.tokens.items c.self.inside.kept.head
-          c.self.inside.kept.checkpoints c.self.invariant c.args.self.now (ap (λ h. h.text) c.self.view_is)
-          (ap (λ h. h.tokens) c.self.view_is),
-    )
+returns-then-offset-self-clause-others g c = grind (arith, common_steps, start_seen)

@@ -1,7 +1,6 @@
-use Rattle.std.proofs.Common.{◌≡◌, List, ℕ, slice_range, string_bytes, refl, sym, ◌∙◌, subst, arith, Err, rules}
+use Rattle.std.proofs.Common.{◌≡◌, List, ℕ, slice_range, string_bytes, refl, ◌∙◌, arith, rules}
 use Rattle.std.proofs.lemmas.Grind.{common_steps}
-use Rattle.rustc_lexer.specs.{declared.relex.relexing.Change.{Change}, Relexing.{IsEditOf}, Edits.{IsEdit, apply}}
-use Rattle.rustc_lexer.specs.LexedText.{HasStepCount, IsEdited, layout_in}
+use Rattle.rustc_lexer.specs.{declared.relex.relexing.Change.{Change}, Relexing.{IsEditOf}, Edits.{apply}}
 use Rattle.rustc_lexer.proofs.lemmas.edits.FrontAndBack.{edited, put_back}
 use Rattle.rustc_lexer.proofs.lemmas.edits.DocumentEdits.{counted_refused, few_none, put_by, refused}
 use Rattle.rustc_lexer.proofs.lemmas.edits.ByLengths.{made_change}
@@ -16,8 +15,7 @@ put_back_from e removed_is read_is again = again ∙ rw (removed_is, read_is) (p
 pub renew-requires-clause-fits : goal.renew-requires-clause-fits
 renew-requires-clause-fits g c =
     let p = put_by c.self.invariant c.utf8.insert
-    (subst (λ h. IsEdit h.text c.args.start c.args.stop c.args.insert.now) (sym c.self.view_is) c.requires.accepted)
-    c.put_in_place.ensures.text c.reserve.ensures.bytes in
+    (rw (← c.self.view_is) at c.requires.accepted) c.put_in_place.ensures.text c.reserve.ensures.bytes in
     (edited p.edit_of).text_is.fits
 
 pub renew-requires-clause-put : goal.renew-requires-clause-put
@@ -35,15 +33,13 @@ returns-in-Ok-clause-count g c = search (rules, put_by)
 pub put_in_place-requires-in-Err-clause-inside : goal.put_in_place-requires-in-Err-clause-inside
 put_in_place-requires-in-Err-clause-inside g c =
     let p = put_by c.self.invariant c.utf8.insert
-    (subst (λ h. IsEdit h.text c.args.start c.args.stop c.args.insert.now) (sym c.self.view_is) c.requires.accepted)
-    c.put_in_place.ensures.text c.reserve.ensures.bytes in
+    (rw (← c.self.view_is) at c.requires.accepted) c.put_in_place.ensures.text c.reserve.ensures.bytes in
     rw c.renew.ensures.text (made_change p.edit_of).inserted
 
 pub invariant_of-self-in-Err : goal.invariant_of-self-in-Err
 invariant_of-self-in-Err g c =
     let p = put_by c.self.invariant c.utf8.insert
-    (subst (λ h. IsEdit h.text c.args.start c.args.stop c.args.insert.now) (sym c.self.view_is) c.requires.accepted)
-    c.put_in_place.ensures.text c.reserve.ensures.bytes in
+    (rw (← c.self.view_is) at c.requires.accepted) c.put_in_place.ensures.text c.reserve.ensures.bytes in
     let same : string_bytes c.put_in_place-in-Err.new.text ≡ string_bytes c.self.inside.kept.text =
     put_back_from p.edit_of (c.as_str.ensures.value ∙ (c.in_ok-removed.ensures.ok ∙ c.range.ensures.value))
     c.deref.ensures
@@ -52,29 +48,19 @@ invariant_of-self-in-Err g c =
 
 pub returns-clause-edited : goal.returns-clause-edited
 returns-clause-edited g c =
-    let p = put_by c.self.invariant c.utf8.insert
-    (subst (λ h. IsEdit h.text c.args.start c.args.stop c.args.insert.now) (sym c.self.view_is) c.requires.accepted)
+    let p = put_by c.self.invariant c.utf8.insert (rw (← c.self.view_is) at c.requires.accepted)
     c.put_in_place.ensures.text c.reserve.ensures.bytes in
     let same : string_bytes c.put_in_place-in-Err.new.text ≡ string_bytes c.self.inside.kept.text =
     put_back_from p.edit_of (c.as_str.ensures.value ∙ (c.in_ok-removed.ensures.ok ∙ c.range.ensures.value))
     c.deref.ensures
     (rw c.renew.ensures.text at c.put_in_place-in-Err.ensures.text) in
-    subst (λ h. IsEdited (layout_in g.E.Extent.whole (g.S.Stepper.grammar h.stepper).first) h c.args.start c.args.stop
-    c.args.insert.now (Err c.in-Err.refused)
-    (record {
-      text = string_bytes c.put_in_place-in-Err.new.text;
-      tokens = c.renew.new.kept.tokens.items;
-      stepper = c.renew.new.kept.stepper;
-    })) c.self.view_is (rw same (c.in-Err.ensures.renewed _ _ p).1)
+    rw (← c.self.view_is, same) (c.in-Err.ensures.renewed _ _ p).1
 
 pub returns-clause-count : goal.returns-clause-count
 returns-clause-count g c =
-    let p = put_by c.self.invariant c.utf8.insert
-    (subst (λ h. IsEdit h.text c.args.start c.args.stop c.args.insert.now) (sym c.self.view_is) c.requires.accepted)
+    let p = put_by c.self.invariant c.utf8.insert (rw (← c.self.view_is) at c.requires.accepted)
     c.put_in_place.ensures.text c.reserve.ensures.bytes in
-    subst (λ h. HasStepCount (layout_in g.E.Extent.whole (g.S.Stepper.grammar h.stepper).first) h.text c.args.start
-    c.args.stop c.args.insert.now (Err c.in-Err.refused) (g.S.Stepper.count h.stepper)
-    (g.S.Stepper.count c.renew.new.kept.stepper)) c.self.view_is (c.in-Err.ensures.renewed _ _ p).2
+    rw (← c.self.view_is) (c.in-Err.ensures.renewed _ _ p).2
 
 pub returns-in_err-removed-clause-edited : goal.returns-in_err-removed-clause-edited
 returns-in_err-removed-clause-edited g c = search (rules, refused)
@@ -84,22 +70,13 @@ returns-in_err-removed-clause-count g c = search (rules, counted_refused, few_no
 
 pub returns-in_err-reserve-clause-edited : goal.returns-in_err-reserve-clause-edited
 returns-in_err-reserve-clause-edited g c =
-    subst (λ h. IsEdited (layout_in g.E.Extent.whole (g.S.Stepper.grammar h.stepper).first) h c.args.start c.args.stop
-    c.args.insert.now c.from_residual-in_err-reserve.result
-    (record {
-      text = string_bytes c.reserve.new.self;
-      tokens = c.self.inside.kept.tokens.items;
-      stepper = c.self.inside.kept.stepper;
-    })) c.self.view_is
+    rw (← c.self.view_is)
     (refused c.from_residual-in_err-reserve.result c.from_residual-in_err-reserve.ensures.0 c.self.invariant.1
     c.reserve.ensures.bytes refl)
 
 pub returns-in_err-reserve-clause-count : goal.returns-in_err-reserve-clause-count
 returns-in_err-reserve-clause-count g c =
-    subst (λ h. HasStepCount (layout_in g.E.Extent.whole (g.S.Stepper.grammar h.stepper).first) h.text c.args.start
-    c.args.stop c.args.insert.now c.from_residual-in_err-reserve.result (g.S.Stepper.count h.stepper)
-    (g.S.Stepper.count c.self.inside.kept.stepper)) c.self.view_is
+    rw (← c.self.view_is)
     (counted_refused c.from_residual-in_err-reserve.result c.from_residual-in_err-reserve.ensures.0 (omega arith)
     (few_none (g.S.Stepper.law c.self.inside.kept.stepper) g.E.Extent.whole _ _ _ _ _ c.self.invariant.0
-    c.utf8.insert (subst (λ h. IsEdit h.text c.args.start c.args.stop c.args.insert.now)
-    (sym c.self.view_is) c.requires.accepted)))
+    c.utf8.insert (rw (← c.self.view_is) at c.requires.accepted)))

@@ -1,4 +1,5 @@
-use Rattle.std.proofs.Common.{◌+◌, length, ap, arith, refl, string_bytes}
+use Rattle.std.proofs.lemmas.Grind.{common_steps}
+use Rattle.std.proofs.Common.{◌+◌, length, ap, arith, refl}
 use Rattle.rustc_lexer.proofs.lemmas.edits.{Bounds.{bound_mono}, KeptBounds.{end_seen, none_past, start_seen}}
 use Rattle.rustc_lexer.proofs.lemmas.edits.Offsets.{ended, not_ended}
 use Rattle.rustc_lexer.proofs.relex.lexed.Lexed.ended_at.Goals as goal
@@ -17,8 +18,7 @@ returns-in-None-clause-ended g c = λ k less.
       arith,
       c.if-offset-self.false,
       start_seen (g.S.Stepper.law c.self.inside.kept.stepper) g.E.Extent.whole
-          (string_bytes c.self.inside.kept.text) c.self.inside.kept.tokens.items c.self.inside.kept.head
-          c.self.inside.kept.checkpoints c.self.invariant c.args.self.now (ap (λ h. h.text) c.self.view_is)
+          _ _ _ _ c.self.invariant c.args.self.now (ap (λ h. h.text) c.self.view_is)
           (ap (λ h. h.tokens) c.self.view_is),
     )) in
     let most = bound_mono c.args.self.now.tokens (k + 1) (length c.args.self.now.tokens)
@@ -28,18 +28,9 @@ returns-in-None-clause-ended g c = λ k less.
       past,
       most,
       end_seen (g.S.Stepper.law c.self.inside.kept.stepper) g.E.Extent.whole
-          (string_bytes c.self.inside.kept.text) c.self.inside.kept.tokens.items c.self.inside.kept.head
-          c.self.inside.kept.checkpoints c.self.invariant c.args.self.now (ap (λ h. h.text) c.self.view_is)
+          _ _ _ _ c.self.invariant c.args.self.now (ap (λ h. h.text) c.self.view_is)
           (ap (λ h. h.tokens) c.self.view_is),
     )
 
 pub returns-then-offset-self-clause-others : goal.returns-then-offset-self-clause-others
-returns-then-offset-self-clause-others g c =
-    λ k from few. omega (
-      arith,
-      c.if-offset-self.true,
-      start_seen (g.S.Stepper.law c.self.inside.kept.stepper) g.E.Extent.whole
-          (string_bytes c.self.inside.kept.text) c.self.inside.kept.tokens.items c.self.inside.kept.head
-          c.self.inside.kept.checkpoints c.self.invariant c.args.self.now (ap (λ h. h.text) c.self.view_is)
-          (ap (λ h. h.tokens) c.self.view_is),
-    )
+returns-then-offset-self-clause-others g c = grind (arith, common_steps, start_seen)

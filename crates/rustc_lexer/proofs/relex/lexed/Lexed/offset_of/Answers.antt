@@ -1,4 +1,4 @@
-use Rattle.std.proofs.Common.{◌≡◌, List, slice_range, refl, ap, ◌∙◌, arith, string_bytes, rules}
+use Rattle.std.proofs.Common.{◌≡◌, List, slice_range, refl, ap, ◌∙◌, arith, rules}
 use Rattle.rustc_lexer.specs.{Token, Tokens.{bound}}
 use Rattle.rustc_lexer.proofs.lemmas.edits.{KeptBounds.{fits_seen}, Pieces.{bound-part}}
 use Rattle.rustc_lexer.proofs.relex.lexed.Lexed.offset_of.Goals as goal
@@ -8,8 +8,7 @@ overflow_cast-start g c =
     omega (
       arith,
       c.bound_before-near.ensures.offset,
-      fits_seen (g.S.Stepper.law c.self.inside.kept.stepper) g.E.Extent.whole (string_bytes c.self.inside.kept.text)
-          c.self.inside.kept.tokens.items c.self.inside.kept.head c.self.inside.kept.checkpoints c.self.invariant
+      fits_seen (g.S.Stepper.law c.self.inside.kept.stepper) g.E.Extent.whole _ _ _ _ c.self.invariant
           c.args.self.now (ap (λ h. h.text) c.self.view_is)
           (ap (λ h. h.tokens) c.self.view_is) c.bound_before-near.result.index
           (omega (arith, c.bound_before-near.ensures.number, c.requires.inside)),
@@ -29,8 +28,7 @@ end_from-requires g c =
       arith,
       c.bound_before-near.ensures.offset,
       part,
-      fits_seen (g.S.Stepper.law c.self.inside.kept.stepper) g.E.Extent.whole (string_bytes c.self.inside.kept.text)
-          c.self.inside.kept.tokens.items c.self.inside.kept.head c.self.inside.kept.checkpoints c.self.invariant
+      fits_seen (g.S.Stepper.law c.self.inside.kept.stepper) g.E.Extent.whole _ _ _ _ c.self.invariant
           c.args.self.now (ap (λ h. h.text) c.self.view_is) (ap (λ h. h.tokens) c.self.view_is) c.args.number
           c.requires.inside,
     )

@@ -1,4 +1,4 @@
-use Rattle.std.proofs.{Common.{length, refl, ap, ◌∙◌, arith, string_bytes}, lemmas.Grind.{common_steps}}
+use Rattle.std.proofs.{Common.{length, refl, ap, ◌∙◌, arith}, lemmas.Grind.{common_steps}}
 use Rattle.rustc_lexer.proofs.lemmas.edits.KeptBounds.{kept_cuts, cut_seen, fits_seen}
 use Rattle.rustc_lexer.proofs.lemmas.edits.Pieces.{cut_part, piece_is, piece_some}
 use Rattle.rustc_lexer.proofs.relex.lexed.Lexed.piece_at.Goals as goal
@@ -11,8 +11,7 @@ overflow_cast-end g c =
     omega (
       arith,
       ap length c.as_str-text.ensures.value,
-      (kept_cuts (g.S.Stepper.law c.self.inside.kept.stepper) (string_bytes c.self.inside.kept.text)
-          c.self.inside.kept.tokens.items c.self.inside.kept.head c.self.inside.kept.checkpoints c.self.invariant).0,
+      (kept_cuts (g.S.Stepper.law c.self.inside.kept.stepper) _ _ _ _ c.self.invariant).0,
     )
 
 pub invariant_of-pieces : goal.invariant_of-pieces
@@ -21,8 +20,7 @@ invariant_of-pieces g c =
     let text = c.as_str-text.ensures.value ∙ ap (λ h. h.text) c.self.view_is in
     let tokens = c.as_slice.ensures.value ∙ ap (λ h. h.tokens) c.self.view_is in
     let all = cut_seen (g.S.Stepper.law c.self.inside.kept.stepper) g.E.Extent.whole
-    (string_bytes c.self.inside.kept.text) c.self.inside.kept.tokens.items c.self.inside.kept.head
-    c.self.inside.kept.checkpoints c.self.invariant c.args.self.now (ap (λ h. h.text) c.self.view_is)
+    _ _ _ _ c.self.invariant c.args.self.now (ap (λ h. h.text) c.self.view_is)
     (ap (λ h. h.tokens) c.self.view_is) in
     rw (text, tokens)
     (cut_part _ _ _ _ _ _ c.in_ok-at.at.index (length c.args.self.now.tokens) (omega (arith, is.number))

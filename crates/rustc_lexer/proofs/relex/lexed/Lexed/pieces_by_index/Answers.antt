@@ -1,5 +1,5 @@
 use Rattle.std.proofs.{lemmas.Grind.{common_steps}, Common.{rules}}
-use Rattle.std.proofs.Common.{ap, ◌∙◌, arith, length-drop, length-take-le, string_bytes}
+use Rattle.std.proofs.Common.{ap, ◌∙◌, arith, length-drop, length-take-le}
 use Rattle.rustc_lexer.proofs.lemmas.edits.KeptBounds.{cut_seen, start_seen}
 use Rattle.rustc_lexer.proofs.lemmas.edits.Pieces.{cut_part, length-pieces, pieces-part}
 use Rattle.rustc_lexer.proofs.relex.lexed.Lexed.pieces_by_index.Goals as goal
@@ -14,8 +14,7 @@ invariant_of-result g c =
     rw (text, tokens)
     (cut_part _ _ _ _ _ _ c.args.from c.args.to c.requires.from_le_to c.requires.to_inside c.offset_of-start.ensures
     c.offset_of-end.ensures
-    (cut_seen (g.S.Stepper.law c.self.inside.kept.stepper) g.E.Extent.whole (string_bytes c.self.inside.kept.text)
-    c.self.inside.kept.tokens.items c.self.inside.kept.head c.self.inside.kept.checkpoints c.self.invariant
+    (cut_seen (g.S.Stepper.law c.self.inside.kept.stepper) g.E.Extent.whole _ _ _ _ c.self.invariant
     c.args.self.now (ap (λ h. h.text) c.self.view_is) (ap (λ h. h.tokens) c.self.view_is)))
 
 pub returns : goal.returns

@@ -1,4 +1,4 @@
-use Rattle.std.proofs.Common.{length, map, ap, refl, ◌∙◌, string_bytes}
+use Rattle.std.proofs.Common.{length, map, ap, refl, ◌∙◌}
 use Rattle.rustc_lexer.specs.{LexedText.{start_in}, Offsets.{ArePlaced}, Token}
 use Rattle.rustc_lexer.proofs.lemmas.edits.{KeptBounds.{end_seen}, Offsets.{answered, if_some}}
 use Rattle.rustc_lexer.proofs.relex.lexed.Lexed.token_start_at.Goals as goal
@@ -11,16 +11,11 @@ returns g c =
     (start_in g.E.Extent.whole c.args.self.now.text) c.args.self.now.tokens c.bound_near-near.result =
     record { lengths_are = refl; number = near.0; offset = near.1 } in
     let token = if_some c.args.offset c.token_around.result (rw read at c.token_around.ensures.token) placed in
+    let end = end_seen (g.S.Stepper.law c.self.inside.kept.stepper) g.E.Extent.whole _ _ _ _ c.self.invariant
+    c.args.self.now (ap (λ h. h.text) c.self.view_is) (ap (λ h. h.tokens) c.self.view_is) in
     record {
       token = token;
-      some = answered c.token_around.result _ c.args.self.now.tokens c.args.offset (length c.args.self.now.text)
-          (end_seen (g.S.Stepper.law c.self.inside.kept.stepper) g.E.Extent.whole (string_bytes c.self.inside.kept.text)
-          c.self.inside.kept.tokens.items c.self.inside.kept.head c.self.inside.kept.checkpoints c.self.invariant
-          c.args.self.now (ap (λ h. h.text) c.self.view_is) (ap (λ h. h.tokens) c.self.view_is))
-          token (λ none le. rw
-          (end_seen (g.S.Stepper.law c.self.inside.kept.stepper) g.E.Extent.whole
-          (string_bytes c.self.inside.kept.text) c.self.inside.kept.tokens.items c.self.inside.kept.head
-          c.self.inside.kept.checkpoints c.self.invariant c.args.self.now (ap (λ h. h.text) c.self.view_is)
-          (ap (λ h. h.tokens) c.self.view_is)) at
+      some = answered c.token_around.result _ c.args.self.now.tokens c.args.offset (length c.args.self.now.text) end
+          token (λ none le. rw end at
           (rw read at c.token_around.ensures.none none _ c.args.self.now.tokens placed le));
     }
