@@ -1,6 +1,6 @@
 -- A list of edits, one edit at a time, and how much of it was applied.
 use Rattle.std.proofs.Common.{◌≡◌, ℕ, ◌+◌, ◌-◌, ◌<◌, ◌≤◌, min, List, [], ◌∷◌, ◌++◌, length, take, drop, get_or, refl}
-use Rattle.std.proofs.Common.{sym, ap, ◌∙◌, subst, arith, length-drop, length-take-le, drop-drop, Option, IfSome, Ok}
+use Rattle.std.proofs.Common.{sym, ◌∙◌, arith, length-drop, length-take-le, drop-drop, Ok}
 use Rattle.std.proofs.Common.{Err}
 use Rattle.std.specs.List.{All}
 use Rattle.std.proofs.lemmas.List.{length-take, take_more, Elements.{All-cons, All-head, All-tail}}
@@ -42,8 +42,7 @@ most_of : (layout : List ℕ → Layout) (text : List ℕ) (start stop : ℕ) (i
     → (most : ℕ) × IsStepped layout text start stop insert before most × (after ≤ most)
 most_of layout text start stop insert before after few =
     let own : ℕ = length (layout (apply text start stop insert)).head - few.0.kept_front in
-    let at_most : after + own ≤ before + few.0.lexed = few.2 in
-    (before + few.0.lexed - own, (few.0, few.1, omega (arith, at_most)), omega (arith, at_most))
+    (before + few.0.lexed - own, (few.0, few.1, omega arith), omega arith)
 
 -- One more edit adds its own steps.
 module _ (layout : List ℕ → Layout) where
@@ -55,7 +54,7 @@ module _ (layout : List ℕ → Layout) where
       → IsSteppedBy (apply_list text es) e between after
       → AreStepped layout text (es ++ e ∷ []) before after
   stepped-last text [] e before between after are is =
-      (after, subst (λ (k : ℕ). IsSteppedBy text e k after) are is, refl)
+      (after, rw (← are) is, refl)
   stepped-last text (f ∷ es) e before between after are is =
       (are.0, are.1, stepped-last (applied text f) es e are.0 between after are.2 is)
 
@@ -149,8 +148,7 @@ pub stop_of : (text : List ℕ) (es : List Edit) (s : EditStop) → stop_at s < 
     → IsRefusedOn s text (get_or es (stop_at s) none) → IsStop s text es
 stop_of text es s few refused = (
   few,
-  subst (λ (o : Option Edit). IfSome o (IsRefusedOn s text)) (sym (slice_get-get_or es (stop_at s) none few))
-      refused,
+  rw (slice_get-get_or es (stop_at s) none few) refused,
 )
 
 -- If tokens are kept at the back, fewer tokens are kept too.
@@ -160,8 +158,7 @@ fewer_back : (n back : ℕ) (old new : List Token) → n ≤ back → back ≤ l
 fewer_back n back old new few old_has new_has same =
     let before : length new - back + (back - n) ≡ length new - n = omega arith in
     let after : length old - back + (back - n) ≡ length old - n = omega arith in
-    sym (drop-drop (back - n) (length new - back) new ∙ ap (λ k. drop k new) before)
-    ∙ (ap (drop (back - n)) same ∙ (drop-drop (back - n) (length old - back) old ∙ ap (λ k. drop k old) after))
+    cc (drop-drop (back - n) (length new - back) new, drop-drop (back - n) (length old - back) old)
 
 fewer_stay : {old new : List Token} {front back : ℕ} (n m : ℕ) → n ≤ front → m ≤ back → StayAtEnds old new front back
     → StayAtEnds old new n m
@@ -199,7 +196,7 @@ kept_then {old} {between} {new} {a} {b} {r} front back count before then =
     record {
       all = all;
       front = stay.same_front;
-      back = subst (λ k. drop k new ≡ drop (length old - r.kept_back) old) from stay.same_back;
+      back = rw from at stay.same_back;
     }
 
 -- ---- how much of a list was applied
@@ -235,8 +232,8 @@ module _ {S : Type 0} {layout : List ℕ → Layout} {old mid : Held S} {edits :
         → AreStepped layout old.text (take at edits) before between
         → AreStepped layout old.text (take next.count edits) before after
     counted_more {X} {r} before between after next count_is relexed i are =
-        subst (λ k. AreStepped layout old.text (take k edits) before after) (sym count_is)
-        (stepped-more layout old.text mid.text edits at before between after few m.text are (r, relexed, i.count))
+        rw count_is (stepped-more layout old.text mid.text edits at before between after few m.text are
+        (r, relexed, i.count))
 
     pub kept_more : {X : Type 0} {r : Relexed} {new : Held S} (next : Made) → AreKeptTo layout old edits made mid
         → IsEdited {E = X} layout mid edit.start edit.stop edit.insert.now (Ok r) new → next.count ≡ at + 1
@@ -246,10 +243,8 @@ module _ {S : Type 0} {layout : List ℕ → Layout} {old mid : Held S} {edits :
       stay = stay-more next.front next.back front_is back_is kept.stay
           (counts_stay mid.tokens new.tokens r.kept_front r.lexed r.kept_back i.kept.all i.kept.front i.kept.back);
       least =
-          subst (λ k. AreLeast layout old.text (take k edits) (length old.tokens)
-          (length old.tokens) next.front next.back) (sym count_is)
-          (least-more layout r old.text mid.text edits at _ _ made.front made.back _ _ few m.text front_is back_is
-          kept.least i.relexed);
+          rw count_is (least-more layout r old.text mid.text edits at _ _ made.front made.back _ _ few m.text front_is
+          back_is kept.least i.relexed);
     }
 
     -- A failed edit does not change the tokens.
@@ -258,7 +253,7 @@ module _ {S : Type 0} {layout : List ℕ → Layout} {old mid : Held S} {edits :
         → AreKeptTo layout old edits made new
     kept_refused {X} {x} {new} kept i =
         record {
-          stay = subst (λ ts. StayAtEnds old.tokens ts made.front made.back) (sym i.same_tokens) kept.stay;
+          stay = rw i.same_tokens kept.stay;
           least = kept.least;
         }
 
@@ -267,8 +262,7 @@ module _ {S : Type 0} {layout : List ℕ → Layout} {old mid : Held S} {edits :
         → AreApplied {T = T} layout old edits (Err (Memory at)) new
     made_refused {X} {T} {x} {new} i =
         made_stop (Memory at) refl few
-        (subst (λ xs. IsEdit xs edit.start edit.stop edit.insert.now) (sym i.same_text) is) i.same_text
-        i.from_scratch
+        (rw i.same_text is) i.same_text i.from_scratch
 
     pub counted_refused : {X T : Type 0} {x : X} (before between after : ℕ)
         → HasStepCount {E = X} layout mid.text edit.start edit.stop edit.insert.now (Err x) between after
@@ -307,18 +301,12 @@ kept_through {S} {layout} {old} {new} {edits} {made} r kept front back all =
       each_is = most.1;
       most_front = rw front most.2;
       most_back = (
-        (
-          omega (arith, front, back, stay.front_inside),
-          omega (arith, front, back, stay.front_within),
-          λ k d less. omega (arith, back, most.3.0.1 k d less),
-        ),
-        λ n fits. let less = most.3.1 n (omega (arith, fits.0), fits.2) in
-            omega (arith, front, back, fits.0, fits.1, less),
+        (omega arith, omega arith, λ k d less. omega (arith, most.3.0.1 k d less)),
+        λ n fits. let less = most.3.1 n (omega arith, fits.2) in omega arith,
       );
       kept = record {
         all = all;
         front = rw front stay.same_front;
-        back = subst (λ n. drop n new.tokens ≡ drop (length old.tokens - r.kept_back) old.tokens) past
-            (counts_back (length new.tokens) r.kept_back refl back stay);
+        back = rw past at (counts_back (length new.tokens) r.kept_back refl back stay);
       };
     }
