@@ -37,8 +37,7 @@ rises {first} law text is k few =
     omega (arith, next.end, law.not_empty left cut.past some)
   where
     non-empty : (left : List ℕ) → drop k (tokens_by first text) ≡ tokens_by first left → 0 < length left
-    non-empty [] e = absurd (let none : length (drop k (tokens_by first text)) ≡ 0 = ap length (e ∙ tokens-nil first) in
-        omega (arith, length-drop k (tokens_by first text)))
+    non-empty [] e = absurd (omega (arith, ap length (e ∙ tokens-nil first), length-drop k (tokens_by first text)))
     non-empty (c ∷ cs) e = omega arith
 
 -- There are at least k bytes before token boundary k, because no token is empty.

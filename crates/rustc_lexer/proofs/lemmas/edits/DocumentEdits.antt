@@ -1,7 +1,7 @@
 -- An edit of a lexed text: the tokens that replace its old tokens.
 use Rattle.std.proofs.Common.{◌≡◌, ◌↔◌, ℕ, ◌+◌, ◌-◌, ◌<◌, ◌≤◌, ◌^◌, Bool, true, false, if◌then◌else◌, IsTrue, List}
 use Rattle.std.proofs.Common.{◌++◌, length, map, take, drop, refl, sym, ap, ◌∙◌, arith, length-append}
-use Rattle.std.proofs.Common.{length-drop, rules, Result, Ok, Err, ◌&&◌, nat_le, true≢false, IsUtf8}
+use Rattle.std.proofs.Common.{length-drop, rules, Result, Ok, Err, ◌&&◌, nat_le, IsUtf8}
 use Rattle.std.specs.List.{All, Contains}
 use Rattle.std.proofs.lemmas.List.{take_rest, Elements.{All-contains}}
 use Rattle.std.proofs.Math.Seq.{drop-append_seam, drop-append-add, take-append_seam, take-append-add}
@@ -148,7 +148,8 @@ module _ {layout : (List ℕ → Token) → List ℕ → Layout} {first : List �
                   back = back_with _ _ (omega (arith, many)) (omega (arith, sizes.1, sizes.3));
                 }
             by_kept false same =
-                let none : at.front.index ≡ 0 = rw same at l.under_way.front ∙ kept_none (drop old.body before) behind in
+                let none : at.front.index ≡ 0 = rw same at l.under_way.front
+                ∙ kept_none (drop old.body before) behind in
                 record {
                   all = omega (arith, sizes.0, sizes.2);
                   front = rw none;
@@ -157,12 +158,7 @@ module _ {layout : (List ℕ → Token) → List ℕ → Layout} {first : List �
 
         pub counted_few : at.front.index < 2 ^ 33
         counted_few =
-            omega (
-              arith,
-              l.under_way.front_bound.0,
-              tokens_le_bytes law (drop old.body before) made_here.edit_of.is_text,
-              made_here.edit_of.is_text.fits,
-            )
+            let is = made_here.edit_of.is_text in omega (arith, l.under_way.front_bound.0, tokens_le_bytes law _ is)
 
 -- The body is the result of its change, in terms of the variables of the code.
 pub made_read : {layout : (List ℕ → Token) → List ℕ → Layout} {first : List ℕ → Token}
@@ -217,7 +213,7 @@ put_by {insert = insert} {start = start} {stop = stop} kept utf8 valid made_is r
 }
 
 pub left_back : {R E : Type 0} (r : Result R E) (made before : List ℕ) → IsErr r → text_left r made before ≡ before
-left_back (Ok x) made before err = absurd (true≢false (sym err))
+left_back (Ok x) made before err = absurd (cc)
 left_back (Err e) made before err = refl
 
 -- A failed edit restores the text and changes nothing else.
@@ -226,7 +222,7 @@ pub refused : {S E : Type 0} {layout : List ℕ → Layout} {text left insert : 
     → IsErr r → tokens ≡ tokens_in (layout text) → left ≡ text → now ≡ tokens
     → IsEdited layout (record { text = text; tokens = tokens; stepper = stepper }) start stop insert r
     (record { text = left; tokens = now; stepper = later })
-refused (Ok x) err scratch left_is now_is = absurd (true≢false (sym err))
+refused (Ok x) err scratch left_is now_is = absurd (cc)
 refused {layout = layout} (Err e) err scratch left_is now_is = record {
   text = search rules;
   from_scratch = cc;
@@ -240,7 +236,7 @@ pub counted_refused : {E : Type 0} {layout : List ℕ → Layout} {text insert :
     (r : Result Relexed E)
     → IsErr r → before ≤ after → TakesFew layout text start stop insert before after
     → HasStepCount layout text start stop insert r before after
-counted_refused (Ok x) err rose few = absurd (true≢false (sym err))
+counted_refused (Ok x) err rose few = absurd (cc)
 counted_refused (Err e) err rose few = record { count = search rules; rose = rose; few = few }
 
 -- The type of the error does not matter for a successful edit.

@@ -1,6 +1,6 @@
 -- How far the tokens of a text are final.
 use Rattle.std.proofs.Common.{◌≡◌, ℕ, zero, suc, ◌+◌, ◌-◌, ◌<◌, ◌≤◌, true, false, List, [], ◌∷◌, ◌++◌, length, take}
-use Rattle.std.proofs.Common.{drop, refl, sym, ap, ◌∙◌, arith, take_at, length-append, IsUtf8, IsCharBoundary, subst}
+use Rattle.std.proofs.Common.{drop, refl, sym, ap, ◌∙◌, arith, take_at, length-append, IsUtf8, IsCharBoundary}
 use Rattle.std.proofs.lemmas.Str.{IsCharBoundary-from_drop, IsCharBoundary-end, IsUtf8-between}
 use Rattle.std.proofs.{Math.Seq.{take-length}, lemmas.Grind.{common_steps}}
 use Rattle.rustc_lexer.specs.{declared.relex.front.TokenStart.{TokenStart}, Token, Offsets.{IsBound}}
@@ -58,13 +58,8 @@ module _ {first : List ℕ → Token} (law : IsGrammar first) (text : List ℕ) 
       next : length at.items < length (tokens_by first text)
           → has_two text (bound (tokens_by first text) (length at.items + 1)) (length text) ≡ false
       next few =
-          let more : offset < length text =
-          omega (
-            arith,
-            at.to.offset_is,
-            rises law text is (length at.items) few,
-            (boundary (suc (length at.items))).0,
-          ) in
+          let inside = (boundary (suc (length at.items))).0 in
+          let more : offset < length text = omega (arith, at.to.offset_is, rises law text is (length at.items) few) in
           let past = (lexed_more law text at.items offset is at.to more).offset_is in
           rw (sym (past ∙ ap (bound (tokens_by first text)) (length-append at.items (first (drop offset text) ∷ []))))
           (out more)
@@ -100,8 +95,7 @@ module _ {first : List ℕ → Token} (law : IsGrammar first) (text : List ℕ) 
       let b : ℕ = bound (tokens_by first text) (suc k) in
       let positive : 0 < b =
       omega (arith, rises law text is 0 (omega arith), bound_mono (tokens_by first text) 1 (suc k) (omega arith)) in
-      let at_offset : IsCharBoundary text offset =
-      subst (IsCharBoundary text) settled.at_bound.2 (boundary settled.at_bound.0).1 in
+      let at_offset = rw settled.at_bound.2 at (boundary settled.at_bound.0).1 in
       stays_at more (suc k) its few
       (has_two-mono text b offset (length text) is.utf8 le (boundary (suc k)).1 at_offset
       (settled.two (omega arith)))
