@@ -79,17 +79,6 @@ order_inside text [] some are = absurd (some refl)
 order_inside text (e ∷ es) some are =
     grind (arith, common_steps, order_end text e.stop es are.2 are.1.stop_inside are.1.stop_boundary)
 
--- The result starts with the text before the first edit.
-from_first : (text : List ℕ) (es : List Edit) → (es ≡ [] → ⊥)
-    → with_all text 0 es ≡ take (start_of_first es) text ++ with_all text (start_of_first es) es
-from_first text es w2 = grind (arith, common_steps)
-
-pub applied_is : (text : List ℕ) (es : List Edit) → (es ≡ [] → ⊥)
-    → with_all text 0 es ++ drop (stop_of_last 0 es) text ≡ apply text (start_of_first es) (stop_of_last 0 es)
-    (with_all text (start_of_first es) es)
-unfolding apply
-applied_is text es some = grind (arith, common_steps, from_first text es some, append_assoc)
-
 -- An edit before a rest gives the text before the edit, then the inserted text, then the rest.
 put_before : (text rest : List ℕ) (from : ℕ) (e : Edit) → from ≤ e.start → IsInside text e.start e.stop
     → apply (take e.stop text ++ rest) e.start e.stop e.insert.now ≡
@@ -124,11 +113,6 @@ backwards text from (e ∷ es) are few =
 pub none_by_one : (text : List ℕ) (es : List Edit) → length es ≡ 0 → text ≡ apply_list text (reverse es)
 none_by_one text es w2 = grind (arith, common_steps)
 
-pub one_by_one : (text : List ℕ) (es : List Edit) → (es ≡ [] → ⊥) → AreInOrder text 0 es
-    → apply text (start_of_first es) (stop_of_last 0 es) (with_all text (start_of_first es) es) ≡
-    apply_list text (reverse es)
-one_by_one text es some are = cc (applied_is text es some, backwards text 0 es are (omega arith))
-
 -- The rest of a text after some characters is UTF-8.
 rest_encoded : (cs ys : List ℕ) → IsUtf8 (encodes cs ++ ys) → IsUtf8 ys
 rest_encoded [] ys is = is
@@ -136,26 +120,38 @@ rest_encoded (c ∷ cs) ys is =
     rest_encoded cs ys
     (IsUtf8-past_char (encodes (c ∷ cs) ++ ys) (encodes cs ++ ys) c is (append_assoc (encode c) (encodes cs) ys))
 
-pub insert_utf8 : (text : List ℕ) (es : List Edit) → (es ≡ [] → ⊥) → IsUtf8 text → AreInOrder text 0 es
-    → IsUtf8 (with_all text 0 es) → IsUtf8 (with_all text (start_of_first es) es)
-insert_utf8 text es some is are all =
-    let front = IsUtf8-take text (start_of_first es) is (order_inside text es some are).start_boundary in
-    rest_encoded front.0 (with_all text (start_of_first es) es)
-    (rw front.1.1 (rw (from_first text es some) at all))
+module _ (text : List ℕ) (es : List Edit) (some : es ≡ [] → ⊥) where
+  abbrev insert : List ℕ
+  insert = with_all text (start_of_first es) es
 
--- The inserted text ends at the start of the first edit plus its length.
-pub insert_end : (text : List ℕ) (es : List Edit) → (es ≡ [] → ⊥) → AreInOrder text 0 es → length (with_all text 0 es) ≡
-    start_of_first es + length (with_all text (start_of_first es) es)
-insert_end text es some are = grind (arith, common_steps, order_inside, from_first, length-append, length-take-le)
+  -- The result starts with the text before the first edit.
+  from_first : with_all text 0 es ≡ take (start_of_first es) text ++ insert
+  from_first = grind (arith, common_steps)
 
-pub at_once_valid : (text : List ℕ) (es : List Edit) → (es ≡ [] → ⊥) → AreInOrder text 0 es
-    → length (with_all text 0 es) + (length text - stop_of_last 0 es) < 2 ^ 32 → AreAtOnce text es
-at_once_valid text es some are short = grind (arith, common_steps, order_inside, insert_end)
+  applied_is : with_all text 0 es ++ drop (stop_of_last 0 es) text ≡
+      apply text (start_of_first es) (stop_of_last 0 es) insert
+  unfolding apply
+  applied_is = grind (arith, common_steps, from_first, append_assoc)
 
-pub at_once_short : (text : List ℕ) (es : List Edit) → (es ≡ [] → ⊥) → AreAtOnce text es
-    → length (with_all text 0 es) + (length text - stop_of_last 0 es) < 2 ^ 32
-at_once_short text es some are =
-    omega (arith, insert_end text es some are.0)
+  pub one_by_one : AreInOrder text 0 es → apply text (start_of_first es) (stop_of_last 0 es) insert ≡
+      apply_list text (reverse es)
+  one_by_one are = cc (applied_is, backwards text 0 es are (omega arith))
+
+  pub insert_utf8 : IsUtf8 text → AreInOrder text 0 es → IsUtf8 (with_all text 0 es) → IsUtf8 insert
+  insert_utf8 is are all =
+      let front = IsUtf8-take text (start_of_first es) is (order_inside text es some are).start_boundary in
+      rest_encoded front.0 insert (rw (front.1.1, ← from_first) all)
+
+  -- The inserted text ends at the start of the first edit plus its length.
+  pub insert_end : AreInOrder text 0 es → length (with_all text 0 es) ≡ start_of_first es + length insert
+  insert_end are = grind (arith, common_steps, order_inside, from_first, length-append, length-take-le)
+
+  pub at_once_valid : AreInOrder text 0 es → length (with_all text 0 es) + (length text - stop_of_last 0 es) < 2 ^ 32
+      → AreAtOnce text es
+  at_once_valid are short = grind (arith, common_steps, order_inside, insert_end)
+
+  pub at_once_short : AreAtOnce text es → length (with_all text 0 es) + (length text - stop_of_last 0 es) < 2 ^ 32
+  at_once_short are = omega (arith, insert_end are.0)
 
 pub at_once_none : (text : List ℕ) (es : List Edit) → length es ≡ 0 → IsText text → AreAtOnce text es
 at_once_none text [] none is = grind (arith, common_steps, IsCharBoundary-start)

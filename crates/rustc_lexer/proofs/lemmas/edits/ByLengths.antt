@@ -1,6 +1,6 @@
 -- Tokens with known lengths only: the token boundaries that are found, and where the search of the old boundaries ends.
 use Rattle.std.proofs.Common.{◌≡◌, ℕ, ◌+◌, ◌-◌, ◌<◌, ◌≤◌, Bool, false, ◌||◌, eqb, eq-eqb, List, ◌++◌, length, map, take}
-use Rattle.std.proofs.Common.{drop, sym, ap, ◌∙◌, arith, length-drop, length-append, IsUtf8, drop-drop}
+use Rattle.std.proofs.Common.{drop, ap, arith, length-drop, length-append, IsUtf8, drop-drop}
 use Rattle.std.proofs.Common.{length-take-le, append_assoc, eq-or-lt_of_le, IsCharBoundary, max, true, get_or}
 use Rattle.std.proofs.lemmas.Str.{IsUtf8-append, IsUtf8-drop, IsCharBoundary-at_seam, IsCharBoundary-from_drop}
 use Rattle.std.proofs.lemmas.Str.{IsUtf8-take, IsCharBoundary-from_take}
@@ -117,7 +117,7 @@ made_change {text} {insert} {new} {change} e =
     let next : length (front ++ insert) ≡ change.new_end =
     omega (arith, length-append front insert, short, e.new_end) in
     let stop_boundary : IsCharBoundary new change.new_end =
-    rw next at (IsCharBoundary-at_seam new (front ++ insert) back (e.made ∙ sym (append_assoc front insert back)) back_utf8) in
+    rw next at (IsCharBoundary-at_seam new (front ++ insert) back (rw append_assoc e.made) back_utf8) in
     record {
       inserted = record {
         start_le_stop = (edited e).start_le_new;

@@ -12,7 +12,7 @@ use Rattle.std.proofs.Math.Utf8.{encodes}
 use Rattle.rustc_lexer.specs.{Token, Locality.{AgreePast, IsGrammar, has_two}, Classes.{IsText}}
 use Rattle.rustc_lexer.specs.{Tokens.{bound, tokens_by}, Edits.{apply}, Relexing.{IsEditOf}}
 use Rattle.rustc_lexer.specs.declared.relex.relexing.Change.{Change}
-use Rattle.rustc_lexer.specs.laws.Cuts.{IsCutAt, at_bound, tokens_local, look}
+use Rattle.rustc_lexer.specs.laws.Cuts.{at_bound, tokens_local, look}
 
 -- A proposition that always holds also holds for an error.
 pub IfErr-always : {T E : Type 0} {P : Type 0} (r : Result T E) → P → IfErr r (λ _. P)
@@ -59,15 +59,8 @@ edited {text} {insert} {new} {edit} e =
 -- A prefix with two characters decides the first two characters of a text.
 pub look-enough : (xs ys zs : List ℕ) → IsUtf8 xs → 2 ≤ length (chars xs) → look (xs ++ ys) ≡ look (xs ++ zs)
 look-enough xs ys zs is two =
-    grind (
-      arith,
-      common_steps,
-      chars-append xs ys is,
-      chars-append xs zs is,
-      take-append-le 2 (chars xs)
-          (chars ys) two,
-      take-append-le 2 (chars xs) (chars zs) two,
-    )
+    let front = λ (vs : List ℕ). take-append-le 2 (chars xs) (chars vs) two in
+    cc (chars-append xs ys is, chars-append xs zs is, front ys, front zs)
 
 positive : (n : ℕ) (xs : List ℕ) → 2 ≤ length (chars (take n xs)) → 0 < n
 positive n xs w2 = grind (arith, common_steps, chars-nil)
@@ -124,11 +117,10 @@ module _ {first : List ℕ → Token} (law : IsGrammar first) {text insert new :
   kept_same zero few two = refl
   kept_same (suc k) few two =
       let offset : ℕ = bound (tokens_by first text) (suc k) in
-      let cut : IsCutAt first text (tokens_by first text) (suc k) = at_bound law (suc k) text e.is_text in
-      let has : has_two text offset edit.start ≡ true = two (omega arith) in
-      let before : offset < edit.start = has_two-before text offset edit.start has in
-      let middle : IsUtf8 (take (edit.start - offset) (drop offset text)) =
-      IsUtf8-between text offset edit.start e.is_text.utf8 (omega arith)
+      let cut = at_bound law (suc k) text e.is_text in
+      let has = two (omega arith) in
+      let before = has_two-before text offset edit.start has in
+      let middle = IsUtf8-between text offset edit.start e.is_text.utf8 (omega arith)
       (IsCharBoundary-from_drop text offset cut.inside cut.past.utf8) e.is_edit.inside.start_boundary in
       tokens_local law (suc k) text new e.is_text (edited e).text_is few
       (has_two-agree text new offset edit.start middle (edited e).front has)

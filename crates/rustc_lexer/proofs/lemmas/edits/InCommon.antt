@@ -15,7 +15,8 @@ pub front_more : (old new : List ℕ) (at to : ℕ) → IsSameFront old new at �
     → to ≤ length new → slice_range old at to ≡ slice_range new at to → IsSameFront old new to
 front_more old new at to is less in_old in_new same =
     let there : at + (to - at) ≡ to = omega arith in
-    record { in_old = in_old; in_new = in_new; same = cc (take-add at (to - at) old, take-add at (to - at) new, is.same) }
+    let part = take-add at (to - at) in
+    record { in_old = in_old; in_new = in_new; same = cc (part old, part new, is.same) }
 
 pub front_less : (old new : List ℕ) (at n : ℕ) → IsSameFront old new at → n ≤ at → IsSameFront old new n
 front_less old new at n is less = record {

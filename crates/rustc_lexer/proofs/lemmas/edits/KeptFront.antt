@@ -38,7 +38,8 @@ counted_first test (x ∷ xs) first k few =
     by_test true e later zero less = grind (arith, common_steps, count-cons test x xs)
     by_test true e later (suc k) less = grind (arith, common_steps, count-cons test x xs, later k (omega arith))
     by_test false e later k less =
-        let none = none_counted test (x ∷ xs) (λ j few. false_from_ne_true _ (λ has. cc (first 0 j (omega arith) few has))) in
+        let none = none_counted test (x ∷ xs)
+        (λ j few. false_from_ne_true _ (λ has. cc (first 0 j (omega arith) few has))) in
         grind (arith, common_steps, none, first 0 k (omega arith) less)
 
 length-ends_from : (from : ℕ) (ts : List Token) → length (ends_from from ts) ≡ length ts

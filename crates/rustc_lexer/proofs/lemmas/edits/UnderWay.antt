@@ -47,6 +47,9 @@ module _ {first : List ℕ → Token} (law : IsGrammar first) {before lengths in
   abbrev new : List Token
   new = tokens_by first text
 
+  made_text : IsText text
+  made_text = (edited is.edit_of).text_is
+
   abbrev Meets : ℕ → ℕ → Type 0
   Meets = IsMeeting (fragment_by first before) (fragment_by first text) change.old_end change.new_end
 
@@ -92,7 +95,7 @@ module _ {first : List ℕ → Token} (law : IsGrammar first) {before lengths in
   module _ {at : Relexing} (u : IsUnderWay first before change text at) where
     -- The remaining tokens are the tokens of the remaining text.
     pub left_at : tokens_by first (drop at.at text) ≡ drop (known at) new
-    left_at = cc (u.offset, (at_bound law (known at) text (edited is.edit_of).text_is).rest)
+    left_at = cc (u.offset, (at_bound law (known at) text made_text).rest)
 
     -- While the tokens have not met, some text is left.
     pub more_left : at.met ≡ false → at.at < length text
@@ -101,8 +104,8 @@ module _ {first : List ℕ → Token} (law : IsGrammar first) {before lengths in
       | inr over ↦ elim (eq-or-lt_of_le u.inside) [
         | inl end ↦ let hit = u.met.1 (0, rw end (ends_meet law is.edit_of)) in absurd (cc)
         | inr few ↦
-            let cut = at_bound law (suc (known at)) text (edited is.edit_of).text_is in
-            omega (arith, over, u.offset, rises law text (edited is.edit_of).text_is (known at) few, cut.inside)
+            let cut = at_bound law (suc (known at)) text made_text in
+            omega (arith, over, u.offset, rises law text made_text (known at) few, cut.inside)
       ]
     ]
 
@@ -204,7 +207,7 @@ module _ {first : List ℕ → Token} (law : IsGrammar first) {before lengths in
           let here : known at + k ≡ number = omega (arith, more) in
           let early : bound new number < end =
           omega (arith, begin k (omega (arith, known_past)), shift k, ap (bound new) here) in
-          let up = rises law text (edited is.edit_of).text_is (known at) (omega (arith, m.number_inside)) in
+          let up = rises law text made_text (known at) (omega (arith, m.number_inside)) in
           let later : at.at < bound new number =
           omega (arith, u.offset, bound_mono new (suc (known at)) number more) in
           let free = clear (bound new number) later early (omega (arith, m.past_edit)) in
@@ -218,7 +221,7 @@ module _ {first : List ℕ → Token} (law : IsGrammar first) {before lengths in
         → TakesSteps first text change.new_end at 1 past → drop (known at) new ≡ token ∷ drop (known past) new
     gives_next {token} {past} out token_is steps =
         let rest : List ℕ = drop at.at text in
-        let rest_is : IsText rest = rw u.offset (at_bound law (known at) text (edited is.edit_of).text_is).past in
+        let rest_is : IsText rest = rw u.offset (at_bound law (known at) text made_text).past in
         let cons = sym left_at ∙ tokens-cons law rest rest_is (omega (arith, more_left out, length-drop at.at text)) in
         cc (cons, ap (drop 1) cons, known_past steps, drop-drop 1 (known at) new, token_is)
 

@@ -1,6 +1,6 @@
 -- An edit of a text with its head: the edit of the body, whose counts determine the counts of the whole edit.
-use Rattle.std.proofs.Common.{◌≡◌, ℕ, max, ◌+◌, ◌-◌, ◌<◌, ◌≤◌, Bool, true, false, if◌then◌else◌, true≢false, List, []}
-use Rattle.std.proofs.Common.{◌∷◌, length, map, drop, refl, sym, ap, ◌∙◌, arith, drop-drop, IsTrue, ◌↔◌, ◌++◌, take}
+use Rattle.std.proofs.Common.{◌≡◌, ℕ, max, ◌+◌, ◌-◌, ◌<◌, ◌≤◌, Bool, true, false, if◌then◌else◌, List, []}
+use Rattle.std.proofs.Common.{◌∷◌, length, map, drop, refl, sym, ap, arith, drop-drop, IsTrue, ◌↔◌, ◌++◌, take}
 use Rattle.std.proofs.Common.{length-drop, take-append-drop, length-take-le, IsUtf8, IsCharBoundary}
 use Rattle.std.proofs.Common.{take-add, append_assoc, Result, OnOk}
 use Rattle.std.proofs.Math.Nat.{le-max_left, le-max_right, max-le}
@@ -71,17 +71,7 @@ module _ {first : List ℕ → Token} (law : IsGrammar first) {text insert made 
   kept_body : from ≡ to → from ≤ edit.start
       → IsMadeOf first (drop from text) lengths (body_change true from to edit) insert body
   kept_body same before =
-      grind (
-        arith,
-        e.is_edit.inside.start_le_stop,
-        e.is_edit.inside.stop_inside,
-        e.is_edit.short,
-        e.new_end,
-        old_text,
-        length-drop,
-        boundary-past,
-        kept_made,
-      )
+      let i = e.is_edit in grind (arith, e.new_end, old_text, length-drop, boundary-past, kept_made)
 
   -- Returns how far the change of the body extends after the edit, if the head is not kept.
   abbrev past : ℕ
@@ -98,17 +88,10 @@ module _ {first : List ℕ → Token} (law : IsGrammar first) {text insert made 
 
   ends_inside : (from ≤ old_end) × (to ≤ new_end) × (old_end ≤ length text) × (new_end ≤ length made)
   unfolding ed
-  ends_inside = grind (
-    arith,
-    common_steps,
-    max-le,
-    le-max_left,
-    le-max_right,
-    ed.len,
-    ed.old_inside,
-    old_at.0,
-    now_at.0,
-  )
+  ends_inside =
+      let d = ed in
+      let inside : old_end ≤ length text = omega (arith, old_at.0, now_at.0) in
+      (omega arith, omega arith, inside, omega arith)
 
   back_utf8 : IsUtf8 (drop old_end text)
   back_utf8 =
@@ -156,33 +139,25 @@ module _ {first : List ℕ → Token} (law : IsGrammar first) {text insert made 
   made_body false decided = front_body
 
 -- Tokens after the first n ones are replaced.
-put_is : (tokens lexed : List Token) (n f b : ℕ) → f ≤ b → n + b ≤ length tokens
-    → take (n + f) tokens ++ (lexed ++ drop (n + b) tokens) ≡
-    take n tokens ++ (take f (drop n tokens) ++ (lexed ++ drop b (drop n tokens)))
-put_is tokens lexed n f b le inside = grind (arith, common_steps, take-add, drop-drop, append_assoc)
-
 pub put_behind : (tokens lexed : List Token) (n f b : ℕ) (keeps : Bool) (head : List Token) → f ≤ b
     → n + b ≤ length tokens → keeps ≡ true → {E : Type 0} (r : Result Unit E) (now : List Token)
     → OnOk r (now ≡ take (n + f) tokens ++ (lexed ++ drop (n + b) tokens))
     → OnOk r (now ≡ (if keeps then take n tokens else head)
     ++ (take f (drop n tokens) ++ (lexed ++ drop b (drop n tokens))))
-put_behind tokens lexed n f b keeps head w6 w7 w8 r now w11 = grind (arith, common_steps, put_is)
+put_behind tokens lexed n f b keeps head w6 w7 w8 r now w11 =
+    grind (arith, common_steps, take-add, drop-drop, append_assoc)
 
 -- ---- the counts of an edit
 
 -- ---- the kept front, by offsets in the whole text and in the body
 
-pub two_behind : (text : List ℕ) (from end to : ℕ) → has_two (drop from text) end (to - from) ≡
-    has_two text (from + end) to
-unfolding has_two
-two_behind text from end to = grind (arith, common_steps, drop-drop)
-
 fronts : (text : List ℕ) (from at to : ℕ) (tokens : List Token)
     → count_by (λ end. has_two (drop from text) end (to - from)) (ends_from at tokens) ≡
     count_by (λ end. has_two text end to) (ends_from (from + at) tokens)
+unfolding has_two
 fronts text from at to [] = refl
 fronts text from at to (t ∷ ts) =
-    grind (arith, common_steps, count-cons, two_behind, fronts text from (at + t.len) to ts)
+    grind (arith, common_steps, count-cons, drop-drop, fronts text from (at + t.len) to ts)
 
 -- ---- an edit
 
@@ -203,10 +178,12 @@ module _ {first : List ℕ → Token} (law : IsGrammar first) {layout : (List �
   abbrev put : List ℕ
   put = body_insert kept (change kept) insert (drop now.body made)
 
+  same_start : kept ≡ true → (was.body ≡ now.body) × (was.body ≤ edit.start)
+  same_start stays = let s = decided.0 stays in (cc s.0, s.1)
+
   pub body_made : IsMadeOf first (drop was.body text)
       (map (λ (t : Token). t.len) (tokens_by first (drop was.body text))) (change kept) put (drop now.body made)
-  body_made = made_body law e was.body now.body (boundary_of was_is) (boundary_of now_is) kept
-      (λ stays. let s = decided.0 stays in (ap (λ (h : Head). h.body) s.0, s.1))
+  body_made = made_body law e was.body now.body (boundary_of was_is) (boundary_of now_is) kept same_start
 
   -- Returns how far the change of the body extends after the edit.
   abbrev more : Bool → ℕ
@@ -218,16 +195,7 @@ module _ {first : List ℕ → Token} (law : IsGrammar first) {layout : (List �
 
   is_past : (stays : Bool) → (stays ≡ true → (was.body ≡ now.body) × (was.body ≤ edit.start)) → IsPast stays
   is_past stays w1 =
-      grind (
-        arith,
-        common_steps,
-        body_at was_is first,
-        body_at now_is first,
-        le-max_left,
-        le-max_right,
-        max-le,
-        edited e,
-      )
+      grind (arith, common_steps, body_at was_is first, body_at now_is first, le-max_left, le-max_right, max-le, edited e)
 
   abbrev InBody : Bool → Relexed → Type 0
   InBody stays x = IsRelexedTo (fragment_by first (drop was.body text)) (fragment_by first (drop now.body made))
@@ -271,8 +239,7 @@ module _ {first : List ℕ → Token} (law : IsGrammar first) {layout : (List �
       omega (arith, is_body.kept (omega arith, refl, refl), kept_none (drop was.body text) old.body) in
       let sum : x.kept_front + (length new.head + x.lexed) ≡ length new.head + (x.kept_front + x.lexed) = omega arith in
       record {
-        kept = λ k. absurd
-            (true≢false (sym (decided.1 ((head_stays was_is now_is first edit.start refl refl).0 k)) ∙ same));
+        kept = λ k. let hit = decided.1 ((head_stays was_is now_is first edit.start refl refl).0 k) in absurd (cc);
         changed = λ gone. none;
         meeting = meeting false p x is_body sum;
         none_before = λ number back near less m. none_before false p x is_body sum number back
@@ -289,9 +256,8 @@ module _ {first : List ℕ → Token} (law : IsGrammar first) {layout : (List �
   pub relexed_as : (x : Relexed) → Found x → IsRelexed (layout first) text edit.start edit.old_end insert
       (all_of kept x)
   relexed_as x found =
-      let p = is_past kept (λ stays. let s = decided.0 stays in (ap (λ (h : Head). h.body) s.0, s.1)) in
-      (counts_of (layout first) e (all_of kept x)).1
-      (rw (was_is.layout_is first, now_is.layout_is first) (relexed_to kept refl p x (as_body x found)))
+      (counts_of (layout first) e (all_of kept x)).1 (rw (was_is.layout_is first, now_is.layout_is first)
+      (relexed_to kept refl (is_past kept same_start) x (as_body x found)))
 
   -- The tokens of a new head take no steps.
   pub steps_by : (x : Relexed) → Found x → length (layout first made).head - (all_of kept x).kept_front + x.lexed ≡
@@ -300,7 +266,7 @@ module _ {first : List ℕ → Token} (law : IsGrammar first) {layout : (List �
     where
       by_kept : (stays : Bool) → kept ≡ stays → InBody stays x
           → length (tokens_of_head now) - (all_of stays x).kept_front + x.lexed ≡ (all_of stays x).lexed
-      by_kept true same is_body = omega (arith, ap (λ (h : Head). length (tokens_of_head h)) (decided.0 same).0)
+      by_kept true same is_body = rw (decided.0 same).0 (omega arith)
       by_kept false same is_body =
           omega (arith, is_body.kept (omega arith, refl, refl), kept_none (drop was.body text) old.body)
 
