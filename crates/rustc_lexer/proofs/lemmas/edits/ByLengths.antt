@@ -83,14 +83,14 @@ module _ {first : List ℕ → Token} (law : IsGrammar first) {before lengths in
       → (offset ≡ damage.end → IsLast old (offset - damage.past + damage.old_end))
       → IsFollowed old damage.old_end damage.past offset back met)
       → IsFollowed old change.old_end change.new_end offset back met
-  follows {damage} {from} {back} {met} offset e at passed follow =
+  follows offset e at passed follow =
       (rw e at (follow is.lengths_are)) at passed (end_last offset)
 
 -- A step over a token advances by at least one byte, and ends at a char boundary.
 pub step_offset : {first : List ℕ → Token} (law : IsGrammar first) (text : List ℕ) (at : ℕ) (token : Token)
     → IsText text → IsCharBoundary text at → at < length text → token ≡ first (drop at text)
     → (0 < token.len) × IsCharBoundary text (at + token.len)
-step_offset {first} law text at token is cut more token_is =
+step_offset law text at token is cut more token_is =
     grind (
       arith,
       length-drop at text,

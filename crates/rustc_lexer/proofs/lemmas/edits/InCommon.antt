@@ -93,7 +93,7 @@ back_differs old new start at to n is less differ =
 pub front_left : {old new : List ℕ} {start stop : ℕ} {insert : List ℕ} → Makes old new start stop insert
     → IsSameFront old new start
 unfolding apply
-front_left {old} {new} {start} {stop} {insert} is = grind (arith, common_steps, length-take-le, take_at, length-take)
+front_left is = grind (arith, common_steps, length-take-le, take_at, length-take)
 
 pub back_left : {old new : List ℕ} {start stop : ℕ} {insert : List ℕ} → Makes old new start stop insert
     → IsSameBack old new start (length old - stop)

@@ -100,4 +100,4 @@ module _ {S : Type 0} {first : List ℕ → Token} (law : IsGrammar first) (whol
 -- If no token contains the offset, it is at or after the end of the text.
 pub none_past : {result : Option TokenStart} {first offset len : ℕ} → IsSome result
     ↔ ((first ≤ offset) × (offset < len)) → result ≡ None → first ≤ offset → len ≤ offset
-none_past {result} {first} {offset} {len} some none from = grind (arith, common_steps, cases_lt)
+none_past some none from = grind (arith, common_steps, cases_lt)

@@ -52,7 +52,8 @@ edits-last text [] e are is = (is, tt)
 edits-last text (d ∷ es) e are is = (are.0, edits-last (applied text d) es e are.1 is)
 
 -- One more edit of a list, after its first n ones.
-module _ (text now : List ℕ) (es : List Edit) (n : ℕ) (few : n < length es) (is : now ≡ apply_list text (take n es)) where
+module _ (text now : List ℕ) (es : List Edit) (n : ℕ) (few : n < length es)
+    (is : now ≡ apply_list text (take n es)) where
   abbrev added : Edit
   added = get_or es n none
 
@@ -135,7 +136,7 @@ fewer_back n back old new few old_has new_has same =
 
 fewer_stay : {old new : List Token} {front back : ℕ} (n m : ℕ) → n ≤ front → m ≤ back → StayAtEnds old new front back
     → StayAtEnds old new n m
-fewer_stay {old} {new} {front} {back} n m few_front few_back stay = grind (arith, common_steps, cut, fewer_back)
+fewer_stay n m few_front few_back stay = grind (arith, common_steps, cut, fewer_back)
 
 -- The counts of an edit determine the tokens that it keeps at both ends.
 pub counts_stay : (old new : List Token) (front lexed back : ℕ) → front + lexed + back ≡ length new
@@ -154,7 +155,7 @@ stay-more next_front next_back front_is back_is before then = grind (arith, comm
 pub counts_back : {old new : List Token} {front back : ℕ} (len kept_back : ℕ) → len ≡ length new
     → kept_back ≡ min back (min (length new) (length old) - front) → StayAtEnds old new front back
     → drop (front + (len - front - kept_back)) new ≡ drop (length old - kept_back) old
-counts_back {old} {new} {front} {back} len kept_back len_is fewer stay = grind (arith, common_steps, fewer_stay)
+counts_back len kept_back len_is fewer stay = grind (arith, common_steps, fewer_stay)
 
 -- Two consecutive edits keep the tokens that both of them keep.
 pub kept_then : {old between new : List Token} {a b r : Relexed} → r.kept_front ≡ min a.kept_front b.kept_front
@@ -176,27 +177,25 @@ kept_then {old} {between} {new} {a} {b} {r} front back count before then =
 
 module _ {S : Type 0} {layout : List ℕ → Layout} {old mid : Held S} {edits : List Edit} {made : Made}
     (m : AreMadeTo layout old edits made mid) where
+  abbrev at : ℕ
+  at = made.count
+
+  abbrev edit : Edit
+  edit = get_or edits at none
+
   -- The list stops at this edit.
-  pub made_stop : (s : EditStop) {T : Type 0} {new : Held S} → stop_at s ≡ made.count → made.count < length edits
-      → IsRefusedOn s new.text (get_or edits made.count none) → new.text ≡ mid.text
+  pub made_stop : (s : EditStop) {T : Type 0} {new : Held S} → stop_at s ≡ at → at < length edits
+      → IsRefusedOn s new.text edit → new.text ≡ mid.text
       → new.tokens ≡ tokens_in (layout new.text)
       → AreApplied {T = T} layout old edits (Err s) new
-  made_stop s {T} {new} at few refused same scratch = grind (arith, common_steps, stop_of)
+  made_stop s at few refused same scratch = grind (arith, common_steps, stop_of)
 
-  module _ (few : made.count < length edits)
-      (is : IsEdit mid.text (get_or edits made.count none).start (get_or edits made.count none).stop
-      (get_or edits made.count none).insert.now) where
-    abbrev at : ℕ
-    at = made.count
-
-    abbrev edit : Edit
-    edit = get_or edits at none
-
+  module _ (few : at < length edits) (is : IsEdit mid.text edit.start edit.stop edit.insert.now) where
     pub made_more : {X : Type 0} {r : Relexed} {new : Held S} (next : Made)
         → IsEdited {E = X} layout mid edit.start edit.stop edit.insert.now (Ok r) new
         → next.count ≡ at + 1 → next.front ≡ min made.front r.kept_front → next.back ≡ min made.back r.kept_back
         → AreMadeTo layout old edits next new
-    made_more {X} {r} {new} next i count_is front_is back_is = grind (arith, common_steps, edits-more, text-more)
+    made_more next i count_is front_is back_is = grind (arith, common_steps, edits-more, text-more)
 
     -- After one more edit, the step count has grown by its steps.
     pub counted_more : {X : Type 0} {r : Relexed} (before between after : ℕ) (next : Made) → next.count ≡ at + 1
@@ -224,24 +223,18 @@ module _ {S : Type 0} {layout : List ℕ → Layout} {old mid : Held S} {edits :
     pub kept_refused : {X : Type 0} {x : X} {new : Held S} → AreKeptTo layout old edits made mid
         → IsEdited {E = X} layout mid edit.start edit.stop edit.insert.now (Err x) new
         → AreKeptTo layout old edits made new
-    kept_refused {X} {x} {new} kept i =
-        record {
-          stay = rw i.same_tokens kept.stay;
-          least = kept.least;
-        }
+    kept_refused kept i = record { stay = rw i.same_tokens kept.stay; least = kept.least }
 
     pub made_refused : {X T : Type 0} {x : X} {new : Held S}
         → IsEdited {E = X} layout mid edit.start edit.stop edit.insert.now (Err x) new
         → AreApplied {T = T} layout old edits (Err (Memory at)) new
-    made_refused {X} {T} {x} {new} i =
-        made_stop (Memory at) refl few
-        (rw i.same_text is) i.same_text i.from_scratch
+    made_refused i = made_stop (Memory at) refl few (rw i.same_text is) i.same_text i.from_scratch
 
     pub counted_refused : {X T : Type 0} {x : X} (before between after : ℕ)
         → HasStepCount {E = X} layout mid.text edit.start edit.stop edit.insert.now (Err x) between after
         → AreStepped layout old.text (take at edits) before between
         → HaveStepCounts {T = T} layout old.text edits (Err (Memory at)) before after
-    counted_refused {X} {T} {x} before between after i are = record {
+    counted_refused before between after i are = record {
       count = tt;
       stop_count = stop-stepped old.text mid.text edits at few m.text layout before between after are i.rose i.few;
     }
@@ -250,7 +243,7 @@ module _ {S : Type 0} {layout : List ℕ → Layout} {old mid : Held S} {edits :
 pub made_none : {S : Type 0} {layout : List ℕ → Layout} {old : Held S} (edits : List Edit) (n : ℕ)
     → old.tokens ≡ tokens_in (layout old.text)
     → AreMadeTo layout old edits (record { count = 0; front = n; back = n }) old
-made_none {S} {layout} {old} edits n scratch = grind (arith, common_steps)
+made_none edits n scratch = grind (arith, common_steps)
 
 pub kept_none : {S : Type 0} {layout : List ℕ → Layout} {old : Held S} (edits : List Edit) (n : ℕ)
     → n ≡ length old.tokens → AreKeptTo layout old edits (record { count = 0; front = n; back = n }) old

@@ -109,7 +109,7 @@ module _ {first : List ℕ → Token} (law : IsGrammar first) {text : List ℕ} 
   pub one_step : {token : Token} {at : Relexing} → token ≡ first rest → begin.at < length text → at.front ≡ begin.front
       → at.lexed ≡ begin.lexed + 1 → at.at ≡ begin.at + token.len → (at.at < past → at.back ≡ begin.back)
       → (at.at < past → at.met ≡ false) → TakesSteps first text past begin 1 at
-  one_step {token} token_is more front lexed offset same_back not_met =
+  one_step token_is more front lexed offset same_back not_met =
       let cons = tokens-cons law rest (rest_is text begin.at is boundary)
       (omega (arith, more, length-drop begin.at text)) in
       record {

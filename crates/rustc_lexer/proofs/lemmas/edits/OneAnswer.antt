@@ -135,13 +135,12 @@ module _ (old new : List Token) (stop new_end number : ℕ) where
           length old - at.0,
           record {
             number_inside = m.0;
-            past_edit = omega (arith, m.1);
+            past_edit = omega arith;
             past_head = omega arith;
             old_number = at.0;
             past_old_head = omega arith;
             back_is = omega (arith, at.1);
-            same_offset =
-                omega (arith, m.2);
+            same_offset = omega arith;
           },
         )
     | inr none ↦ inr

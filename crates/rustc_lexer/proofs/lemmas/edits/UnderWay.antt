@@ -228,4 +228,4 @@ module _ {first : List ℕ → Token} (law : IsGrammar first) {before lengths in
   -- The lexed tokens, between the kept tokens, are the new tokens.
   pub lexed_whole : {tokens : List Token} {at : Relexing} → IsLexed first before change text tokens at
       → take at.front.index old ++ (tokens ++ drop at.back.index old) ≡ new
-  lexed_whole {tokens} {at} l = grind (arith, common_steps, counts_met)
+  lexed_whole l = grind (arith, common_steps, counts_met)

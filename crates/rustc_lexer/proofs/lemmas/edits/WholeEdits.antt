@@ -225,24 +225,21 @@ module _ {first : List ℕ → Token} (law : IsGrammar first) {layout : (List �
       let begin : was.body + 0 ≡ body_in old = omega (arith, body_at was_is first) in
       let ends = rw begin at (fronts text was.body 0 edit.start old.body) in
       let heads : length old.head ≡ length new.head = ap length k.2 in
-      let sum : length old.head + x.kept_front + x.lexed ≡ length new.head + (x.kept_front + x.lexed) =
-      omega (arith, heads) in
       record {
         kept = λ again. omega (arith, is_body.kept (omega arith, refl, refl), ends);
         changed = λ none. absurd (none k);
-        meeting = meeting true p x is_body sum;
-        none_before = λ number back near less m. none_before true p x is_body sum number back
+        meeting = meeting true p x is_body (omega arith);
+        none_before = λ number back near less m. none_before true p x is_body (omega arith) number back
             (λ head. omega (arith, near, heads)) less m;
       }
   relexed_to false same p x is_body =
       let none : x.kept_front ≡ 0 =
       omega (arith, is_body.kept (omega arith, refl, refl), kept_none (drop was.body text) old.body) in
-      let sum : x.kept_front + (length new.head + x.lexed) ≡ length new.head + (x.kept_front + x.lexed) = omega arith in
       record {
         kept = λ k. let hit = decided.1 ((head_stays was_is now_is first edit.start refl refl).0 k) in absurd (cc);
         changed = λ gone. none;
-        meeting = meeting false p x is_body sum;
-        none_before = λ number back near less m. none_before false p x is_body sum number back
+        meeting = meeting false p x is_body (omega arith);
+        none_before = λ number back near less m. none_before false p x is_body (omega arith) number back
             (λ head. omega (arith, none)) less m;
       }
 
