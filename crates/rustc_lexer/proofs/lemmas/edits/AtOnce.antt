@@ -1,6 +1,6 @@
 -- Edits that are applied at once: one more edit in the list.
 use Rattle.std.proofs.Common.{◌≡◌, ◌↔◌, ℕ, zero, suc, ◌+◌, ◌-◌, ◌^◌, ◌<◌, ◌≤◌, min, List, [], ◌∷◌, ◌++◌, length, take}
-use Rattle.std.proofs.Common.{drop, reverse, get_or, refl, sym, ap, ◌∙◌, subst, arith, IsUtf8, IsCharBoundary}
+use Rattle.std.proofs.Common.{drop, reverse, get_or, refl, sym, ap, ◌∙◌, arith, IsUtf8, IsCharBoundary}
 use Rattle.std.proofs.Common.{append_assoc, length-append, length-drop, length-take-le, take-take}
 use Rattle.std.proofs.lemmas.List.{append-nil, reverse-append, take-append-drop, take-append-le}
 use Rattle.std.proofs.Math.Seq.{drop-append_seam, take-add}
@@ -53,22 +53,10 @@ made-last text es e last len next is are last_is boundary len_is after inside in
     let between : List ℕ = take (e.start - last) (drop last text) in
     let more : with_all text 0 (es ++ e ∷ []) ≡ with_all text 0 es ++ (between ++ e.insert.now) =
     rw last_is (all-last text 0 es e) in
-    let size : length between ≡ e.start - last =
-    length-take-le (e.start - last) (drop last text)
-    (omega (arith, length-drop last text, inside.start_le_stop, inside.stop_inside)) in (
-      subst IsUtf8 (sym more)
-          (IsUtf8-append _ _ are
+    let size : length between ≡ e.start - last = length-take-le _ _ (omega (arith, length-drop last text)) in (
+      rw more (IsUtf8-append _ _ are
           (IsUtf8-append _ _ (IsUtf8-between text last e.start is after boundary inside.start_boundary) insert)),
-      omega (
-        arith,
-        next_is,
-        len_is,
-        size,
-        ap (λ (xs : List ℕ). length xs) more,
-        length-append (with_all text 0 es)
-            (between ++ e.insert.now),
-        length-append between e.insert.now,
-      ),
+      omega (arith, simp length-append at (ap length more)),
     )
 
 pub order-take : (text : List ℕ) (from : ℕ) (es : List Edit) (n : ℕ) → AreInOrder text from es
@@ -91,17 +79,6 @@ order_inside text [] some are = absurd (some refl)
 order_inside text (e ∷ es) some are =
     grind (arith, common_steps, order_end text e.stop es are.2 are.1.stop_inside are.1.stop_boundary)
 
--- The result starts with the text before the first edit.
-from_first : (text : List ℕ) (es : List Edit) → (es ≡ [] → ⊥)
-    → with_all text 0 es ≡ take (start_of_first es) text ++ with_all text (start_of_first es) es
-from_first text es w2 = grind (arith, common_steps)
-
-pub applied_is : (text : List ℕ) (es : List Edit) → (es ≡ [] → ⊥)
-    → with_all text 0 es ++ drop (stop_of_last 0 es) text ≡ apply text (start_of_first es) (stop_of_last 0 es)
-    (with_all text (start_of_first es) es)
-unfolding apply
-applied_is text es some = grind (arith, common_steps, from_first text es some, append_assoc)
-
 -- An edit before a rest gives the text before the edit, then the inserted text, then the rest.
 put_before : (text rest : List ℕ) (from : ℕ) (e : Edit) → from ≤ e.start → IsInside text e.start e.stop
     → apply (take e.stop text ++ rest) e.start e.stop e.insert.now ≡
@@ -109,15 +86,14 @@ put_before : (text rest : List ℕ) (from : ℕ) (e : Edit) → from ≤ e.start
 unfolding apply
 put_before text rest from e after inside =
     let size : length (take e.stop text) ≡ e.stop = length-take-le e.stop text inside.stop_inside in
-    let front : take e.start (take e.stop text ++ rest) ≡ take e.start text =
-    take-append-le e.start (take e.stop text) rest (omega (arith, size, inside.start_le_stop))
-    ∙ take-take e.start e.stop text inside.start_le_stop in
-    let back : drop e.stop (take e.stop text ++ rest) ≡ rest =
-    subst (λ n. drop n (take e.stop text ++ rest) ≡ rest) size (drop-append_seam (take e.stop text) rest) in
-    let all : take e.start text ≡ take from text ++ take (e.start - from) (drop from text) =
-    ap (λ n. take n text) (omega (arith, after)) ∙ take-add from (e.start - from) text in
-    rw (front, back, all)
-    (append_assoc (take from text) (take (e.start - from) (drop from text)) (e.insert.now ++ rest))
+    let there : from + (e.start - from) ≡ e.start = omega arith in
+    cc (
+      take-append-le e.start (take e.stop text) rest (omega arith),
+      take-take e.start e.stop text inside.start_le_stop,
+      drop-append_seam (take e.stop text) rest,
+      take-add from (e.start - from) text,
+      append_assoc (take from text) (take (e.start - from) (drop from text)) (e.insert.now ++ rest),
+    )
 
 -- Applied one after another, from the last to the first, the edits give the same text.
 backwards : (text : List ℕ) (from : ℕ) (es : List Edit) → AreInOrder text from es → from ≤ length text
@@ -137,11 +113,6 @@ backwards text from (e ∷ es) are few =
 pub none_by_one : (text : List ℕ) (es : List Edit) → length es ≡ 0 → text ≡ apply_list text (reverse es)
 none_by_one text es w2 = grind (arith, common_steps)
 
-pub one_by_one : (text : List ℕ) (es : List Edit) → (es ≡ [] → ⊥) → AreInOrder text 0 es
-    → apply text (start_of_first es) (stop_of_last 0 es) (with_all text (start_of_first es) es) ≡
-    apply_list text (reverse es)
-one_by_one text es some are = sym (applied_is text es some) ∙ sym (backwards text 0 es are (omega arith))
-
 -- The rest of a text after some characters is UTF-8.
 rest_encoded : (cs ys : List ℕ) → IsUtf8 (encodes cs ++ ys) → IsUtf8 ys
 rest_encoded [] ys is = is
@@ -149,26 +120,38 @@ rest_encoded (c ∷ cs) ys is =
     rest_encoded cs ys
     (IsUtf8-past_char (encodes (c ∷ cs) ++ ys) (encodes cs ++ ys) c is (append_assoc (encode c) (encodes cs) ys))
 
-pub insert_utf8 : (text : List ℕ) (es : List Edit) → (es ≡ [] → ⊥) → IsUtf8 text → AreInOrder text 0 es
-    → IsUtf8 (with_all text 0 es) → IsUtf8 (with_all text (start_of_first es) es)
-insert_utf8 text es some is are all =
-    let front = IsUtf8-take text (start_of_first es) is (order_inside text es some are).start_boundary in
-    rest_encoded front.0 (with_all text (start_of_first es) es)
-    (rw front.1.1 (subst IsUtf8 (from_first text es some) all))
+module _ (text : List ℕ) (es : List Edit) (some : es ≡ [] → ⊥) where
+  abbrev insert : List ℕ
+  insert = with_all text (start_of_first es) es
 
--- The inserted text ends at the start of the first edit plus its length.
-pub insert_end : (text : List ℕ) (es : List Edit) → (es ≡ [] → ⊥) → AreInOrder text 0 es → length (with_all text 0 es) ≡
-    start_of_first es + length (with_all text (start_of_first es) es)
-insert_end text es some are = grind (arith, common_steps, order_inside, from_first, length-append, length-take-le)
+  -- The result starts with the text before the first edit.
+  from_first : with_all text 0 es ≡ take (start_of_first es) text ++ insert
+  from_first = grind (arith, common_steps)
 
-pub at_once_valid : (text : List ℕ) (es : List Edit) → (es ≡ [] → ⊥) → AreInOrder text 0 es
-    → length (with_all text 0 es) + (length text - stop_of_last 0 es) < 2 ^ 32 → AreAtOnce text es
-at_once_valid text es some are short = grind (arith, common_steps, order_inside, insert_end)
+  applied_is : with_all text 0 es ++ drop (stop_of_last 0 es) text ≡
+      apply text (start_of_first es) (stop_of_last 0 es) insert
+  unfolding apply
+  applied_is = grind (arith, common_steps, from_first, append_assoc)
 
-pub at_once_short : (text : List ℕ) (es : List Edit) → (es ≡ [] → ⊥) → AreAtOnce text es
-    → length (with_all text 0 es) + (length text - stop_of_last 0 es) < 2 ^ 32
-at_once_short text es some are =
-    omega (arith, are.1.short, insert_end text es some are.0, are.1.inside.start_le_stop, are.1.inside.stop_inside)
+  pub one_by_one : AreInOrder text 0 es → apply text (start_of_first es) (stop_of_last 0 es) insert ≡
+      apply_list text (reverse es)
+  one_by_one are = cc (applied_is, backwards text 0 es are (omega arith))
+
+  pub insert_utf8 : IsUtf8 text → AreInOrder text 0 es → IsUtf8 (with_all text 0 es) → IsUtf8 insert
+  insert_utf8 is are all =
+      let front = IsUtf8-take text (start_of_first es) is (order_inside text es some are).start_boundary in
+      rest_encoded front.0 insert (rw (front.1.1, ← from_first) all)
+
+  -- The inserted text ends at the start of the first edit plus its length.
+  pub insert_end : AreInOrder text 0 es → length (with_all text 0 es) ≡ start_of_first es + length insert
+  insert_end are = grind (arith, common_steps, order_inside, from_first, length-append, length-take-le)
+
+  pub at_once_valid : AreInOrder text 0 es → length (with_all text 0 es) + (length text - stop_of_last 0 es) < 2 ^ 32
+      → AreAtOnce text es
+  at_once_valid are short = grind (arith, common_steps, order_inside, insert_end)
+
+  pub at_once_short : AreAtOnce text es → length (with_all text 0 es) + (length text - stop_of_last 0 es) < 2 ^ 32
+  at_once_short are = omega (arith, insert_end are.0)
 
 pub at_once_none : (text : List ℕ) (es : List Edit) → length es ≡ 0 → IsText text → AreAtOnce text es
 at_once_none text [] none is = grind (arith, common_steps, IsCharBoundary-start)

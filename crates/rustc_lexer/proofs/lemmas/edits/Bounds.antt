@@ -37,8 +37,7 @@ rises {first} law text is k few =
     omega (arith, next.end, law.not_empty left cut.past some)
   where
     non-empty : (left : List ℕ) → drop k (tokens_by first text) ≡ tokens_by first left → 0 < length left
-    non-empty [] e = absurd (let none : length (drop k (tokens_by first text)) ≡ 0 = ap length (e ∙ tokens-nil first) in
-        omega (arith, length-drop k (tokens_by first text)))
+    non-empty [] e = absurd (omega (arith, ap length (e ∙ tokens-nil first), length-drop k (tokens_by first text)))
     non-empty (c ∷ cs) e = omega arith
 
 -- There are at least k bytes before token boundary k, because no token is empty.
@@ -54,11 +53,11 @@ count-cons test x xs = grind (arith, common_steps, sum_by_from)
 -- The last token boundary is the end of the text.
 pub bound-last : {first : List ℕ → Token} (law : IsGrammar first) (text : List ℕ) → IsText text
     → bound (tokens_by first text) (length (tokens_by first text)) ≡ length text
-bound-last {first} law text is = grind (arith, common_steps, at_bound, drop_all, length-drop, tokens-cons)
+bound-last law text is = grind (arith, common_steps, at_bound, drop_all, length-drop, tokens-cons)
 
 pub tokens_le_bytes : {first : List ℕ → Token} (law : IsGrammar first) (text : List ℕ) → IsText text
     → length (tokens_by first text) ≤ length text
-tokens_le_bytes {first} law text is = grind (arith, common_steps, number_le_bound, bound-last law text is, rises)
+tokens_le_bytes law text is = grind (arith, common_steps, number_le_bound, bound-last law text is, rises)
 
 module _ {first : List ℕ → Token} (law : IsGrammar first) (text : List ℕ) (is : IsText text) where
   -- Each token boundary is in bounds and on a char boundary.

@@ -1,6 +1,6 @@
 -- Tokens with known lengths only: the token boundaries that are found, and where the search of the old boundaries ends.
 use Rattle.std.proofs.Common.{◌≡◌, ℕ, ◌+◌, ◌-◌, ◌<◌, ◌≤◌, Bool, false, ◌||◌, eqb, eq-eqb, List, ◌++◌, length, map, take}
-use Rattle.std.proofs.Common.{drop, sym, ap, ◌∙◌, subst, arith, length-drop, length-append, IsUtf8, drop-drop}
+use Rattle.std.proofs.Common.{drop, ap, arith, length-drop, length-append, IsUtf8, drop-drop}
 use Rattle.std.proofs.Common.{length-take-le, append_assoc, eq-or-lt_of_le, IsCharBoundary, max, true, get_or}
 use Rattle.std.proofs.lemmas.Str.{IsUtf8-append, IsUtf8-drop, IsCharBoundary-at_seam, IsCharBoundary-from_drop}
 use Rattle.std.proofs.lemmas.Str.{IsUtf8-take, IsCharBoundary-from_take}
@@ -21,7 +21,7 @@ no_token = record { kind = Eof; len = 0 }
 
 module _ {X : Type 0} (f : X → ℕ) (xs : List X) (ts : List Token) (are : HasLengths ts (map f xs)) where
   pub as_many : length xs ≡ length ts
-  as_many = sym (length-map xs f) ∙ (ap (λ (ns : List ℕ). length ns) are ∙ length-map ts (λ (t : Token). t.len))
+  as_many = cc (length-map xs f, are, length-map ts (λ (t : Token). t.len))
 
   pub as_long : (i : ℕ) (x : X) (len : ℕ) → len ≡ f x → x ≡ get_or xs i x → i < length xs
       → len ≡ (get_or ts i no_token).len
@@ -83,17 +83,14 @@ module _ {first : List ℕ → Token} (law : IsGrammar first) {before lengths in
       → (offset ≡ damage.end → IsLast old (offset - damage.past + damage.old_end))
       → IsFollowed old damage.old_end damage.past offset back met)
       → IsFollowed old change.old_end change.new_end offset back met
-  follows {damage} {from} {back} {met} offset e at passed follow =
-      subst (λ (d : Damage).
-      (IsBound old from → ((k : ℕ) → k < from.index → bound old k + d.past < max d.past offset + d.old_end)
-      → (offset ≡ d.end → IsLast old (offset - d.past + d.old_end))
-      → IsFollowed old d.old_end d.past offset back met)) e (follow is.lengths_are) at passed (end_last offset)
+  follows offset e at passed follow =
+      (rw e at (follow is.lengths_are)) at passed (end_last offset)
 
 -- A step over a token advances by at least one byte, and ends at a char boundary.
 pub step_offset : {first : List ℕ → Token} (law : IsGrammar first) (text : List ℕ) (at : ℕ) (token : Token)
     → IsText text → IsCharBoundary text at → at < length text → token ≡ first (drop at text)
     → (0 < token.len) × IsCharBoundary text (at + token.len)
-step_offset {first} law text at token is cut more token_is =
+step_offset law text at token is cut more token_is =
     grind (
       arith,
       length-drop at text,
@@ -115,22 +112,20 @@ made_change {text} {insert} {new} {change} e =
     let inside = e.is_edit.inside in
     let front : List ℕ = take change.start text in
     let back : List ℕ = drop change.old_end text in
-    let short : length front ≡ change.start =
-    length-take-le change.start text (omega (arith, inside.start_le_stop, inside.stop_inside)) in
+    let short : length front ≡ change.start = length-take-le change.start text (omega arith) in
     let back_utf8 : IsUtf8 back = IsUtf8-drop text change.old_end e.is_text.utf8 inside.stop_boundary in
     let next : length (front ++ insert) ≡ change.new_end =
     omega (arith, length-append front insert, short, e.new_end) in
     let stop_boundary : IsCharBoundary new change.new_end =
-    subst (IsCharBoundary new) next
-    (IsCharBoundary-at_seam new (front ++ insert) back (e.made ∙ sym (append_assoc front insert back)) back_utf8) in
+    rw next at (IsCharBoundary-at_seam new (front ++ insert) back (rw append_assoc e.made) back_utf8) in
     record {
       inserted = record {
         start_le_stop = (edited e).start_le_new;
         stop_inside = stop_boundary.0;
-        start_boundary = subst (IsCharBoundary new) short
-            (IsCharBoundary-at_seam new front (insert ++ back) e.made (IsUtf8-append insert _ e.inserted back_utf8));
+        start_boundary = rw short at (IsCharBoundary-at_seam new front (insert ++ back) e.made
+            (IsUtf8-append insert _ e.inserted back_utf8));
         stop_boundary = stop_boundary;
       };
       start_le_old = inside.start_le_stop;
-      old_short = omega (arith, inside.stop_inside, e.is_text.fits);
+      old_short = omega (arith, e.is_text.fits);
     }

@@ -1,10 +1,10 @@
 -- Checkpoints are token boundaries after an edit, too.
-use Rattle.std.proofs.Common.{◌≡◌, ℕ, ◌+◌, ◌-◌, ◌≤◌, List, length, take, drop, sym, ap, ◌∙◌, arith, length-drop}
+use Rattle.std.proofs.Common.{◌≡◌, ℕ, ◌+◌, ◌-◌, ◌≤◌, List, length, ap, arith, length-drop}
 use Rattle.std.proofs.Common.{take-take}
 use Rattle.std.specs.List.{All}
 use Rattle.std.proofs.lemmas.Grind.{common_steps}
 use Rattle.rustc_lexer.specs.declared.relex.{front.TokenStart.{TokenStart}, checkpoints.Checkpoints.{Checkpoints}}
-use Rattle.rustc_lexer.specs.{Token, Classes.{IsText}, Locality.{IsGrammar}, Tokens.{bound, tokens_by}}
+use Rattle.rustc_lexer.specs.{Token, Classes.{IsText}, Locality.{IsGrammar}, Tokens.{tokens_by}}
 use Rattle.rustc_lexer.specs.{Offsets.{IsBound}, model.Checkpoints.{AreBounds, IsMovable, IsReplaced}}
 use Rattle.rustc_lexer.proofs.lemmas.edits.{Bounds.{bound_mono, bounds_fit, tokens_le_bytes}, FrontAndBack.{bound-same}}
 use Rattle.rustc_lexer.proofs.lemmas.edits.KeptFront.{bound-shift}
@@ -16,14 +16,11 @@ module _ (old new : List Token) (kept met now : TokenStart) (is : IsReplaced old
       grind (
         arith,
         common_steps,
-        take-take at.index kept.index old few,
         is.front,
-        take-take at.index kept.index new few,
         is.kept_le,
         is.now_bound.0,
         bound-same at.index old new
-            (sym (take-take at.index kept.index old few)
-            ∙ (ap (take at.index) (sym is.front) ∙ take-take at.index kept.index new few)),
+            (cc (take-take at.index kept.index old few, is.front, take-take at.index kept.index new few)),
       )
 
   pub kept_stays : IsBound new kept
@@ -36,22 +33,11 @@ module _ (old new : List Token) (kept met now : TokenStart) (is : IsReplaced old
       let m : ℕ = at.index - met.index in
       let there : met.index + m ≡ at.index = omega arith in
       let turned : now.index + m ≡ m + now.index = omega arith in
-      let long : length (drop now.index new) ≡ length (drop met.index old) = ap length is.back in
-      let before : at.offset ≡ bound old met.index + bound (drop met.index old) m =
-      here.1 ∙ (ap (bound old) (sym there) ∙ bound-shift old met.index m) in
-      let after : bound new (m + now.index) ≡ bound new now.index + bound (drop met.index old) m =
-      ap (bound new) (sym turned)
-      ∙ (bound-shift new now.index m ∙ ap (λ ts. bound new now.index + bound ts m) is.back) in (
-        omega (
-          arith,
-          long,
-          here.0,
-          is.met_bound.0,
-          is.now_bound.0,
-          length-drop now.index new,
-          length-drop met.index old,
-        ),
-        omega (arith, before, after, is.met_bound.1, is.now_bound.1),
+      let long = ap length is.back in
+      let before = rw there at (bound-shift old met.index m) in
+      let after = rw (turned, is.back) at (bound-shift new now.index m) in (
+        omega (arith, is.met_bound.0, is.now_bound.0, length-drop now.index new, length-drop met.index old),
+        omega (arith, is.met_bound.1, is.now_bound.1),
       )
 
 -- Indices and offsets of both lists are small enough to be moved.

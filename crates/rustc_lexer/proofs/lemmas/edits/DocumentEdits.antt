@@ -1,7 +1,7 @@
 -- An edit of a lexed text: the tokens that replace its old tokens.
 use Rattle.std.proofs.Common.{◌≡◌, ◌↔◌, ℕ, ◌+◌, ◌-◌, ◌<◌, ◌≤◌, ◌^◌, Bool, true, false, if◌then◌else◌, IsTrue, List}
-use Rattle.std.proofs.Common.{◌++◌, length, map, take, drop, refl, sym, ap, ap₂, ◌∙◌, subst, arith, length-append}
-use Rattle.std.proofs.Common.{length-drop, rules, Result, Ok, Err, ◌&&◌, nat_le, true≢false, IsUtf8}
+use Rattle.std.proofs.Common.{◌++◌, length, map, take, drop, refl, sym, ap, ◌∙◌, arith, length-append}
+use Rattle.std.proofs.Common.{length-drop, rules, Result, Ok, Err, ◌&&◌, nat_le, IsUtf8}
 use Rattle.std.specs.List.{All, Contains}
 use Rattle.std.proofs.lemmas.List.{take_rest, Elements.{All-contains}}
 use Rattle.std.proofs.Math.Seq.{drop-append_seam, drop-append-add, take-append_seam, take-append-add}
@@ -14,8 +14,8 @@ use Rattle.rustc_lexer.specs.model.Document.{AreKeptOf, TakesFew, edit_change, t
 use Rattle.rustc_lexer.specs.Partition.{Layout, tokens_in}
 use Rattle.rustc_lexer.specs.LexedText.{AreKept, Held, HasStepCount, IsEdited, layout_in}
 use Rattle.rustc_lexer.specs.{Offsets.{IsBound}, Relexing.{IsMadeOf, known, IsEditOf}, Locality.{IsGrammar}}
-use Rattle.rustc_lexer.specs.{Tokens.{tokens_by}, model.Checkpoints.{AreBounds, IsMovable, IsReplaced, end_of}}
-use Rattle.rustc_lexer.specs.model.Relexing.{IsLexed, kept_front}
+use Rattle.rustc_lexer.specs.{Tokens.{tokens_by}, model.Checkpoints.{IsMovable, IsReplaced, end_of}}
+use Rattle.rustc_lexer.specs.model.Relexing.{IsLexed}
 use Rattle.rustc_lexer.proofs.lemmas.edits.{Bounds.{tokens_le_bytes}, Checkpoints.{movable_for}, FrontAndBack.{edited}}
 use Rattle.rustc_lexer.proofs.lemmas.edits.{Heads.{all_are, head_in}, KeptFront.{kept_none}}
 use Rattle.rustc_lexer.proofs.lemmas.edits.{UnderWay.{kept_old, lexed_whole, rest_met}, WholeEdits.{body_made, few_by}}
@@ -36,10 +36,10 @@ module _ {layout : (List ℕ → Token) → List ℕ → Layout} {first : List �
   all = p.kept.1 ∙ all_are p.kept.2 first
 
   pub old_front : take n tokens ≡ tokens_of_head old
-  old_front = ap (take n) all ∙ take-append_seam (tokens_of_head old) behind
+  old_front = rw all (take-append_seam (tokens_of_head old) behind)
 
   pub old_behind : drop n tokens ≡ behind
-  old_behind = ap (drop n) all ∙ drop-append_seam (tokens_of_head old) behind
+  old_behind = rw all (drop-append_seam (tokens_of_head old) behind)
 
   -- A checkpoint is a boundary of the body's tokens.
   pub near_behind : {near : TokenStart} → Contains checkpoints.bounds near → IsBound behind near
@@ -67,8 +67,7 @@ module _ {layout : (List ℕ → Token) → List ℕ → Layout} {first : List �
         fresh = tokens_by first body
 
         new_is : new ≡ tokens_of_head now ++ fresh
-        new_is = put ∙ ap₂ (λ (xs ys : List Token). xs ++ ys) (front kept refl)
-            (rw old_behind (lexed_whole law made_here l))
+        new_is = cc (front kept refl, old_behind, lexed_whole law made_here l)
           where
             front : (stays : Bool) → kept ≡ stays → (if stays then take n tokens else tokens_of_head now) ≡
                 tokens_of_head now
@@ -80,7 +79,7 @@ module _ {layout : (List ℕ → Token) → List ℕ → Layout} {first : List �
         new_are = new_is ∙ sym (all_are now_is first)
 
         pub new_behind : drop (length (tokens_of_head now)) new ≡ fresh
-        new_behind = ap (drop (length (tokens_of_head now))) new_is ∙ drop-append_seam (tokens_of_head now) fresh
+        new_behind = rw new_is (drop-append_seam (tokens_of_head now) fresh)
 
         front_kept : take at.front.index fresh ≡ take at.front.index behind
         front_kept = sym (kept_old law made_here at.front.index l.under_way.front).0
@@ -102,7 +101,7 @@ module _ {layout : (List ℕ → Token) → List ℕ → Layout} {first : List �
             } in
             let movable = movable_for law made_here.edit_of.is_text (edited made_here.edit_of).text_is checkpoints refl
             refl replaced in
-            (movable (subst (λ ts. AreBounds ts checkpoints) old_behind p.kept.4), replaced)
+            (movable (rw old_behind at p.kept.4), replaced)
 
         abbrev counts : Relexed
         counts = record { kept_front = at.front.index; lexed = at.lexed; kept_back = length behind - at.back.index }
@@ -113,21 +112,26 @@ module _ {layout : (List ℕ → Token) → List ℕ → Layout} {first : List �
         sizes = (
           omega (
             arith,
-            ap (λ (ts : List Token). length ts) rest,
+            ap length rest,
             length-drop (known at) fresh,
             length-drop at.back.index behind,
             l.under_way.inside,
           ),
           l.under_way.back_bound.0,
-          ap (λ (ts : List Token). length ts) new_is ∙ length-append (tokens_of_head now) fresh,
-          ap (λ (ts : List Token). length ts) all ∙ length-append (tokens_of_head old) behind,
+          rw new_is (length-append (tokens_of_head now) fresh),
+          rw all (length-append (tokens_of_head old) behind),
         )
 
         back_with : (k back : ℕ) → k ≡ length (tokens_of_head now) + known at → back ≡ n + at.back.index
             → drop k new ≡ drop back tokens
-        back_with k back e f = ap₂ drop e new_is
-            ∙ (drop-append-add (tokens_of_head now) fresh (known at)
-            ∙ (rest ∙ sym (ap₂ drop f all ∙ drop-append-add (tokens_of_head old) behind at.back.index)))
+        back_with k back e f =
+            cc (
+              new_is,
+              drop-append-add (tokens_of_head now) fresh (known at),
+              rest,
+              all,
+              drop-append-add (tokens_of_head old) behind at.back.index,
+            )
 
         -- The counts are the counts of all tokens, with the head.
         pub counted_are : AreKept tokens new (counted kept n (length (tokens_of_head now)) counts)
@@ -140,28 +144,21 @@ module _ {layout : (List ℕ → Token) → List ℕ → Layout} {first : List �
                 let many : n ≡ length (tokens_of_head now) = ap length heads in
                 record {
                   all = omega (arith, sizes.0, sizes.2, many);
-                  front = rw (new_is, all, sym heads, take-append-add, take-append-add, front_kept) refl;
+                  front = rw (new_is, all, ← heads, take-append-add, take-append-add, front_kept);
                   back = back_with _ _ (omega (arith, many)) (omega (arith, sizes.1, sizes.3));
                 }
             by_kept false same =
-                let none : at.front.index ≡ 0 = l.under_way.front
-                ∙ (ap (λ (k : Bool). kept_front (drop old.body before) behind
-                (body_change k old.body now.body edit).start) same
-                ∙ kept_none (drop old.body before) behind) in
+                let none : at.front.index ≡ 0 = rw same at l.under_way.front
+                ∙ kept_none (drop old.body before) behind in
                 record {
                   all = omega (arith, sizes.0, sizes.2);
-                  front = rw none refl;
+                  front = rw none;
                   back = back_with _ _ (omega arith) (omega (arith, sizes.1, sizes.3));
                 }
 
         pub counted_few : at.front.index < 2 ^ 33
         counted_few =
-            omega (
-              arith,
-              l.under_way.front_bound.0,
-              tokens_le_bytes law (drop old.body before) made_here.edit_of.is_text,
-              made_here.edit_of.is_text.fits,
-            )
+            let is = made_here.edit_of.is_text in omega (arith, l.under_way.front_bound.0, tokens_le_bytes law _ is)
 
 -- The body is the result of its change, in terms of the variables of the code.
 pub made_read : {layout : (List ℕ → Token) → List ℕ → Layout} {first : List ℕ → Token}
@@ -210,14 +207,13 @@ put_by {insert = insert} {start = start} {stop = stop} kept utf8 valid made_is r
     is_text = kept.0;
     inserted = utf8;
     is_edit = valid;
-    made = made_is
-        ∙ ap (λ (bytes : List ℕ). apply bytes start stop insert) reserved_is;
+    made = rw reserved_is at made_is;
     new_end = refl;
   };
 }
 
 pub left_back : {R E : Type 0} (r : Result R E) (made before : List ℕ) → IsErr r → text_left r made before ≡ before
-left_back (Ok x) made before err = absurd (true≢false (sym err))
+left_back (Ok x) made before err = absurd (cc)
 left_back (Err e) made before err = refl
 
 -- A failed edit restores the text and changes nothing else.
@@ -226,10 +222,10 @@ pub refused : {S E : Type 0} {layout : List ℕ → Layout} {text left insert : 
     → IsErr r → tokens ≡ tokens_in (layout text) → left ≡ text → now ≡ tokens
     → IsEdited layout (record { text = text; tokens = tokens; stepper = stepper }) start stop insert r
     (record { text = left; tokens = now; stepper = later })
-refused (Ok x) err scratch left_is now_is = absurd (true≢false (sym err))
+refused (Ok x) err scratch left_is now_is = absurd (cc)
 refused {layout = layout} (Err e) err scratch left_is now_is = record {
   text = search rules;
-  from_scratch = now_is ∙ (scratch ∙ ap (λ (xs : List ℕ). tokens_in (layout xs)) (sym left_is));
+  from_scratch = cc;
   relexed = search rules;
   kept = search rules;
   same_text = left_is;
@@ -240,7 +236,7 @@ pub counted_refused : {E : Type 0} {layout : List ℕ → Layout} {text insert :
     (r : Result Relexed E)
     → IsErr r → before ≤ after → TakesFew layout text start stop insert before after
     → HasStepCount layout text start stop insert r before after
-counted_refused (Ok x) err rose few = absurd (true≢false (sym err))
+counted_refused (Ok x) err rose few = absurd (cc)
 counted_refused (Err e) err rose few = record { count = search rules; rose = rose; few = few }
 
 -- The type of the error does not matter for a successful edit.

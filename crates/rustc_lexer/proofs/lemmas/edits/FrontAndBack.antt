@@ -1,6 +1,6 @@
 -- The tokens that an edit keeps: in front because of locality, and in the back after a boundary of both texts.
 use Rattle.std.proofs.Common.{◌≡◌, ℕ, zero, suc, ◌+◌, ◌-◌, ◌*◌, ◌<◌, ◌≤◌, true, false, List, [], ◌∷◌, ◌++◌, length}
-use Rattle.std.proofs.Common.{take, drop, refl, sym, ap, ◌∙◌, arith, length-drop, length-append, drop-drop, take-take}
+use Rattle.std.proofs.Common.{take, drop, refl, sym, ap, arith, length-drop, length-append, drop-drop, take-take}
 use Rattle.std.proofs.Common.{take-append-drop, take-add, take_at, drop_at, length-take-le, IsUtf8, IsCharBoundary}
 use Rattle.std.proofs.Common.{chars, leb-true, le-leb, leb, is_some, slice_get, encode_utf8, slice_range, append_assoc}
 use Rattle.std.proofs.Common.{Result, IfErr, OnOk, OnErr}
@@ -12,7 +12,7 @@ use Rattle.std.proofs.Math.Utf8.{encodes}
 use Rattle.rustc_lexer.specs.{Token, Locality.{AgreePast, IsGrammar, has_two}, Classes.{IsText}}
 use Rattle.rustc_lexer.specs.{Tokens.{bound, tokens_by}, Edits.{apply}, Relexing.{IsEditOf}}
 use Rattle.rustc_lexer.specs.declared.relex.relexing.Change.{Change}
-use Rattle.rustc_lexer.specs.laws.Cuts.{IsCutAt, at_bound, tokens_local, look}
+use Rattle.rustc_lexer.specs.laws.Cuts.{at_bound, tokens_local, look}
 
 -- A proposition that always holds also holds for an error.
 pub IfErr-always : {T E : Type 0} {P : Type 0} (r : Result T E) → P → IfErr r (λ _. P)
@@ -35,49 +35,32 @@ edited {text} {insert} {new} {edit} e =
     let start : ℕ = edit.start in
     let front : List ℕ = take start text in
     let back : List ℕ = drop edit.old_end text in
-    let first : length front ≡ start =
-    length-take-le start text (omega (arith, inside.start_le_stop, inside.stop_inside)) in
+    let first : length front ≡ start = length-take-le start text (omega arith) in
     let long : length new ≡ start + (length insert + (length text - edit.old_end)) =
-    omega (
-      arith,
-      ap length e.made,
-      length-append front (insert ++ back),
-      length-append insert back,
-      length-drop edit.old_end text,
-      first,
-    ) in
+    omega (arith, simp (length-append, length-drop) at (ap length e.made)) in
     record {
       start_le_old = inside.start_le_stop;
       old_inside = inside.stop_inside;
       start_le_new = omega (arith, e.new_end);
-      len = omega (arith, long, e.new_end, inside.stop_inside);
-      front = ap (take start) e.made ∙ take_at front (insert ++ back) start first;
-      back = rw (
-        e.made,
-        e.new_end,
-        sym (drop-drop (length insert) start (front ++ (insert ++ back))),
+      len = omega (arith, e.new_end);
+      front = rw e.made (take_at front (insert ++ back) start first);
+      back = cc (
+        drop-drop (length insert) start new,
         drop_at front (insert ++ back) start first,
-      )
-          (drop_at insert back (length insert) refl);
+        drop_at insert back (length insert) refl,
+      );
       text_is = record {
         utf8 = rw e.made (IsUtf8-append _ _ (IsUtf8-take text start e.is_text.utf8 inside.start_boundary)
             (IsUtf8-append _ _ e.inserted (IsUtf8-drop text edit.old_end e.is_text.utf8 inside.stop_boundary)));
-        fits = omega (arith, long, e.is_edit.short, inside.start_le_stop, inside.stop_inside);
+        fits = omega (arith, e.is_edit.short);
       };
     }
 
 -- A prefix with two characters decides the first two characters of a text.
 pub look-enough : (xs ys zs : List ℕ) → IsUtf8 xs → 2 ≤ length (chars xs) → look (xs ++ ys) ≡ look (xs ++ zs)
 look-enough xs ys zs is two =
-    grind (
-      arith,
-      common_steps,
-      chars-append xs ys is,
-      chars-append xs zs is,
-      take-append-le 2 (chars xs)
-          (chars ys) two,
-      take-append-le 2 (chars xs) (chars zs) two,
-    )
+    let front = λ (vs : List ℕ). take-append-le 2 (chars xs) (chars vs) two in
+    cc (chars-append xs ys is, chars-append xs zs is, front ys, front zs)
 
 positive : (n : ℕ) (xs : List ℕ) → 2 ≤ length (chars (take n xs)) → 0 < n
 positive n xs w2 = grind (arith, common_steps, chars-nil)
@@ -103,31 +86,27 @@ unfolding has_two
 has_two-agree text new offset start is same two =
     let middle : List ℕ = take (start - offset) (drop offset text) in
     let enough : 2 ≤ length (chars middle) = leb-true 2 (length (chars middle)) two in
-    let before : offset < start = (let some = positive (start - offset) (drop offset text) enough in omega arith) in
-    let there : start ≡ offset + (start - offset) = omega arith in
-    let below : take offset text ≡ take offset new = sym (take-take offset start text (omega arith))
-    ∙ (ap (take offset) (sym same) ∙ take-take offset start new (omega arith)) in
-    let its_middle : take (start - offset) (drop offset new) ≡ middle =
-    sym (drop-take offset (start - offset) new)
-    ∙ (ap (λ n. drop offset (take n new)) (sym there)
-    ∙ (ap (drop offset) same
-    ∙ (ap (λ n. drop offset (take n text)) there ∙ drop-take offset (start - offset) text))) in
+    let before : offset < start = omega (arith, positive (start - offset) (drop offset text) enough) in
+    let there : offset + (start - offset) ≡ start = omega arith in
     let here : look (middle ++ drop (start - offset) (drop offset text)) ≡
     look (middle ++ drop (start - offset) (drop offset new)) = look-enough _ _ _ is enough in
     record {
-      below = below;
-      past = sym (ap look (take-append-drop (start - offset) (drop offset text)))
-          ∙ (here ∙ (ap (λ xs. look (xs ++ drop (start - offset) (drop offset new))) (sym its_middle)
-          ∙ ap look (take-append-drop (start - offset) (drop offset new))));
+      below = cc (take-take offset start text (omega arith), take-take offset start new (omega arith));
+      past = cc (
+        drop-take offset (start - offset) new,
+        drop-take offset (start - offset) text,
+        take-append-drop (start - offset) (drop offset text),
+        take-append-drop (start - offset) (drop offset new),
+      );
     }
 
 pub bound-take : (k : ℕ) (ts : List Token) → bound (take k ts) k ≡ bound ts k
 bound-take zero ts = refl
 bound-take (suc k) [] = refl
-bound-take (suc k) (t ∷ ts) = ap (λ n. t.len + n) (bound-take k ts)
+bound-take (suc k) (t ∷ ts) = cc (bound-take k ts)
 
 pub bound-same : (k : ℕ) (ts us : List Token) → take k ts ≡ take k us → bound ts k ≡ bound us k
-bound-same k ts us e = sym (bound-take k ts) ∙ (ap (λ xs. bound xs k) e ∙ bound-take k us)
+bound-same k ts us e = cc (bound-take k ts, bound-take k us)
 
 module _ {first : List ℕ → Token} (law : IsGrammar first) {text insert new : List ℕ} {edit : Change}
     (e : IsEditOf text edit insert new) where
@@ -138,11 +117,10 @@ module _ {first : List ℕ → Token} (law : IsGrammar first) {text insert new :
   kept_same zero few two = refl
   kept_same (suc k) few two =
       let offset : ℕ = bound (tokens_by first text) (suc k) in
-      let cut : IsCutAt first text (tokens_by first text) (suc k) = at_bound law (suc k) text e.is_text in
-      let has : has_two text offset edit.start ≡ true = two (omega arith) in
-      let before : offset < edit.start = has_two-before text offset edit.start has in
-      let middle : IsUtf8 (take (edit.start - offset) (drop offset text)) =
-      IsUtf8-between text offset edit.start e.is_text.utf8 (omega arith)
+      let cut = at_bound law (suc k) text e.is_text in
+      let has = two (omega arith) in
+      let before = has_two-before text offset edit.start has in
+      let middle = IsUtf8-between text offset edit.start e.is_text.utf8 (omega arith)
       (IsCharBoundary-from_drop text offset cut.inside cut.past.utf8) e.is_edit.inside.start_boundary in
       tokens_local law (suc k) text new e.is_text (edited e).text_is few
       (has_two-agree text new offset edit.start middle (edited e).front has)
@@ -153,8 +131,7 @@ module _ {first : List ℕ → Token} (law : IsGrammar first) {text insert new :
       let n : ℕ = p - edit.new_end in
       let here : edit.new_end + n ≡ p = omega arith in
       let there : edit.old_end + n ≡ n + edit.old_end = omega arith in
-      ap (λ q. drop q new) (sym here) ∙ (sym (drop-drop n edit.new_end new)
-      ∙ (ap (drop n) (edited e).back ∙ (drop-drop n edit.old_end text ∙ ap (λ q. drop q text) there)))
+      cc ((edited e).back, drop-drop n edit.new_end new, drop-drop n edit.old_end text)
 
   -- The meeting: after a boundary at or after the edit that is also a boundary of the old text, all tokens are old
   -- ones.
@@ -162,10 +139,13 @@ module _ {first : List ℕ → Token} (law : IsGrammar first) {text insert new :
       → bound (tokens_by first text) i + edit.new_end ≡ bound (tokens_by first new) j + edit.old_end
       → drop j (tokens_by first new) ≡ drop i (tokens_by first text)
   met_rest j i past met =
-      let same : drop (bound (tokens_by first new) j) new ≡ drop (bound (tokens_by first text) i) text =
-      same_rest (bound (tokens_by first new) j) past ∙ ap (λ n. drop n text) (omega (arith, met, past)) in
-      (at_bound law j new (edited e).text_is).rest
-      ∙ (ap (tokens_by first) same ∙ sym (at_bound law i text e.is_text).rest)
+      let there : bound (tokens_by first new) j - edit.new_end + edit.old_end ≡ bound (tokens_by first text) i =
+      omega arith in
+      cc (
+        same_rest (bound (tokens_by first new) j) past,
+        (at_bound law j new (edited e).text_is).rest,
+        (at_bound law i text e.is_text).rest,
+      )
 
 pub drop_of-take : (p n : ℕ) (xs : List ℕ) → drop p (take n xs) ≡ take (n - p) (drop p xs)
 drop_of-take zero n xs = grind (arith, common_steps)
@@ -193,21 +173,17 @@ has_two-mono text offset later to is le b c two =
     let xs : List ℕ = take (later - offset) (drop offset text) in
     let ys : List ℕ = take (to - later) (drop later text) in
     let split : take (to - offset) (drop offset text) ≡ xs ++ ys =
-    ap (λ n. take n (drop offset text)) whole ∙ (take-add (later - offset) (to - later) (drop offset text) ∙
-    ap (λ zs. xs ++ take (to - later) zs) (drop-drop (later - offset) offset text ∙ ap (λ n. drop n text) next)) in
-    let enough = has_two-count text later to two in
+    cc (take-add (later - offset) (to - later) (drop offset text), drop-drop (later - offset) offset text) in
     has_two-intro text offset to
     (rw (split, chars-append xs ys (IsUtf8-between text offset later is le b c))
-    (omega (arith, length-append (chars xs) (chars ys), enough)))
+    (omega (arith, length-append (chars xs) (chars ys), has_two-count text later to two)))
 
 -- The text from `from` to `to` has two characters exactly if a character follows the first one.
 pub two_chars : (text : List ℕ) (from to : ℕ) (bs rest : List ℕ) (c : ℕ) → bs ≡ take (to - from) (drop from text)
     → IsUtf8 bs → bs ≡ encode_utf8 c ++ rest → is_some (slice_get (chars rest) 0) ≡ has_two text from to
 unfolding has_two
 two_chars text from to bs rest c e is split =
-    count (chars rest)
-    ∙ sym (ap (λ xs. leb 2 (length (chars xs))) (sym e)
-    ∙ ap (λ xs. leb 2 (length xs)) (chars_past_char bs rest c is split))
+    cc (count (chars rest), chars_past_char bs rest c is split)
   where
     count : (cs : List ℕ) → is_some (slice_get cs 0) ≡ leb 2 (suc (length cs))
     count [] = refl
@@ -223,13 +199,9 @@ pub has_two-long : (text : List ℕ) (offset to : ℕ) → IsUtf8 text → IsCha
     → 8 ≤ to - offset → has_two text offset to ≡ true
 has_two-long text offset to is from until long =
     let xs : List ℕ = take (to - offset) (drop offset text) in
-    let inside : to ≤ length text = until.0 in
     let its : IsUtf8 xs = IsUtf8-between text offset to is (omega arith) from until in
-    let bytes : length xs ≡ to - offset =
-    length-take-le (to - offset) (drop offset text) (omega (arith, length-drop offset text)) in
-    let enough : 2 ≤ length (chars xs) =
-    omega (arith, bytes, ap length (encodes-chars xs its), length-encodes (chars xs)) in
-    has_two-intro text offset to enough
+    let bytes = length-take-le (to - offset) (drop offset text) (omega (arith, until.0, length-drop offset text)) in
+    has_two-intro text offset to (omega (arith, ap length (encodes-chars xs its), length-encodes (chars xs)))
 
 -- The replacement gives the edited text, if there is room for it.
 pub put_is : {E : Type 0} (result : Result Unit E) (text insert new : List ℕ) (start stop len room : ℕ)
@@ -244,10 +216,11 @@ pub three_parts : (text : List ℕ) (start stop : ℕ) → start ≤ stop
     → take start text ++ (slice_range text start stop ++ drop stop text) ≡ text
 three_parts text start stop less =
     let turned : stop ≡ start + (stop - start) = omega arith in
-    ap (λ back. take start text ++ (slice_range text start stop ++ back))
-    (ap (λ n. drop n text) turned ∙ sym (drop-drop (stop - start) start text))
-    ∙ (ap (λ rest. take start text ++ rest) (take-append-drop (stop - start) (drop start text))
-    ∙ take-append-drop start text)
+    cc (
+      drop-drop (stop - start) start text,
+      take-append-drop (stop - start) (drop start text),
+      take-append-drop start text,
+    )
 
 -- Replacing the inserted text with the removed text restores the old text.
 pub put_back : {text insert new : List ℕ} {edit : Change} → IsEditOf text edit insert new

@@ -1,6 +1,6 @@
 -- The head of a text, and the offsets of its tokens.
-use Rattle.std.proofs.Common.{◌≡◌, ◌↔◌, ℕ, zero, suc, ◌+◌, ◌≤◌, Bool, true, false, List, [], length, refl, sym, ap, ap₂}
-use Rattle.std.proofs.Common.{◌∙◌, subst, arith, drop, length-take-le, Option, None, IsCharBoundary}
+use Rattle.std.proofs.Common.{◌≡◌, ◌↔◌, ℕ, zero, suc, ◌+◌, ◌≤◌, Bool, true, false, List, [], length, refl, sym, ap}
+use Rattle.std.proofs.Common.{arith, drop, length-take-le, Option, None, IsCharBoundary}
 use Rattle.std.proofs.lemmas.{Grind.{common_steps}, Str.{IsCharBoundary-start}}
 use Rattle.rustc_lexer.specs.{Edition, Token, declared.head.Head.{Head}, Answers.{first_in}, Classes.{IsText}}
 use Rattle.rustc_lexer.specs.Document.{body_start, head_tokens, tokens_start, document_by}
@@ -49,21 +49,20 @@ edition_are whole edition text w3 = grind (arith, common_steps, in_edition)
 module _ {layout : (List ℕ → Token) → List ℕ → Layout} {text : List ℕ} {head : Head}
     (h : IsHeadIn layout text head) where
   pub boundary_of : IsCharBoundary text head.body
-  boundary_of = subst (IsCharBoundary text) (sym h.ends) (h.cuts (length (tokens_of_head head)) (omega arith))
+  boundary_of = rw h.ends (h.cuts (length (tokens_of_head head)) (omega arith))
 
   pub start_inside : head.tokens_start ≤ length text
   start_inside = omega (arith, (h.cuts 0 (omega arith)).0)
 
   pub all_are : (first : List ℕ → Token) → tokens_in (layout first text) ≡ tokens_in (by_head head first text)
-  all_are first = ap tokens_in (h.layout_is first)
+  all_are first = rw (h.layout_is first)
 
   pub heads_are : (first : List ℕ → Token) → length (layout first text).head ≡ length (tokens_of_head head)
-  heads_are first = ap (λ (l : Layout). length l.head) (h.layout_is first)
+  heads_are first = rw (h.layout_is first)
 
   -- The body starts where the tokens of the head end.
   pub body_at : (first : List ℕ → Token) → body_in (by_head head first text) ≡ head.body
-  body_at first = ap (λ n. head.tokens_start + n)
-      (bound-append (tokens_of_head head) (tokens_by first (drop head.body text))) ∙ sym h.ends
+  body_at first = cc (bound-append (tokens_of_head head) (tokens_by first (drop head.body text)), h.ends)
 
 -- ---- whether the head is kept
 
@@ -89,7 +88,7 @@ module _ {layout : (List ℕ → Token) → List ℕ → Layout} {text made : Li
       kept k =
           let parts = same-parts old.space_len now.space_len old.frontmatter now.frontmatter old_is.bare now_is.bare
           k.2 in
-          let end = old_is.ends ∙ (ap₂ (λ n (ts : List Token). n + bound ts (length ts)) k.1 k.2 ∙ sym now_is.ends) in (
+          let end : old.body ≡ now.body = cc (old_is.ends, k.1, k.2, now_is.ends) in (
             (λ i. record { tokens_start = k.1 i; space_len = parts.0 i; frontmatter = parts.1 i; body = end i }),
             omega (arith, k.0, body_at old_is first),
           )

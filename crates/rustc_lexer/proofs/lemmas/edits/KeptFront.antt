@@ -1,5 +1,5 @@
 -- The kept front: the tokens that at least two characters follow before the edit.
-use Rattle.std.proofs.Common.{◌≡◌, ◌↔◌, refl, ap, inl, inr, ℕ, zero, suc, ◌+◌, ◌<◌, ◌≤◌, Bool, true, false, true≢false}
+use Rattle.std.proofs.Common.{◌≡◌, ◌↔◌, refl, inl, inr, ℕ, zero, suc, ◌+◌, ◌<◌, ◌≤◌, Bool, true, false, true≢false}
 use Rattle.std.proofs.Common.{List, [], ◌∷◌, length, get_or, drop, sym, ◌∙◌, arith, IsUtf8, drop-cons, inl}
 use Rattle.std.specs.List.{count_by}
 use Rattle.std.proofs.lemmas.{List.Sums.{count_by-le-length}, Bool.{cases_lt, false_from_ne_true}, Grind.{common_steps}}
@@ -39,12 +39,12 @@ counted_first test (x ∷ xs) first k few =
     by_test true e later (suc k) less = grind (arith, common_steps, count-cons test x xs, later k (omega arith))
     by_test false e later k less =
         let none = none_counted test (x ∷ xs)
-        (λ j few. false_from_ne_true _ (λ has. true≢false (sym (first 0 j (omega arith) few has) ∙ e))) in
+        (λ j few. false_from_ne_true _ (λ has. cc (first 0 j (omega arith) few has))) in
         grind (arith, common_steps, none, first 0 k (omega arith) less)
 
 length-ends_from : (from : ℕ) (ts : List Token) → length (ends_from from ts) ≡ length ts
 length-ends_from from [] = refl
-length-ends_from from (t ∷ ts) = ap suc (length-ends_from (from + t.len) ts)
+length-ends_from from (t ∷ ts) = cc (length-ends_from (from + t.len) ts)
 
 get_or-ends_from : (from : ℕ) (ts : List Token) (k : ℕ) → k < length ts → get_or (ends_from from ts) k 0 ≡
     from + bound ts (suc k)
@@ -102,13 +102,10 @@ pub bound-shift : (tokens : List Token) (n k : ℕ) → bound tokens (n + k) ≡
 bound-shift tokens zero k = grind (arith, common_steps)
 bound-shift [] (suc n) k = omega (arith, bound-nil (suc n + k), bound-nil k)
 bound-shift (t ∷ ts) (suc n) k =
-    let e : suc n + k ≡ suc (n + k) = omega arith in
-    let ih = bound-shift ts n k in
-    ap (bound (t ∷ ts)) e ∙ omega (arith, ih)
+    let e : suc n + k ≡ suc (n + k) = omega arith in rw e (omega (arith, bound-shift ts n k))
 
 pub bound-next : (tokens : List Token) (n : ℕ) (d : Token) → n < length tokens
     → bound tokens n + (get_or tokens n d).len ≡ bound tokens (n + 1)
 bound-next tokens n d few =
     let next : IsNext tokens n (get_or tokens n d) = next-from_drop tokens n _ _ (drop-cons tokens n d few) in
-    let e : suc n ≡ n + 1 = omega arith in
-    sym next.end ∙ ap (bound tokens) e
+    let e : suc n ≡ n + 1 = omega arith in cc next.end

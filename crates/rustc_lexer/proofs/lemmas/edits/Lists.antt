@@ -1,6 +1,6 @@
 -- A list of edits, one edit at a time, and how much of it was applied.
 use Rattle.std.proofs.Common.{◌≡◌, ℕ, ◌+◌, ◌-◌, ◌<◌, ◌≤◌, min, List, [], ◌∷◌, ◌++◌, length, take, drop, get_or, refl}
-use Rattle.std.proofs.Common.{sym, ap, ◌∙◌, subst, arith, length-drop, length-take-le, drop-drop, Option, IfSome, Ok}
+use Rattle.std.proofs.Common.{◌∙◌, arith, length-drop, length-take-le, drop-drop, Ok}
 use Rattle.std.proofs.Common.{Err}
 use Rattle.std.specs.List.{All}
 use Rattle.std.proofs.lemmas.List.{length-take, take_more, Elements.{All-cons, All-head, All-tail}}
@@ -8,7 +8,7 @@ use Rattle.std.proofs.lemmas.{Option.{slice_get-get_or}, Grind.{common_steps}}
 use Rattle.rustc_lexer.specs.{Token, laws.Reach.{cut}, declared.relex.edit.Edit.{Edit}}
 use Rattle.rustc_lexer.specs.declared.relex.edit_list.EditStop.{EditStop, TheVariants.{Memory}}
 use Rattle.rustc_lexer.specs.declared.relex.relexing.Relexed.{Relexed}
-use Rattle.rustc_lexer.specs.Edits.{IsEdit, IsRelexed, applied, apply, apply_list, count_after, AreEdits, AreRelexed}
+use Rattle.rustc_lexer.specs.Edits.{IsEdit, IsRelexed, applied, apply_list, count_after, AreEdits, AreRelexed}
 use Rattle.rustc_lexer.specs.Edits.{AreStepped, IsGreatest, IsRefusedOn, IsStop, IsStopStepped, stop_at}
 use Rattle.rustc_lexer.specs.LexedText.{HaveStepCounts, AreKept, AreKeptThrough, AreApplied, Held, HasStepCount, IsEdited}
 use Rattle.rustc_lexer.specs.Partition.{Layout, tokens_in}
@@ -23,86 +23,72 @@ apply-last text (f ∷ es) e = apply-last (applied text f) es e
 abbrev pub none : Edit
 none = record { start = 0; stop = 0; insert = record { ref_ptr = (0, 0); now = [] } }
 
--- After one more edit, the text is the result of one more edit of the list.
-pub text-more : (text now after : List ℕ) (es : List Edit) (n : ℕ) → n < length es → now ≡ apply_list text (take n es)
-    → after ≡ applied now (get_or es n none) → after ≡ apply_list text (take (n + 1) es)
-text-more text now after es n few is made =
-    rw (take_more es n none few, apply-last text (take n es) (get_or es n none), sym is) made
-
 -- Holds if the step count grew by the steps of the edit.
-abbrev pub IsStepped : (List ℕ → Layout) → List ℕ → ℕ → ℕ → List ℕ → ℕ → ℕ → Type 0
-IsStepped layout text start stop insert before after =
-    (r : Relexed) × IsRelexed layout text start stop insert r
-    × (after + (length (layout (apply text start stop insert)).head - r.kept_front) ≡ before + r.lexed)
+abbrev IsStepped : (List ℕ → Layout) → List ℕ → Edit → ℕ → ℕ → Type 0
+IsStepped layout text e before after =
+    (r : Relexed) × IsRelexed layout text e.start e.stop e.insert.now r
+    × (after + (length (layout (applied text e)).head - r.kept_front) ≡ before + r.lexed)
 
--- A step count that grew less is bounded by one that grew by the steps of the edit.
-most_of : (layout : List ℕ → Layout) (text : List ℕ) (start stop : ℕ) (insert : List ℕ) (before after : ℕ)
-    → (r : Relexed) × IsRelexed layout text start stop insert r
-    × (after + (length (layout (apply text start stop insert)).head - r.kept_front) ≤ before + r.lexed)
-    → (most : ℕ) × IsStepped layout text start stop insert before most × (after ≤ most)
-most_of layout text start stop insert before after few =
-    let own : ℕ = length (layout (apply text start stop insert)).head - few.0.kept_front in
-    let at_most : after + own ≤ before + few.0.lexed = few.2 in
-    (before + few.0.lexed - own, (few.0, few.1, omega (arith, at_most)), omega (arith, at_most))
-
--- One more edit adds its own steps.
-module _ (layout : List ℕ → Layout) where
-  abbrev IsSteppedBy : List ℕ → Edit → ℕ → ℕ → Type 0
-  IsSteppedBy text e before after = IsStepped layout text e.start e.stop e.insert.now before after
-
-  stepped-last : (text : List ℕ) (es : List Edit) (e : Edit) (before between after : ℕ)
-      → AreStepped layout text es before between
-      → IsSteppedBy (apply_list text es) e between after
-      → AreStepped layout text (es ++ e ∷ []) before after
-  stepped-last text [] e before between after are is =
-      (after, subst (λ (k : ℕ). IsSteppedBy text e k after) are is, refl)
-  stepped-last text (f ∷ es) e before between after are is =
-      (are.0, are.1, stepped-last (applied text f) es e are.0 between after are.2 is)
-
-  pub stepped-more : (text now : List ℕ) (es : List Edit) (n before between after : ℕ) → n < length es
-      → now ≡ apply_list text (take n es) → AreStepped layout text (take n es) before between
-      → IsStepped layout now (get_or es n none).start (get_or es n none).stop (get_or es n none).insert.now between
-      after → AreStepped layout text (take (n + 1) es) before after
-  stepped-more text now es n before between after few is are one =
-      rw (take_more es n none few)
-      (stepped-last text (take n es) (get_or es n none) before between after are (rw (sym is) one))
-
-  -- If an allocation fails, the step count grew at most by the steps of one more edit.
-  pub stop-stepped : (text now : List ℕ) (es : List Edit) (n before between after : ℕ) → n < length es
-      → now ≡ apply_list text (take n es) → AreStepped layout text (take n es) before between → between ≤ after
-      → (r : Relexed) × IsRelexed layout now (get_or es n none).start (get_or es n none).stop
-      (get_or es n none).insert.now r
-      × (after + (length (layout (applied now (get_or es n none))).head - r.kept_front) ≤ between + r.lexed)
-      → IsStopStepped (Memory n) layout text es before after
-  stop-stepped text now es n before between after few is are rose at_most =
-      let most = most_of layout now (get_or es n none).start (get_or es n none).stop
-      (get_or es n none).insert.now between after at_most in
-      (between, most.0, are, rose, stepped-more text now es n before between most.0 few is are most.1, most.2)
+stepped-last : (layout : List ℕ → Layout) (text : List ℕ) (es : List Edit) (e : Edit) (before between after : ℕ)
+    → AreStepped layout text es before between → IsStepped layout (apply_list text es) e between after
+    → AreStepped layout text (es ++ e ∷ []) before after
+stepped-last layout text [] e before between after are is = (after, rw (← are) is, refl)
+stepped-last layout text (f ∷ es) e before between after are is =
+    (are.0, are.1, stepped-last layout (applied text f) es e are.0 between after are.2 is)
 
 -- With one more edit, the counts are still the minimum.
-module _ (layout : List ℕ → Layout) (r : Relexed) where
-  least-last : (text : List ℕ) (es : List Edit) (e : Edit) (f b front back next_front next_back : ℕ)
-      → next_front ≡ min front r.kept_front
-      → next_back ≡ min back r.kept_back
-      → AreLeast layout text es f b front back → IsRelexed layout (apply_list text es) e.start e.stop e.insert.now r
-      → AreLeast layout text (es ++ e ∷ []) f b next_front next_back
-  least-last text [] e f b front back next_front next_back front_is back_is are is = grind (arith, common_steps)
-  least-last text (d ∷ es) e f b front back next_front next_back front_is back_is are is = (
-    are.0,
-    are.1,
-    least-last (applied text d) es e (min f are.0.kept_front) (min b are.0.kept_back) front back _ _
-        front_is back_is are.2 is,
-  )
+least-last : (layout : List ℕ → Layout) (r : Relexed) (text : List ℕ) (es : List Edit) (e : Edit)
+    (f b front back next_front next_back : ℕ) → next_front ≡ min front r.kept_front → next_back ≡ min back r.kept_back
+    → AreLeast layout text es f b front back → IsRelexed layout (apply_list text es) e.start e.stop e.insert.now r
+    → AreLeast layout text (es ++ e ∷ []) f b next_front next_back
+least-last layout r text [] e f b front back next_front next_back front_is back_is are is = grind (arith, common_steps)
+least-last layout r text (d ∷ es) e f b front back next_front next_back front_is back_is are is =
+    (are.0, are.1, least-last layout r (applied text d) es e _ _ front back _ _ front_is back_is are.2 is)
 
-  pub least-more : (text now : List ℕ) (es : List Edit) (n f b front back next_front next_back : ℕ) → n < length es
-      → now ≡ apply_list text (take n es) → next_front ≡ min front r.kept_front → next_back ≡ min back r.kept_back
-      → AreLeast layout text (take n es) f b front back
-      → IsRelexed layout now (get_or es n none).start (get_or es n none).stop (get_or es n none).insert.now r
-      → AreLeast layout text (take (n + 1) es) f b next_front next_back
-  least-more text now es n f b front back next_front next_back few is front_is back_is are one =
-      rw (take_more es n none few)
-      (least-last text (take n es) (get_or es n none) f b front back next_front next_back front_is back_is are
-      (rw (sym is) one))
+edits-last : (text : List ℕ) (es : List Edit) (e : Edit) → AreEdits text es
+    → IsEdit (apply_list text es) e.start e.stop e.insert.now
+    → AreEdits text (es ++ e ∷ [])
+edits-last text [] e are is = (is, tt)
+edits-last text (d ∷ es) e are is = (are.0, edits-last (applied text d) es e are.1 is)
+
+-- One more edit of a list, after its first n ones.
+module _ (text now : List ℕ) (es : List Edit) (n : ℕ) (few : n < length es)
+    (is : now ≡ apply_list text (take n es)) where
+  abbrev added : Edit
+  added = get_or es n none
+
+  -- The text is the result of one more edit of the list.
+  text-more : (after : List ℕ) → after ≡ applied now added → after ≡ apply_list text (take (n + 1) es)
+  text-more after made = rw (take_more es n none few, apply-last text (take n es) added, ← is) made
+
+  edits-more : AreEdits text (take n es) → IsEdit now added.start added.stop added.insert.now
+      → AreEdits text (take (n + 1) es)
+  edits-more are one = rw (take_more es n none few) (edits-last text (take n es) added are (rw (← is) one))
+
+  module _ (layout : List ℕ → Layout) where
+    -- One more edit adds its own steps.
+    stepped-more : (before between after : ℕ) → AreStepped layout text (take n es) before between
+        → IsStepped layout now added between after → AreStepped layout text (take (n + 1) es) before after
+    stepped-more before between after are one =
+        rw (take_more es n none few) (stepped-last layout text (take n es) added before between after are (rw (← is) one))
+
+    -- If an allocation fails, the step count grew at most by the steps of one more edit.
+    stop-stepped : (before between after : ℕ) → AreStepped layout text (take n es) before between → between ≤ after
+        → (r : Relexed) × IsRelexed layout now added.start added.stop added.insert.now r
+        × (after + (length (layout (applied now added)).head - r.kept_front) ≤ between + r.lexed)
+        → IsStopStepped (Memory n) layout text es before after
+    stop-stepped before between after are rose more =
+        let own : ℕ = length (layout (applied now added)).head - more.0.kept_front in
+        let most : ℕ = between + more.0.lexed - own in
+        (between, most, are, rose, stepped-more before between most are (more.0, more.1, omega arith), omega arith)
+
+    least-more : (r : Relexed) (f b front back next_front next_back : ℕ) → next_front ≡ min front r.kept_front
+        → next_back ≡ min back r.kept_back → AreLeast layout text (take n es) f b front back
+        → IsRelexed layout now added.start added.stop added.insert.now r
+        → AreLeast layout text (take (n + 1) es) f b next_front next_back
+    least-more r f b front back next_front next_back front_is back_is are one =
+        rw (take_more es n none few)
+        (least-last layout r text (take n es) added f b front back _ _ front_is back_is are (rw (← is) one))
 
 -- The minimum of some numbers is the greatest number that does not exceed any of them.
 greatest-next : (read : Relexed → ℕ) (r : Relexed) (rs : List Relexed) (most n : ℕ)
@@ -131,26 +117,12 @@ greatest-of layout text (e ∷ es) f b front back are =
       greatest-next (λ c. c.kept_back) are.0 later.0 b back later.3,
     )
 
-edits-last : (text : List ℕ) (es : List Edit) (e : Edit) → AreEdits text es
-    → IsEdit (apply_list text es) e.start e.stop e.insert.now
-    → AreEdits text (es ++ e ∷ [])
-edits-last text [] e are is = (is, tt)
-edits-last text (d ∷ es) e are is = (are.0, edits-last (applied text d) es e are.1 is)
-
-pub edits-more : (text now : List ℕ) (es : List Edit) (n : ℕ) → n < length es → now ≡ apply_list text (take n es)
-    → AreEdits text (take n es)
-    → IsEdit now (get_or es n none).start (get_or es n none).stop (get_or es n none).insert.now
-    → AreEdits text (take (n + 1) es)
-edits-more text now es n few same are is =
-    rw (take_more es n none few) (edits-last text (take n es) (get_or es n none) are (rw (sym same) is))
-
 -- An edit that fails stops the list there, for the same reason.
 pub stop_of : (text : List ℕ) (es : List Edit) (s : EditStop) → stop_at s < length es
     → IsRefusedOn s text (get_or es (stop_at s) none) → IsStop s text es
 stop_of text es s few refused = (
   few,
-  subst (λ (o : Option Edit). IfSome o (IsRefusedOn s text)) (sym (slice_get-get_or es (stop_at s) none few))
-      refused,
+  rw (slice_get-get_or es (stop_at s) none few) refused,
 )
 
 -- If tokens are kept at the back, fewer tokens are kept too.
@@ -160,12 +132,11 @@ fewer_back : (n back : ℕ) (old new : List Token) → n ≤ back → back ≤ l
 fewer_back n back old new few old_has new_has same =
     let before : length new - back + (back - n) ≡ length new - n = omega arith in
     let after : length old - back + (back - n) ≡ length old - n = omega arith in
-    sym (drop-drop (back - n) (length new - back) new ∙ ap (λ k. drop k new) before)
-    ∙ (ap (drop (back - n)) same ∙ (drop-drop (back - n) (length old - back) old ∙ ap (λ k. drop k old) after))
+    cc (drop-drop (back - n) (length new - back) new, drop-drop (back - n) (length old - back) old)
 
 fewer_stay : {old new : List Token} {front back : ℕ} (n m : ℕ) → n ≤ front → m ≤ back → StayAtEnds old new front back
     → StayAtEnds old new n m
-fewer_stay {old} {new} {front} {back} n m few_front few_back stay = grind (arith, common_steps, cut, fewer_back)
+fewer_stay n m few_front few_back stay = grind (arith, common_steps, cut, fewer_back)
 
 -- The counts of an edit determine the tokens that it keeps at both ends.
 pub counts_stay : (old new : List Token) (front lexed back : ℕ) → front + lexed + back ≡ length new
@@ -184,7 +155,7 @@ stay-more next_front next_back front_is back_is before then = grind (arith, comm
 pub counts_back : {old new : List Token} {front back : ℕ} (len kept_back : ℕ) → len ≡ length new
     → kept_back ≡ min back (min (length new) (length old) - front) → StayAtEnds old new front back
     → drop (front + (len - front - kept_back)) new ≡ drop (length old - kept_back) old
-counts_back {old} {new} {front} {back} len kept_back len_is fewer stay = grind (arith, common_steps, fewer_stay)
+counts_back len kept_back len_is fewer stay = grind (arith, common_steps, fewer_stay)
 
 -- Two consecutive edits keep the tokens that both of them keep.
 pub kept_then : {old between new : List Token} {a b r : Relexed} → r.kept_front ≡ min a.kept_front b.kept_front
@@ -199,34 +170,32 @@ kept_then {old} {between} {new} {a} {b} {r} front back count before then =
     record {
       all = all;
       front = stay.same_front;
-      back = subst (λ k. drop k new ≡ drop (length old - r.kept_back) old) from stay.same_back;
+      back = rw from at stay.same_back;
     }
 
 -- ---- how much of a list was applied
 
 module _ {S : Type 0} {layout : List ℕ → Layout} {old mid : Held S} {edits : List Edit} {made : Made}
     (m : AreMadeTo layout old edits made mid) where
+  abbrev at : ℕ
+  at = made.count
+
+  abbrev edit : Edit
+  edit = get_or edits at none
+
   -- The list stops at this edit.
-  pub made_stop : (s : EditStop) {T : Type 0} {new : Held S} → stop_at s ≡ made.count → made.count < length edits
-      → IsRefusedOn s new.text (get_or edits made.count none) → new.text ≡ mid.text
+  pub made_stop : (s : EditStop) {T : Type 0} {new : Held S} → stop_at s ≡ at → at < length edits
+      → IsRefusedOn s new.text edit → new.text ≡ mid.text
       → new.tokens ≡ tokens_in (layout new.text)
       → AreApplied {T = T} layout old edits (Err s) new
-  made_stop s {T} {new} at few refused same scratch = grind (arith, common_steps, stop_of)
+  made_stop s at few refused same scratch = grind (arith, common_steps, stop_of)
 
-  module _ (few : made.count < length edits)
-      (is : IsEdit mid.text (get_or edits made.count none).start (get_or edits made.count none).stop
-      (get_or edits made.count none).insert.now) where
-    abbrev at : ℕ
-    at = made.count
-
-    abbrev edit : Edit
-    edit = get_or edits at none
-
+  module _ (few : at < length edits) (is : IsEdit mid.text edit.start edit.stop edit.insert.now) where
     pub made_more : {X : Type 0} {r : Relexed} {new : Held S} (next : Made)
         → IsEdited {E = X} layout mid edit.start edit.stop edit.insert.now (Ok r) new
         → next.count ≡ at + 1 → next.front ≡ min made.front r.kept_front → next.back ≡ min made.back r.kept_back
         → AreMadeTo layout old edits next new
-    made_more {X} {r} {new} next i count_is front_is back_is = grind (arith, common_steps, edits-more, text-more)
+    made_more next i count_is front_is back_is = grind (arith, common_steps, edits-more, text-more)
 
     -- After one more edit, the step count has grown by its steps.
     pub counted_more : {X : Type 0} {r : Relexed} (before between after : ℕ) (next : Made) → next.count ≡ at + 1
@@ -235,8 +204,8 @@ module _ {S : Type 0} {layout : List ℕ → Layout} {old mid : Held S} {edits :
         → AreStepped layout old.text (take at edits) before between
         → AreStepped layout old.text (take next.count edits) before after
     counted_more {X} {r} before between after next count_is relexed i are =
-        subst (λ k. AreStepped layout old.text (take k edits) before after) (sym count_is)
-        (stepped-more layout old.text mid.text edits at before between after few m.text are (r, relexed, i.count))
+        rw count_is (stepped-more old.text mid.text edits at few m.text layout before between after are
+        (r, relexed, i.count))
 
     pub kept_more : {X : Type 0} {r : Relexed} {new : Held S} (next : Made) → AreKeptTo layout old edits made mid
         → IsEdited {E = X} layout mid edit.start edit.stop edit.insert.now (Ok r) new → next.count ≡ at + 1
@@ -246,44 +215,35 @@ module _ {S : Type 0} {layout : List ℕ → Layout} {old mid : Held S} {edits :
       stay = stay-more next.front next.back front_is back_is kept.stay
           (counts_stay mid.tokens new.tokens r.kept_front r.lexed r.kept_back i.kept.all i.kept.front i.kept.back);
       least =
-          subst (λ k. AreLeast layout old.text (take k edits) (length old.tokens)
-          (length old.tokens) next.front next.back) (sym count_is)
-          (least-more layout r old.text mid.text edits at _ _ made.front made.back _ _ few m.text front_is back_is
-          kept.least i.relexed);
+          rw count_is (least-more old.text mid.text edits at few m.text layout r _ _ made.front made.back _ _
+          front_is back_is kept.least i.relexed);
     }
 
     -- A failed edit does not change the tokens.
     pub kept_refused : {X : Type 0} {x : X} {new : Held S} → AreKeptTo layout old edits made mid
         → IsEdited {E = X} layout mid edit.start edit.stop edit.insert.now (Err x) new
         → AreKeptTo layout old edits made new
-    kept_refused {X} {x} {new} kept i =
-        record {
-          stay = subst (λ ts. StayAtEnds old.tokens ts made.front made.back) (sym i.same_tokens) kept.stay;
-          least = kept.least;
-        }
+    kept_refused kept i = record { stay = rw i.same_tokens kept.stay; least = kept.least }
 
     pub made_refused : {X T : Type 0} {x : X} {new : Held S}
         → IsEdited {E = X} layout mid edit.start edit.stop edit.insert.now (Err x) new
         → AreApplied {T = T} layout old edits (Err (Memory at)) new
-    made_refused {X} {T} {x} {new} i =
-        made_stop (Memory at) refl few
-        (subst (λ xs. IsEdit xs edit.start edit.stop edit.insert.now) (sym i.same_text) is) i.same_text
-        i.from_scratch
+    made_refused i = made_stop (Memory at) refl few (rw i.same_text is) i.same_text i.from_scratch
 
     pub counted_refused : {X T : Type 0} {x : X} (before between after : ℕ)
         → HasStepCount {E = X} layout mid.text edit.start edit.stop edit.insert.now (Err x) between after
         → AreStepped layout old.text (take at edits) before between
         → HaveStepCounts {T = T} layout old.text edits (Err (Memory at)) before after
-    counted_refused {X} {T} {x} before between after i are = record {
+    counted_refused before between after i are = record {
       count = tt;
-      stop_count = stop-stepped layout old.text mid.text edits at before between after few m.text are i.rose i.few;
+      stop_count = stop-stepped old.text mid.text edits at few m.text layout before between after are i.rose i.few;
     }
 
 -- No edit is applied yet.
 pub made_none : {S : Type 0} {layout : List ℕ → Layout} {old : Held S} (edits : List Edit) (n : ℕ)
     → old.tokens ≡ tokens_in (layout old.text)
     → AreMadeTo layout old edits (record { count = 0; front = n; back = n }) old
-made_none {S} {layout} {old} edits n scratch = grind (arith, common_steps)
+made_none edits n scratch = grind (arith, common_steps)
 
 pub kept_none : {S : Type 0} {layout : List ℕ → Layout} {old : Held S} (edits : List Edit) (n : ℕ)
     → n ≡ length old.tokens → AreKeptTo layout old edits (record { count = 0; front = n; back = n }) old
@@ -307,18 +267,12 @@ kept_through {S} {layout} {old} {new} {edits} {made} r kept front back all =
       each_is = most.1;
       most_front = rw front most.2;
       most_back = (
-        (
-          omega (arith, front, back, stay.front_inside),
-          omega (arith, front, back, stay.front_within),
-          λ k d less. omega (arith, back, most.3.0.1 k d less),
-        ),
-        λ n fits. let less = most.3.1 n (omega (arith, fits.0), fits.2) in
-            omega (arith, front, back, fits.0, fits.1, less),
+        (omega arith, omega arith, λ k d less. omega (arith, most.3.0.1 k d less)),
+        λ n fits. let less = most.3.1 n (omega arith, fits.2) in omega arith,
       );
       kept = record {
         all = all;
         front = rw front stay.same_front;
-        back = subst (λ n. drop n new.tokens ≡ drop (length old.tokens - r.kept_back) old.tokens) past
-            (counts_back (length new.tokens) r.kept_back refl back stay);
+        back = rw past at (counts_back (length new.tokens) r.kept_back refl back stay);
       };
     }

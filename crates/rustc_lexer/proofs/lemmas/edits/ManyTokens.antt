@@ -1,7 +1,7 @@
 -- Lexing and relexing in blocks, which are buffers filled with the next tokens, and one token at a time.
-use Rattle.std.proofs.Common.{◌≡◌, ℕ, ◌+◌, ◌<◌, ◌≤◌, List, ◌++◌, length, map, take, drop, sym, ap, ◌∙◌, subst, arith}
+use Rattle.std.proofs.Common.{◌≡◌, ℕ, ◌+◌, ◌<◌, ◌≤◌, List, ◌++◌, length, map, take, drop, ap, ◌∙◌, arith}
 use Rattle.std.proofs.Common.{length-append, length-drop, length-take-le, take_at, drop-drop, take-add, IsCharBoundary}
-use Rattle.std.proofs.Common.{IsUtf8, false, ◌∷◌}
+use Rattle.std.proofs.Common.{false, ◌∷◌}
 use Rattle.std.proofs.lemmas.{Bool.{cases_lt}, List.{map-id}, Str.{IsCharBoundary-from_drop}, Grind.{common_steps}}
 use Rattle.rustc_lexer.specs.{declared.{relex.{relexing.Relexing.{Relexing}}}, Token}
 use Rattle.rustc_lexer.specs.{Classes.{IsText}, Relexing.{known, TakesSteps}, Locality.{IsGrammar}}
@@ -19,15 +19,14 @@ module _ {first : List ℕ → Token} (law : IsGrammar first) (text left : List 
   pub block_inside : at + bytes ≤ length text
   block_inside =
       let cut = at_bound law count left left_text in
-      let inside = boundary.0 in
-      omega (arith, cut.inside, bytes_is, ap length left_is, length-drop at text, inside)
+      omega (arith, bytes_is, ap length left_is, length-drop at text, boundary.0)
 
   pub block_boundary : IsCharBoundary text (at + bytes)
   block_boundary =
       let cut = at_bound law count left left_text in
-      let same : drop (at + bytes) text ≡ drop (bound (tokens_by first left) count) left = sym (drop-drop bytes at text)
-      ∙ (ap (drop bytes) (sym left_is) ∙ ap (λ n. drop n left) bytes_is) in
-      IsCharBoundary-from_drop text (at + bytes) block_inside (subst IsUtf8 (sym same) cut.past.utf8)
+      let same : drop (at + bytes) text ≡ drop (bound (tokens_by first left) count) left =
+      cc (drop-drop bytes at text, left_is, bytes_is) in
+      IsCharBoundary-from_drop text (at + bytes) block_inside (rw same cut.past.utf8)
 
   pub block_count : count ≤ bytes
   block_count = omega (arith, bytes_is, number_le_bound (tokens_by first left) count few (rises law left left_text))
@@ -110,15 +109,15 @@ module _ {first : List ℕ → Token} (law : IsGrammar first) {text : List ℕ} 
   pub one_step : {token : Token} {at : Relexing} → token ≡ first rest → begin.at < length text → at.front ≡ begin.front
       → at.lexed ≡ begin.lexed + 1 → at.at ≡ begin.at + token.len → (at.at < past → at.back ≡ begin.back)
       → (at.at < past → at.met ≡ false) → TakesSteps first text past begin 1 at
-  one_step {token} token_is more front lexed offset same_back not_met =
+  one_step token_is more front lexed offset same_back not_met =
       let cons = tokens-cons law rest (rest_is text begin.at is boundary)
       (omega (arith, more, length-drop begin.at text)) in
       record {
-        inside = omega (arith, ap (λ (ts : List Token). length ts) cons);
-        none = λ e. absurd (omega (arith, e));
+        inside = omega (arith, ap length cons);
+        none = λ e. absurd (omega arith);
         front = front;
         lexed = lexed;
-        offset = omega (arith, offset, ap (λ (ts : List Token). bound ts 1) cons, ap (λ (t : Token). t.len) token_is);
+        offset = rw (cons, ← token_is) (omega arith);
         same_back = same_back;
         not_met = λ some early. not_met early;
       }
@@ -126,38 +125,25 @@ module _ {first : List ℕ → Token} (law : IsGrammar first) {text : List ℕ} 
   -- One more step.
   module _ {count : ℕ} {at : Relexing} (steps : TakesSteps first text past begin count at) where
     there : drop (bound (tokens_by first rest) count) rest ≡ drop at.at text
-    there = drop-drop (bound (tokens_by first rest) count) begin.at text ∙ ap (λ n. drop n text) (sym steps.offset)
+    there = rw steps.offset (drop-drop (bound (tokens_by first rest) count) begin.at text)
 
     left_is : drop count (tokens_by first rest) ≡ tokens_by first (drop at.at text)
-    left_is = (at_bound law count rest (rest_is text begin.at is boundary)).rest ∙ ap (tokens_by first) there
+    left_is = cc ((at_bound law count rest (rest_is text begin.at is boundary)).rest, there)
 
     pub next_left : {token : Token} → token ≡ first (drop at.at text) → 1 ≤ length (tokens_by first (drop at.at text))
         → drop count (tokens_by first rest) ≡ token ∷ tokens_by first (drop token.len (drop at.at text))
     next_left token_is some =
-        let its : IsText (drop at.at text) =
-        subst IsText there (at_bound law count rest (rest_is text begin.at is boundary)).past in
-        left_is ∙ rw token_is
-        (tokens-cons law (drop at.at text) its (omega (arith, some, tokens_le_bytes law (drop at.at text) its)))
+        let its = rw there at (at_bound law count rest (rest_is text begin.at is boundary)).past in
+        left_is ∙ rw token_is (tokens-cons law _ its (omega (arith, tokens_le_bytes law _ its)))
 
     pub step_more : {next : Relexing} → TakesSteps first text past at 1 next
         → TakesSteps first text past begin (count + 1) next
     step_more step = record {
-      inside = omega (
-        arith,
-        step.inside,
-        ap (λ (ts : List Token). length ts) left_is,
-        length-drop count (tokens_by first rest),
-      );
-      none = λ e. absurd (omega (arith, e));
+      inside = omega (arith, step.inside, ap length left_is, length-drop count (tokens_by first rest));
+      none = λ e. absurd (omega arith);
       front = step.front ∙ steps.front;
       lexed = omega (arith, step.lexed, steps.lexed);
-      offset = omega (
-        arith,
-        step.offset,
-        steps.offset,
-        bound-shift (tokens_by first rest) count 1,
-        ap (λ (ts : List Token). bound ts 1) left_is,
-      );
+      offset = rw (bound-shift (tokens_by first rest) count 1, left_is) (omega (arith, step.offset, steps.offset));
       same_back = λ early. step.same_back early ∙ steps.same_back (omega (arith, early, step.offset));
       not_met = λ some early. step.not_met (omega arith) early;
     }

@@ -62,11 +62,10 @@ module _ {X : Type 0} (f : X → ℕ) (xs : List X) (first : ℕ) (tokens : List
   pub past_all : (offset : ℕ) → length xs ≤ at.index → at.offset ≤ offset
       → first + bound tokens (length tokens) ≤ offset
   past_all offset last begun =
-      let here : at.index ≡ length tokens = omega (arith, is.number, many) in
-      let there = ap (bound tokens) here in omega (arith, is.offset, there)
+      let here : length tokens ≡ at.index = omega (arith, is.number, many) in rw here (omega (arith, is.offset))
 
   pub before_all : (offset : ℕ) → at.index ≡ 0 → offset < at.offset → first ≤ offset → ⊥
-  before_all offset none ahead le = let there = ap (bound tokens) none in omega (arith, is.offset, there)
+  before_all offset none ahead le = omega (arith, is.offset, ap (bound tokens) none)
 
 module _ (first : ℕ) (tokens : List Token) (offset : ℕ) (at : TokenStart)
     (has : ContainsByte first tokens offset at) where

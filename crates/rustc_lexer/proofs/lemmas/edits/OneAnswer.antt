@@ -1,6 +1,6 @@
 -- The counts of an edit exist; and the counts of the body's tokens determine the counts of all tokens.
 use Rattle.std.proofs.Common.{◌≡◌, ◌⊎◌, ℕ, zero, suc, ◌+◌, ◌-◌, ◌<◌, ◌≤◌, List, length, take, refl, sym, ap, subst}
-use Rattle.std.proofs.Common.{arith, length-take, inl, inr, eq-or-lt_of_le, ◌↔◌, [], ◌∙◌, length-append}
+use Rattle.std.proofs.Common.{arith, length-take, inl, inr, eq-or-lt_of_le, ◌↔◌, [], length-append}
 use Rattle.std.proofs.lemmas.{Bool.{cases_lt, eqb-false, eqb-true}, Grind.{common_steps}}
 use Rattle.rustc_lexer.specs.{declared.relex.relexing.{Change.Change, Relexed.Relexed}, Token}
 use Rattle.rustc_lexer.specs.Edits.{IsMeeting, IsRelexedTo, fragment_by, body_in, IsRelexed, offset_in}
@@ -28,11 +28,15 @@ counts_of layout e r = (λ c. rw (e.made, e.new_end) c, λ c. rw (sym e.made, sy
 
 -- ---- a text with a head
 
--- The bodies meet at the same boundaries as all tokens. `more` is the minimum number of bytes after the edit at which
--- both bodies have started.
-module _ (old new : Layout) (stop new_end more body_stop new_body_stop : ℕ)
-    (old_more : body_stop + body_in old ≡ stop + more) (new_more : new_body_stop + body_in new ≡ new_end + more)
-    (least : (other : ℕ) → body_in old ≤ stop + other → body_in new ≤ new_end + other → more ≤ other) where
+-- Holds if `more` is the minimum number of bytes after the edit at which both bodies have started.
+pub record IsMore (old new : Layout) (stop new_end more body_stop new_body_stop : ℕ) : Type 0 where
+  pub old_more : body_stop + body_in old ≡ stop + more
+  pub new_more : new_body_stop + body_in new ≡ new_end + more
+  pub least : (other : ℕ) → body_in old ≤ stop + other → body_in new ≤ new_end + other → more ≤ other
+
+-- The bodies meet at the same boundaries as all tokens.
+module _ {old new : Layout} {stop new_end more body_stop new_body_stop : ℕ}
+    (p : IsMore old new stop new_end more body_stop new_body_stop) where
   pub meets : (number back : ℕ) → IsMeeting (bare old.body) (bare new.body) body_stop new_body_stop number back
       → IsMeeting old new stop new_end (length new.head + number) back
   meets number back m =
@@ -49,25 +53,21 @@ module _ (old new : Layout) (stop new_end more body_stop new_body_stop : ℕ)
   pub meets_behind : (number back : ℕ) → IsMeeting old new stop new_end number back
       → IsMeeting (bare old.body) (bare new.body) body_stop new_body_stop (number - length new.head) back
   meets_behind number back m =
-      let old_head = m.past_old_head in
       let past = m.past_edit in
       let same = m.same_offset in
-      let n : length new.head + (number - length new.head) ≡ number = omega (arith, m.past_head) in
+      let n : length new.head + (number - length new.head) ≡ number = omega arith in
       let i : length old.head + (m.old_number - length old.head) ≡ m.old_number = omega arith in
-      let at : offset_in new number ≡ body_in new + bound new.body (number - length new.head) =
-      ap (offset_in new) (sym n) ∙ offset-behind new (number - length new.head) in
-      let old_at : offset_in old m.old_number ≡ body_in old + bound old.body (m.old_number - length old.head) =
-      ap (offset_in old) (sym i) ∙ offset-behind old (m.old_number - length old.head) in
-      let far : more ≤ offset_in new number - new_end =
-      least (offset_in new number - new_end) (omega (arith, same, past, old_at)) (omega (arith, past, at)) in
+      let at = rw n at (offset-behind new (number - length new.head)) in
+      let old_at = rw i at (offset-behind old (m.old_number - length old.head)) in
+      let far = p.least (offset_in new number - new_end) (omega arith) (omega arith) in
       record {
-        number_inside = (let few = m.number_inside in omega (arith, few, length-append new.head new.body));
-        past_edit = omega (arith, far, past, at, new_more);
+        number_inside = omega (arith, length-append new.head new.body);
+        past_edit = omega arith;
         past_head = omega arith;
         past_old_head = omega arith;
         old_number = m.old_number - length old.head;
-        back_is = omega (arith, m.back_is, old_head, length-append old.head old.body);
-        same_offset = omega (arith, at, old_at, same, old_more, new_more);
+        back_is = omega (arith, length-append old.head old.body);
+        same_offset = omega arith;
       }
 
 -- ---- the counts of an edit exist
@@ -135,13 +135,12 @@ module _ (old new : List Token) (stop new_end number : ℕ) where
           length old - at.0,
           record {
             number_inside = m.0;
-            past_edit = omega (arith, m.1);
+            past_edit = omega arith;
             past_head = omega arith;
             old_number = at.0;
             past_old_head = omega arith;
             back_is = omega (arith, at.1);
-            same_offset =
-                omega (arith, m.2);
+            same_offset = omega arith;
           },
         )
     | inr none ↦ inr
@@ -171,8 +170,7 @@ module _ {first : List ℕ → Token} (law : IsGrammar first) {text insert new_t
       ((kept_tells text old edit.start e.is_text.utf8 (cuts law text e.is_text) kept few).1 (omega arith))
 
   pub kept_new : kept ≤ length new
-  kept_new = let long : length (take kept new) ≡ length (take kept old) = ap length front_same in
-      omega (arith, few, length-take kept new, length-take kept old)
+  kept_new = omega (arith, ap length front_same, few, length-take kept new, length-take kept old)
 
   abbrev Meets : ℕ → ℕ → Type 0
   Meets = IsMeeting (fragment_by first text) (fragment_by first new_text) edit.old_end edit.new_end
@@ -185,12 +183,12 @@ module _ {first : List ℕ → Token} (law : IsGrammar first) {text insert new_t
       let old_end = bound-last law text e.is_text in
       record {
         number_inside = omega arith;
-        past_edit = omega (arith, end, ed.len, ed.old_inside);
+        past_edit = omega arith;
         past_head = omega arith;
         old_number = length old;
         past_old_head = omega arith;
         back_is = omega arith;
-        same_offset = omega (arith, end, old_end, ed.len);
+        same_offset = omega arith;
       }
 
   -- Therefore the counts of the edit exist.
@@ -205,7 +203,7 @@ module _ {first : List ℕ → Token} (law : IsGrammar first) {text insert new_t
               record {
                 kept = λ k. omega arith;
                 changed = λ none. absurd (none (omega arith, refl, refl));
-                meeting = subst (λ n. Meets n is.holds.0) sum is.holds.1;
+                meeting = rw (← sum) is.holds.1;
                 none_before = λ number back le less m. is.none_before number le (omega (arith, less, sum)) (back, m);
               },
             )

@@ -1,6 +1,6 @@
 -- How far the tokens of a text are final.
-use Rattle.std.proofs.Common.{◌≡◌, ℕ, zero, suc, ◌+◌, ◌-◌, ◌<◌, ◌≤◌, true, false, List, [], ◌∷◌, ◌++◌, length, take}
-use Rattle.std.proofs.Common.{drop, refl, sym, ap, ◌∙◌, arith, take_at, length-append, IsUtf8, IsCharBoundary, subst}
+use Rattle.std.proofs.Common.{◌≡◌, ℕ, zero, suc, ◌+◌, ◌<◌, ◌≤◌, true, false, List, [], ◌∷◌, ◌++◌, length, take}
+use Rattle.std.proofs.Common.{drop, refl, sym, ap, ◌∙◌, arith, take_at, length-append, IsCharBoundary}
 use Rattle.std.proofs.lemmas.Str.{IsCharBoundary-from_drop, IsCharBoundary-end, IsUtf8-between}
 use Rattle.std.proofs.{Math.Seq.{take-length}, lemmas.Grind.{common_steps}}
 use Rattle.rustc_lexer.specs.{declared.relex.front.TokenStart.{TokenStart}, Token, Offsets.{IsBound}}
@@ -58,13 +58,8 @@ module _ {first : List ℕ → Token} (law : IsGrammar first) (text : List ℕ) 
       next : length at.items < length (tokens_by first text)
           → has_two text (bound (tokens_by first text) (length at.items + 1)) (length text) ≡ false
       next few =
-          let more : offset < length text =
-          omega (
-            arith,
-            at.to.offset_is,
-            rises law text is (length at.items) few,
-            (boundary (suc (length at.items))).0,
-          ) in
+          let inside = (boundary (suc (length at.items))).0 in
+          let more : offset < length text = omega (arith, at.to.offset_is, rises law text is (length at.items) few) in
           let past = (lexed_more law text at.items offset is at.to more).offset_is in
           rw (sym (past ∙ ap (bound (tokens_by first text)) (length-append at.items (first (drop offset text) ∷ []))))
           (out more)
@@ -72,27 +67,16 @@ module _ {first : List ℕ → Token} (law : IsGrammar first) (text : List ℕ) 
   pub next_boundary : (offset : ℕ) (token : Token) → IsSureTo first text offset → offset < length text
       → token ≡ first (drop offset text) → (offset + token.len ≤ length text) × IsCharBoundary text (offset + token.len)
   next_boundary offset token at more token_is =
-      grind (
-        arith,
-        common_steps,
-        lexed_more law text at.items offset is at.to more,
-        token_is,
-        (lexed_more law text at.items offset is at.to more).offset_is,
-        (ap (λ (t : Token). offset + t.len) token_is ∙ (lexed_more law text at.items offset is at.to more).offset_is),
-        boundary (length (at.items ++ first (drop offset text) ∷ [])),
-      )
+      rw (token_is, (lexed_more law text at.items offset is at.to more).offset_is) (boundary _)
 
   -- Whatever is appended, the tokens before a boundary that two characters follow do not change.
   pub stays_at : (more : List ℕ) (k : ℕ) → IsText (text ++ more) → k ≤ length (tokens_by first text)
       → has_two text (bound (tokens_by first text) k) (length text) ≡ true
       → take k (tokens_by first (text ++ more)) ≡ take k (tokens_by first text)
   stays_at more k its few two =
-      let b : ℕ = bound (tokens_by first text) k in
-      let middle : IsUtf8 (take (length text - b) (drop b text)) =
-      IsUtf8-between text b (length text) is.utf8 (boundary k).0 (boundary k).1 (IsCharBoundary-end text) in
+      let middle = IsUtf8-between text _ _ is.utf8 (boundary k).0 (boundary k).1 (IsCharBoundary-end text) in
       tokens_local law k text (text ++ more) is its few
-      (has_two-agree text (text ++ more) b (length text) middle
-      (take_at text more (length text) refl ∙ sym (take-length text)) two)
+      (has_two-agree text (text ++ more) _ _ middle (take_at text more _ refl ∙ sym (take-length text)) two)
 
   pub stays : (offset : ℕ) → IsSettled text (tokens_by first text) offset → StaysUpTo offset text (tokens_by first)
   stays offset settled more zero its few le = refl
@@ -100,8 +84,7 @@ module _ {first : List ℕ → Token} (law : IsGrammar first) (text : List ℕ) 
       let b : ℕ = bound (tokens_by first text) (suc k) in
       let positive : 0 < b =
       omega (arith, rises law text is 0 (omega arith), bound_mono (tokens_by first text) 1 (suc k) (omega arith)) in
-      let at_offset : IsCharBoundary text offset =
-      subst (IsCharBoundary text) settled.at_bound.2 (boundary settled.at_bound.0).1 in
+      let at_offset = rw settled.at_bound.2 at (boundary settled.at_bound.0).1 in
       stays_at more (suc k) its few
       (has_two-mono text b offset (length text) is.utf8 le (boundary (suc k)).1 at_offset
       (settled.two (omega arith)))

@@ -1,6 +1,6 @@
 -- Relexing under way: from its start, token by token, to the meeting.
-use Rattle.std.proofs.Common.{◌≡◌, ◌↔◌, ℕ, ◌+◌, ◌-◌, ◌<◌, ◌≤◌, Bool, true, false, true≢false, eqb, eqb-true, List, ◌∷◌}
-use Rattle.std.proofs.Common.{◌++◌, length, take, drop, refl, sym, ap, ◌∙◌, ap₂, suc, subst, arith, inl, inr}
+use Rattle.std.proofs.Common.{◌≡◌, ◌↔◌, ℕ, ◌+◌, ◌-◌, ◌<◌, ◌≤◌, Bool, true, false, eqb, eqb-true, List, ◌∷◌}
+use Rattle.std.proofs.Common.{◌++◌, length, take, drop, refl, sym, ap, ◌∙◌, suc, arith, inl, inr}
 use Rattle.std.proofs.Common.{length-drop, drop-drop, take-append-drop, max, eq-or-lt_of_le}
 use Rattle.std.proofs.lemmas.{Bool.{cases_lt}, Grind.{common_steps}}
 use Rattle.rustc_lexer.specs.declared.relex.front.{Meeting.Meeting, TokenStart.TokenStart}
@@ -47,6 +47,9 @@ module _ {first : List ℕ → Token} (law : IsGrammar first) {before lengths in
   abbrev new : List Token
   new = tokens_by first text
 
+  made_text : IsText text
+  made_text = (edited is.edit_of).text_is
+
   abbrev Meets : ℕ → ℕ → Type 0
   Meets = IsMeeting (fragment_by first before) (fragment_by first text) change.old_end change.new_end
 
@@ -74,9 +77,8 @@ module _ {first : List ℕ → Token} (law : IsGrammar first) {before lengths in
   begun front to number at followed stays =
       let same = kept_old front.index number in
       let none : front.index ≡ front.index + 0 = omega arith in
-      let offset : front.offset ≡ bound new (front.index + 0) =
-      at.1 ∙ (bound-same front.index old new same.0 ∙ ap (bound new) none) in
-      let inside : front.index + 0 ≤ length new = omega (arith, same.1) in
+      let offset : front.offset ≡ bound new (front.index + 0) = cc (bound-same front.index old new same.0) in
+      let inside : front.index + 0 ≤ length new = omega arith in
       record {
         front = number;
         front_bound = at;
@@ -93,19 +95,17 @@ module _ {first : List ℕ → Token} (law : IsGrammar first) {before lengths in
   module _ {at : Relexing} (u : IsUnderWay first before change text at) where
     -- The remaining tokens are the tokens of the remaining text.
     pub left_at : tokens_by first (drop at.at text) ≡ drop (known at) new
-    left_at = ap (λ n. tokens_by first (drop n text)) u.offset
-        ∙ sym (at_bound law (known at) text (edited is.edit_of).text_is).rest
+    left_at = cc (u.offset, (at_bound law (known at) text made_text).rest)
 
     -- While the tokens have not met, some text is left.
     pub more_left : at.met ≡ false → at.at < length text
     more_left out = elim (cases_lt at.at (length text)) [
       | inl less ↦ less
       | inr over ↦ elim (eq-or-lt_of_le u.inside) [
-        | inl end ↦ absurd
-            (true≢false (sym (u.met.1 (0, subst (λ n. Meets n 0) (sym end) (ends_meet law is.edit_of))) ∙ out))
+        | inl end ↦ let hit = u.met.1 (0, rw end (ends_meet law is.edit_of)) in absurd (cc)
         | inr few ↦
-            let cut = at_bound law (suc (known at)) text (edited is.edit_of).text_is in
-            omega (arith, over, u.offset, rises law text (edited is.edit_of).text_is (known at) few, cut.inside)
+            let cut = at_bound law (suc (known at)) text made_text in
+            omega (arith, over, u.offset, rises law text made_text (known at) few, cut.inside)
       ]
     ]
 
@@ -125,9 +125,7 @@ module _ {first : List ℕ → Token} (law : IsGrammar first) {before lengths in
         let c = (counts_of (fragment_by first) is.edit_of r).0 counts in
         let front : r.kept_front ≡ at.front.index = omega (arith, c.kept (omega arith, refl, refl), u.front) in
         elim (cases_lt r.lexed at.lexed) [
-          | inl less ↦ absurd
-              (u.none_before (r.kept_front + r.lexed) r.kept_back (omega (arith, front))
-              (omega (arith, front, less)) c.meeting)
+          | inl less ↦ absurd (u.none_before _ r.kept_back (omega arith) (omega arith) c.meeting)
           | inr more ↦ more
         ]
 
@@ -150,8 +148,7 @@ module _ {first : List ℕ → Token} (law : IsGrammar first) {before lengths in
           (counts_of (fragment_by first) is.edit_of _).1 record {
             kept = λ _. omega (arith, u.front);
             changed = λ none. absurd (none (omega arith, refl, refl));
-            meeting =
-                meets_here old new _ _ _ _ _ u.offset u.back_bound u.inside here;
+            meeting = meets_here old new _ _ _ _ _ u.offset u.back_bound u.inside here;
             none_before = u.none_before;
           },
           cc (
@@ -167,13 +164,13 @@ module _ {first : List ℕ → Token} (law : IsGrammar first) {before lengths in
       left = tokens_by first (drop at.at text)
 
       known_past : known past ≡ known at + count
-      known_past = omega (arith, ap (λ (b : TokenStart). b.index) steps.front, steps.lexed)
+      known_past = rw (steps.front, steps.lexed) (omega arith)
 
       inside_past : known past ≤ length new
       inside_past = omega (arith, known_past, steps.inside, ap length left_at, length-drop (known at) new, u.inside)
 
       shift : (k : ℕ) → bound new (known at + k) ≡ at.at + bound left k
-      shift k = omega (arith, bound-shift new (known at) k, u.offset, ap (λ (ts : List Token). bound ts k) left_at)
+      shift k = cc (bound-shift new (known at) k, u.offset, left_at)
 
       offset_past : past.at ≡ bound new (known past)
       offset_past = omega (arith, steps.offset, shift count, ap (bound new) known_past)
@@ -184,22 +181,20 @@ module _ {first : List ℕ → Token} (law : IsGrammar first) {before lengths in
           → IsFollowed old change.old_end change.new_end past.at past.back past.met
           → IsUnderWay first before change text past
       goes_on out none followed = record {
-        front = ap (λ (b : TokenStart). b.index) steps.front ∙ u.front;
-        front_bound = subst (IsBound old) (sym steps.front) u.front_bound;
+        front = cc (steps.front, u.front);
+        front_bound = rw steps.front u.front_bound;
         inside = inside_past;
         offset = offset_past;
         none_before = λ number back more less m. elim (cases_lt number (known at)) [
-          | inl early ↦ u.none_before number back (omega (arith, more, ap (λ (b : TokenStart). b.index) steps.front))
-              early m
+          | inl early ↦ u.none_before number back (rw steps.front at more) early m
           | inr late ↦ elim (eq-or-lt_of_le late) [
-            | inl same ↦ true≢false (sym (u.met.1 (back, subst (λ n. Meets n back) (sym same) m)) ∙ out)
+            | inl same ↦ let hit = u.met.1 (back, rw same m) in cc
             | inr later ↦ none number back later less m
           ]
         ];
         met = met_by old new _ _ _ _ _ offset_past followed.bound_is inside_past followed;
         back_bound = followed.bound_is;
-        not_begun = λ early. steps.same_back early
-            ∙ (u.not_begun (omega (arith, early, steps.offset)) ∙ sym steps.front);
+        not_begun = λ early. cc (steps.same_back early, u.not_begun (omega (arith, steps.offset)), steps.front);
         passed = followed.passed;
         reached = followed.reached;
       }
@@ -211,25 +206,14 @@ module _ {first : List ℕ → Token} (law : IsGrammar first) {before lengths in
           let k : ℕ = number - known at in
           let here : known at + k ≡ number = omega (arith, more) in
           let early : bound new number < end =
-          omega (arith, begin k (omega (arith, more, less, known_past)), shift k, ap (bound new) here) in
+          omega (arith, begin k (omega (arith, known_past)), shift k, ap (bound new) here) in
+          let up = rises law text made_text (known at) (omega (arith, m.number_inside)) in
           let later : at.at < bound new number =
-          omega (
-            arith,
-            u.offset,
-            rises law text (edited is.edit_of).text_is (known at)
-                (omega (arith, more, m.number_inside)),
-            bound_mono new (suc (known at)) number more,
-          ) in
+          omega (arith, u.offset, bound_mono new (suc (known at)) number more) in
           let free = clear (bound new number) later early (omega (arith, m.past_edit)) in
           elim (cases_lt m.old_number at.back.index) [
-            | inl below ↦ omega (arith, u.passed m.old_number below, free.0, m.same_offset, later)
-            | inr far ↦ omega (
-              arith,
-              u.back_bound.1,
-              bound_mono old at.back.index m.old_number far,
-              m.same_offset,
-              free.1,
-            )
+            | inl below ↦ omega (arith, u.passed m.old_number below)
+            | inr far ↦ omega (arith, u.back_bound.1, bound_mono old at.back.index m.old_number far)
           ]
 
     -- A step returns the next token of the new text.
@@ -237,15 +221,11 @@ module _ {first : List ℕ → Token} (law : IsGrammar first) {before lengths in
         → TakesSteps first text change.new_end at 1 past → drop (known at) new ≡ token ∷ drop (known past) new
     gives_next {token} {past} out token_is steps =
         let rest : List ℕ = drop at.at text in
-        let rest_is : IsText rest =
-        subst (λ p. IsText (drop p text)) (sym u.offset)
-        (at_bound law (known at) text (edited is.edit_of).text_is).past in
+        let rest_is : IsText rest = rw u.offset (at_bound law (known at) text made_text).past in
         let cons = sym left_at ∙ tokens-cons law rest rest_is (omega (arith, more_left out, length-drop at.at text)) in
-        let behind : drop (known past) new ≡ tokens_by first (drop (first rest).len rest) =
-        ap (λ n. drop n new) (known_past steps) ∙ (sym (drop-drop 1 (known at) new) ∙ ap (drop 1) cons) in
-        cons ∙ ap₂ (λ (t : Token) (ts : List Token). t ∷ ts) (sym token_is) (sym behind)
+        cc (cons, ap (drop 1) cons, known_past steps, drop-drop 1 (known at) new, token_is)
 
   -- The lexed tokens, between the kept tokens, are the new tokens.
   pub lexed_whole : {tokens : List Token} {at : Relexing} → IsLexed first before change text tokens at
       → take at.front.index old ++ (tokens ++ drop at.back.index old) ≡ new
-  lexed_whole {tokens} {at} l = grind (arith, common_steps, counts_met)
+  lexed_whole l = grind (arith, common_steps, counts_met)

@@ -1,7 +1,7 @@
 -- An edit of a text with its head: the edit of the body, whose counts determine the counts of the whole edit.
-use Rattle.std.proofs.Common.{◌≡◌, ℕ, max, ◌+◌, ◌-◌, ◌<◌, ◌≤◌, Bool, true, false, if◌then◌else◌, true≢false, List, []}
-use Rattle.std.proofs.Common.{◌∷◌, length, map, drop, refl, sym, ap, ◌∙◌, arith, drop-drop, IsTrue, ◌↔◌, ◌++◌, take}
-use Rattle.std.proofs.Common.{ap₂, subst, length-drop, take-append-drop, length-take-le, IsUtf8, IsCharBoundary}
+use Rattle.std.proofs.Common.{◌≡◌, ℕ, max, ◌+◌, ◌-◌, ◌<◌, ◌≤◌, Bool, true, false, if◌then◌else◌, List, []}
+use Rattle.std.proofs.Common.{◌∷◌, length, map, drop, refl, sym, ap, arith, drop-drop, IsTrue, ◌↔◌, ◌++◌, take}
+use Rattle.std.proofs.Common.{length-drop, take-append-drop, length-take-le, IsUtf8, IsCharBoundary}
 use Rattle.std.proofs.Common.{take-add, append_assoc, Result, OnOk}
 use Rattle.std.proofs.Math.Nat.{le-max_left, le-max_right, max-le}
 use Rattle.std.specs.List.{count_by}
@@ -14,8 +14,8 @@ use Rattle.rustc_lexer.specs.Tokens.{tokens_by}
 use Rattle.rustc_lexer.specs.model.Document.{body_change, body_insert, by_head, counted, IsHeadIn, TakesFew}
 use Rattle.rustc_lexer.specs.model.Document.{tokens_of_head}
 use Rattle.rustc_lexer.proofs.lemmas.edits.KeptFront.{kept_none}
-use Rattle.rustc_lexer.proofs.lemmas.edits.OneAnswer.{relexed_is, counts_of, meets, meets_behind}
-use Rattle.rustc_lexer.proofs.lemmas.edits.{FrontAndBack.{edited, IsEdited, same_rest}, Bounds.{count-cons, rest_is}}
+use Rattle.rustc_lexer.proofs.lemmas.edits.OneAnswer.{relexed_is, counts_of, IsMore, meets, meets_behind}
+use Rattle.rustc_lexer.proofs.lemmas.edits.{FrontAndBack.{edited, IsEdited}, Bounds.{count-cons, rest_is}}
 use Rattle.rustc_lexer.proofs.lemmas.edits.Heads.{body_at, boundary_of, head_stays, heads_are, whole_head}
 use Rattle.std.proofs.lemmas.{Bool.{cases_lt}, List.{drop-take, drop-append-le}}
 use Rattle.std.proofs.lemmas.Str.{IsUtf8-drop, IsUtf8-take, IsCharBoundary-from_drop}
@@ -58,33 +58,20 @@ module _ {first : List ℕ → Token} (law : IsGrammar first) {text insert made 
       → body ≡ apply (drop from text) (edit.start - from) (edit.old_end - from) insert
   unfolding apply
   kept_made same before =
-      let a = e.is_edit.inside.start_le_stop in
-      let b = e.is_edit.inside.stop_inside in
+      let i = e.is_edit.inside in
       let there : from + (edit.start - from) ≡ edit.start = omega arith in
-      let front : drop from (take edit.start text) ≡ take (edit.start - from) (drop from text) =
-      ap (λ n. drop from (take n text)) (sym there)
-      ∙ drop-take from (edit.start - from) text in
-      let back : drop edit.old_end text ≡ drop (edit.old_end - from) (drop from text) =
-      drop-past text from edit.old_end (omega arith) in
       let few : from ≤ length (take edit.start text) = omega (arith, length-take-le edit.start text (omega arith)) in
-      ap (λ n. drop n made) (sym same) ∙ (ap (drop from) e.made
-      ∙ (drop-append-le from (take edit.start text) (insert ++ drop edit.old_end text) few
-      ∙ ap₂ (λ xs ys. xs ++ (insert ++ ys)) front back))
+      cc (
+        e.made,
+        drop-take from (edit.start - from) text,
+        drop-past text from edit.old_end (omega arith),
+        drop-append-le from (take edit.start text) (insert ++ drop edit.old_end text) few,
+      )
 
   kept_body : from ≡ to → from ≤ edit.start
       → IsMadeOf first (drop from text) lengths (body_change true from to edit) insert body
   kept_body same before =
-      grind (
-        arith,
-        e.is_edit.inside.start_le_stop,
-        e.is_edit.inside.stop_inside,
-        e.is_edit.short,
-        e.new_end,
-        old_text,
-        length-drop,
-        boundary-past,
-        kept_made,
-      )
+      let i = e.is_edit in grind (arith, e.new_end, old_text, length-drop, boundary-past, kept_made)
 
   -- Returns how far the change of the body extends after the edit, if the head is not kept.
   abbrev past : ℕ
@@ -96,69 +83,50 @@ module _ {first : List ℕ → Token} (law : IsGrammar first) {text insert made 
   abbrev new_end : ℕ
   new_end = edit.new_end + past
 
-  same_back : drop new_end made ≡ drop old_end text
-  same_back =
-      let there : new_end - edit.new_end + edit.old_end ≡ old_end = omega arith in
-      same_rest law e new_end (omega arith) ∙ ap (λ n. drop n text) there
+  same_back : (n : ℕ) → drop (edit.new_end + n) made ≡ drop (edit.old_end + n) text
+  same_back n = cc (ed.back, drop-drop n edit.new_end made, drop-drop n edit.old_end text)
 
   ends_inside : (from ≤ old_end) × (to ≤ new_end) × (old_end ≤ length text) × (new_end ≤ length made)
   unfolding ed
-  ends_inside = grind (
-    arith,
-    common_steps,
-    max-le,
-    le-max_left,
-    le-max_right,
-    ed.len,
-    ed.old_inside,
-    old_at.0,
-    now_at.0,
-  )
+  ends_inside =
+      let d = ed in
+      let inside : old_end ≤ length text = omega (arith, old_at.0, now_at.0) in
+      (omega arith, omega arith, inside, omega arith)
 
   back_utf8 : IsUtf8 (drop old_end text)
-  back_utf8 = by_max (λ n. IsUtf8 (drop (edit.old_end + n) text)) (from - edit.old_end) (to - edit.new_end)
-      (by_past (λ n. IsUtf8 (drop n text)) edit.old_end from
-      (IsUtf8-drop text edit.old_end e.is_text.utf8 e.is_edit.inside.stop_boundary)
-      (IsUtf8-drop text from e.is_text.utf8 old_at))
-      (let m : ℕ = to - edit.new_end in
-      let there : edit.new_end + m - edit.new_end + edit.old_end ≡ edit.old_end + m = omega arith in
-      let same : drop (edit.new_end + m) made ≡ drop (edit.old_end + m) text =
-      same_rest law e (edit.new_end + m) (omega arith) ∙ ap (λ n. drop n text) there in
-      subst IsUtf8 same (by_past (λ n. IsUtf8 (drop n made)) edit.new_end to
-      (subst IsUtf8 (sym ed.back) (IsUtf8-drop text edit.old_end e.is_text.utf8 e.is_edit.inside.stop_boundary))
+  back_utf8 =
+      let stop = IsUtf8-drop text edit.old_end e.is_text.utf8 e.is_edit.inside.stop_boundary in
+      by_max (λ n. IsUtf8 (drop (edit.old_end + n) text)) _ _
+      (by_past (λ n. IsUtf8 (drop n text)) _ _ stop (IsUtf8-drop text from e.is_text.utf8 old_at))
+      (rw (← same_back (to - edit.new_end)) (by_past (λ n. IsUtf8 (drop n made)) _ _ (rw ed.back stop)
       (IsUtf8-drop made to ed.text_is.utf8 now_at)))
 
   front_body : IsMadeOf first (drop from text) lengths (body_change false from to edit) (take (new_end - to) body) body
   unfolding ed apply same_back ends_inside back_utf8
   front_body =
       let i = ends_inside in
-      let n = ed.len in
-      let a = ed.old_inside in
-      let f = ed.text_is.fits in
-      let body_utf8 : IsUtf8 body = IsUtf8-drop made to ed.text_is.utf8 now_at in
-      let size : length body ≡ length made - to = length-drop to made in
-      let back : drop (new_end - to) body ≡ drop old_end text = sym (drop-past made to new_end i.1) ∙ same_back in
-      let cut : IsCharBoundary body (new_end - to) =
-      IsCharBoundary-from_drop body (new_end - to) (omega arith) (rw back back_utf8) in
-      let long : length (take (new_end - to) body) ≡ new_end - to = length-take-le (new_end - to) body (omega arith) in
-      let old_back : drop old_end text ≡ drop (old_end - from) (drop from text) = drop-past text from old_end i.0 in
+      let d = ed in
+      let size = length-drop to made in
+      let old_size = length-drop from text in
+      let back : drop (new_end - to) body ≡ drop old_end text = cc (drop-past made to new_end i.1, same_back past) in
+      let cut : IsCharBoundary body (new_end - to) = IsCharBoundary-from_drop _ _ (omega arith) (rw back back_utf8) in
+      let long = length-take-le (new_end - to) body (omega arith) in
+      let old_back = drop-past text from old_end i.0 in
       record {
         edit_of = record {
           is_text = old_text;
           is_edit = record {
             inside = record {
               start_le_stop = omega arith;
-              stop_inside = omega (arith, length-drop from text, i.2);
-              start_boundary = IsCharBoundary-from_drop (drop from text) 0 (omega arith) old_text.utf8;
-              stop_boundary = IsCharBoundary-from_drop (drop from text) (old_end - from)
-                  (omega (arith, length-drop from text, i.2)) (subst IsUtf8 old_back back_utf8);
+              stop_inside = omega arith;
+              start_boundary = IsCharBoundary-from_drop _ 0 (omega arith) old_text.utf8;
+              stop_boundary = IsCharBoundary-from_drop _ _ (omega arith) (rw (← old_back) back_utf8);
             };
-            short = omega (arith, length-drop from text, long, i.2, i.3, i.0, i.1);
+            short = omega arith;
           };
-          inserted = IsUtf8-take body (new_end - to) body_utf8 cut;
-          made = sym (take-append-drop (new_end - to) body)
-              ∙ ap (λ ys. take (new_end - to) body ++ ys) (back ∙ old_back);
-          new_end = omega (arith, long);
+          inserted = IsUtf8-take body _ (IsUtf8-drop made to ed.text_is.utf8 now_at) cut;
+          made = cc (take-append-drop (new_end - to) body);
+          new_end = omega arith;
         };
         lengths_are = refl;
       }
@@ -171,33 +139,25 @@ module _ {first : List ℕ → Token} (law : IsGrammar first) {text insert made 
   made_body false decided = front_body
 
 -- Tokens after the first n ones are replaced.
-put_is : (tokens lexed : List Token) (n f b : ℕ) → f ≤ b → n + b ≤ length tokens
-    → take (n + f) tokens ++ (lexed ++ drop (n + b) tokens) ≡
-    take n tokens ++ (take f (drop n tokens) ++ (lexed ++ drop b (drop n tokens)))
-put_is tokens lexed n f b le inside = grind (arith, common_steps, take-add, drop-drop, append_assoc)
-
 pub put_behind : (tokens lexed : List Token) (n f b : ℕ) (keeps : Bool) (head : List Token) → f ≤ b
     → n + b ≤ length tokens → keeps ≡ true → {E : Type 0} (r : Result Unit E) (now : List Token)
     → OnOk r (now ≡ take (n + f) tokens ++ (lexed ++ drop (n + b) tokens))
     → OnOk r (now ≡ (if keeps then take n tokens else head)
     ++ (take f (drop n tokens) ++ (lexed ++ drop b (drop n tokens))))
-put_behind tokens lexed n f b keeps head w6 w7 w8 r now w11 = grind (arith, common_steps, put_is)
+put_behind tokens lexed n f b keeps head w6 w7 w8 r now w11 =
+    grind (arith, common_steps, take-add, drop-drop, append_assoc)
 
 -- ---- the counts of an edit
 
 -- ---- the kept front, by offsets in the whole text and in the body
 
-pub two_behind : (text : List ℕ) (from end to : ℕ) → has_two (drop from text) end (to - from) ≡
-    has_two text (from + end) to
-unfolding has_two
-two_behind text from end to = grind (arith, common_steps, drop-drop)
-
 fronts : (text : List ℕ) (from at to : ℕ) (tokens : List Token)
     → count_by (λ end. has_two (drop from text) end (to - from)) (ends_from at tokens) ≡
     count_by (λ end. has_two text end to) (ends_from (from + at) tokens)
+unfolding has_two
 fronts text from at to [] = refl
 fronts text from at to (t ∷ ts) =
-    grind (arith, common_steps, count-cons, two_behind, fronts text from (at + t.len) to ts)
+    grind (arith, common_steps, count-cons, drop-drop, fronts text from (at + t.len) to ts)
 
 -- ---- an edit
 
@@ -218,34 +178,24 @@ module _ {first : List ℕ → Token} (law : IsGrammar first) {layout : (List �
   abbrev put : List ℕ
   put = body_insert kept (change kept) insert (drop now.body made)
 
+  same_start : kept ≡ true → (was.body ≡ now.body) × (was.body ≤ edit.start)
+  same_start stays = let s = decided.0 stays in (cc s.0, s.1)
+
   pub body_made : IsMadeOf first (drop was.body text)
       (map (λ (t : Token). t.len) (tokens_by first (drop was.body text))) (change kept) put (drop now.body made)
-  body_made = made_body law e was.body now.body (boundary_of was_is) (boundary_of now_is) kept
-      (λ stays. let s = decided.0 stays in (ap (λ (h : Head). h.body) s.0, s.1))
+  body_made = made_body law e was.body now.body (boundary_of was_is) (boundary_of now_is) kept same_start
 
   -- Returns how far the change of the body extends after the edit.
   abbrev more : Bool → ℕ
   more true = 0
   more false = max (was.body - edit.old_end) (now.body - edit.new_end)
 
-  record IsPast (stays : Bool) : Type 0 where
-    pub old_more : (change stays).old_end + body_in old ≡ edit.old_end + more stays
-    pub new_more : (change stays).new_end + body_in new ≡ edit.new_end + more stays
-    pub least : (other : ℕ) → body_in old ≤ edit.old_end + other → body_in new ≤ edit.new_end + other
-        → more stays ≤ other
+  abbrev IsPast : Bool → Type 0
+  IsPast stays = IsMore old new edit.old_end edit.new_end (more stays) (change stays).old_end (change stays).new_end
 
   is_past : (stays : Bool) → (stays ≡ true → (was.body ≡ now.body) × (was.body ≤ edit.start)) → IsPast stays
   is_past stays w1 =
-      grind (
-        arith,
-        common_steps,
-        body_at was_is first,
-        body_at now_is first,
-        le-max_left,
-        le-max_right,
-        max-le,
-        edited e,
-      )
+      grind (arith, common_steps, body_at was_is first, body_at now_is first, le-max_left, le-max_right, max-le, edited e)
 
   abbrev InBody : Bool → Relexed → Type 0
   InBody stays x = IsRelexedTo (fragment_by first (drop was.body text)) (fragment_by first (drop now.body made))
@@ -255,48 +205,41 @@ module _ {first : List ℕ → Token} (law : IsGrammar first) {layout : (List �
   abbrev all_of : Bool → Relexed → Relexed
   all_of stays x = counted stays (length (tokens_of_head was)) (length (tokens_of_head now)) x
 
-  module _ {stays : Bool} (p : IsPast stays) (r x : Relexed) (is_body : InBody stays x)
-      (sum : r.kept_front + r.lexed ≡ length new.head + (x.kept_front + x.lexed))
-      (back_is : r.kept_back ≡ x.kept_back) where
-    meeting : IsMeeting old new edit.old_end edit.new_end (r.kept_front + r.lexed) r.kept_back
-    meeting = rw (back_is, sum) (meets old new edit.old_end edit.new_end (more stays) (change stays).old_end
-        (change stays).new_end p.old_more p.new_more p.least _ _ is_body.meeting)
+  module _ (stays : Bool) (p : IsPast stays) (x : Relexed) (is_body : InBody stays x)
+      (sum : (all_of stays x).kept_front + (all_of stays x).lexed ≡ length new.head + (x.kept_front + x.lexed)) where
+    meeting : IsMeeting old new edit.old_end edit.new_end ((all_of stays x).kept_front + (all_of stays x).lexed)
+        x.kept_back
+    meeting = rw sum (meets p _ _ is_body.meeting)
 
     none_before : (number back : ℕ) → (length new.head ≤ number → x.kept_front ≤ number - length new.head)
-        → number < r.kept_front + r.lexed
+        → number < (all_of stays x).kept_front + (all_of stays x).lexed
         → IsMeeting old new edit.old_end edit.new_end number back → ⊥
     none_before number back near less m =
         is_body.none_before (number - length new.head) back (near m.past_head) (omega (arith, sum, m.past_head, less))
-        (meets_behind old new edit.old_end edit.new_end (more stays) (change stays).old_end
-        (change stays).new_end p.old_more p.new_more p.least number back m)
+        (meets_behind p number back m)
 
   relexed_to : (stays : Bool) → kept ≡ stays → IsPast stays → (x : Relexed) → InBody stays x
       → IsRelexedTo old new text edit.start edit.old_end edit.new_end (all_of stays x)
   relexed_to true same p x is_body =
       let k = (head_stays was_is now_is first edit.start refl refl).1 (decided.0 same) in
       let begin : was.body + 0 ≡ body_in old = omega (arith, body_at was_is first) in
-      let ends = fronts text was.body 0 edit.start old.body
-      ∙ ap (λ n. count_by (λ end. has_two text end edit.start) (ends_from n old.body)) begin in
-      let heads : length old.head ≡ length new.head = ap (λ (ts : List Token). length ts) k.2 in
-      let sum : length old.head + x.kept_front + x.lexed ≡ length new.head + (x.kept_front + x.lexed) =
-      omega (arith, heads) in
+      let ends = rw begin at (fronts text was.body 0 edit.start old.body) in
+      let heads : length old.head ≡ length new.head = ap length k.2 in
       record {
         kept = λ again. omega (arith, is_body.kept (omega arith, refl, refl), ends);
         changed = λ none. absurd (none k);
-        meeting = meeting p (all_of true x) x is_body sum refl;
-        none_before = λ number back near less m. none_before p (all_of true x) x is_body sum refl number back
+        meeting = meeting true p x is_body (omega arith);
+        none_before = λ number back near less m. none_before true p x is_body (omega arith) number back
             (λ head. omega (arith, near, heads)) less m;
       }
   relexed_to false same p x is_body =
       let none : x.kept_front ≡ 0 =
       omega (arith, is_body.kept (omega arith, refl, refl), kept_none (drop was.body text) old.body) in
-      let sum : x.kept_front + (length new.head + x.lexed) ≡ length new.head + (x.kept_front + x.lexed) = omega arith in
       record {
-        kept = λ k. absurd
-            (true≢false (sym (decided.1 ((head_stays was_is now_is first edit.start refl refl).0 k)) ∙ same));
+        kept = λ k. let hit = decided.1 ((head_stays was_is now_is first edit.start refl refl).0 k) in absurd (cc);
         changed = λ gone. none;
-        meeting = meeting p (all_of false x) x is_body sum refl;
-        none_before = λ number back near less m. none_before p (all_of false x) x is_body sum refl number back
+        meeting = meeting false p x is_body (omega arith);
+        none_before = λ number back near less m. none_before false p x is_body (omega arith) number back
             (λ head. omega (arith, none)) less m;
       }
 
@@ -310,9 +253,8 @@ module _ {first : List ℕ → Token} (law : IsGrammar first) {layout : (List �
   pub relexed_as : (x : Relexed) → Found x → IsRelexed (layout first) text edit.start edit.old_end insert
       (all_of kept x)
   relexed_as x found =
-      let p = is_past kept (λ stays. let s = decided.0 stays in (ap (λ (h : Head). h.body) s.0, s.1)) in
-      (counts_of (layout first) e (all_of kept x)).1
-      (rw (was_is.layout_is first, now_is.layout_is first) (relexed_to kept refl p x (as_body x found)))
+      (counts_of (layout first) e (all_of kept x)).1 (rw (was_is.layout_is first, now_is.layout_is first)
+      (relexed_to kept refl (is_past kept same_start) x (as_body x found)))
 
   -- The tokens of a new head take no steps.
   pub steps_by : (x : Relexed) → Found x → length (layout first made).head - (all_of kept x).kept_front + x.lexed ≡
@@ -321,7 +263,7 @@ module _ {first : List ℕ → Token} (law : IsGrammar first) {layout : (List �
     where
       by_kept : (stays : Bool) → kept ≡ stays → InBody stays x
           → length (tokens_of_head now) - (all_of stays x).kept_front + x.lexed ≡ (all_of stays x).lexed
-      by_kept true same is_body = omega (arith, ap (λ (h : Head). length (tokens_of_head h)) (decided.0 same).0)
+      by_kept true same is_body = rw (decided.0 same).0 (omega arith)
       by_kept false same is_body =
           omega (arith, is_body.kept (omega arith, refl, refl), kept_none (drop was.body text) old.body)
 
@@ -347,14 +289,7 @@ body_is {first} law before insert text edit old now kept change e old_head now_h
     rw change_is record {
       keeps = (λ k. stays.1 (decided.0 k), λ s. decided.1 (stays.0 s));
       put = inserted;
-      made_of =
-          subst (λ n. IsMadeOf first (drop n before) (map (λ (t : Token). t.len) (tokens_by first (drop n before))) ch
-          inserted (drop (body_start text) text))
-          old_head.end_is
-          (subst (λ n. IsMadeOf first (drop old.body before)
-          (map (λ (t : Token). t.len) (tokens_by first (drop old.body before))) ch inserted (drop n text))
-          now_head.end_is
-          (body_made law e old_is now_is decided));
+      made_of = rw (← old_head.end_is, ← now_head.end_is) (body_made law e old_is now_is decided);
       counts_kept = counts true;
       counts_new = counts false;
     }
@@ -374,21 +309,13 @@ body_is {first} law before insert text edit old now kept change e old_head now_h
     inserted : List ℕ
     inserted = body_insert kept ch insert (drop now.body text)
 
-    Counted : Bool → List Token → List Token → Relexed → Type 0
-    Counted k fronts new_fronts r =
-        IsRelexed (document_by first) before edit.start edit.old_end insert
-        (counted k (length fronts) (length new_fronts) r)
-
     counts : (k : Bool) → kept ≡ k → (r : Relexed)
         → IsRelexed (fragment_by first) (drop (body_start before) before) ch.start ch.old_end inserted r
-        → Counted k (head_tokens before) (head_tokens text) r
+        → IsRelexed (document_by first) before edit.start edit.old_end insert
+        (counted k (length (head_tokens before)) (length (head_tokens text)) r)
     counts k same r x =
-        let there = subst (λ n. IsRelexed (fragment_by first) (drop n before) ch.start ch.old_end inserted r)
-        (sym old_head.end_is) x in
-        subst (λ k. Counted k (head_tokens before) (head_tokens text) r) same
-        (subst (λ ts. Counted kept ts (head_tokens text) r) old_head.tokens_are
-        (subst (λ ts. Counted kept (tokens_of_head old) ts r) now_head.tokens_are
-        (relexed_as law e old_is now_is decided r there)))
+        rw (← same, ← ap length old_head.tokens_are, ← ap length now_head.tokens_are)
+        (relexed_as law e old_is now_is decided r (rw (← old_head.end_is) at x))
 
 -- The change of the body has these offsets.
 pub in_body : (kept : Bool) (from to : ℕ) (edit : Change)
