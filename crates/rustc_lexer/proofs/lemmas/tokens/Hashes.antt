@@ -1,7 +1,7 @@
 -- A hash, decided by the byte after it.
-use Rattle.std.proofs.Common.{◌≡◌, ◌≢◌, ℕ, ◌<◌, ◌≤◌, Bool, drop, refl, subst, true, false, true≢false, List, [], ◌∷◌}
-use Rattle.std.proofs.Common.{◌++◌, length, sym, ap, ◌∙◌, arith}
-use Rattle.std.specs.Str.{encode_utf8_all, IsCharBoundary, IsUtf8}
+use Rattle.std.proofs.Common.{◌≡◌, ◌≢◌, ℕ, ◌<◌, ◌≤◌, Bool, refl, true, false, List, [], ◌∷◌}
+use Rattle.std.proofs.Common.{length, ap, arith}
+use Rattle.std.specs.Str.{IsCharBoundary, IsUtf8}
 use Rattle.std.proofs.lemmas.Bool.{eqb-true, or_cases}
 use Rattle.std.proofs.lemmas.Str.{chars-nil, encode_ascii, encodes-chars, IsCharBoundary-from_drop}
 use Rattle.std.proofs.lemmas.Grind.{common_steps}
@@ -29,12 +29,9 @@ pub no_hash : (text : List ℕ) (b : ℕ) (rest : List ℕ) → IsUtf8 text → 
     → BeginsWithNoHash text
 no_hash text b rest is e other first cs read family =
     let code : first ≡ 35 = hash-code first family in
-    let whole : b ∷ rest ≡ first ∷ encode_utf8_all cs =
-    sym e ∙ (sym (encodes-chars text is)
-    ∙ (ap encode_utf8_all read ∙ ap (λ (xs : List ℕ). xs ++ encode_utf8_all cs)
-    (encode_ascii first (omega arith)))) in
-    let same : first ≡ b = cc in
-    other (ap family_of (sym same) ∙ family)
+    let whole = rw (read, encode_ascii first (omega arith)) at (encodes-chars text is) in
+    let same : b ≡ first = cc in
+    other (rw same family)
 
 pub no_hash-wide : (text : List ℕ) (b : ℕ) (rest : List ℕ) → IsUtf8 text → text ≡ b ∷ rest → 128 ≤ b
     → BeginsWithNoHash text
@@ -47,7 +44,7 @@ no_hash-empty text w1 = grind (arith, common_steps, first, chars-nil)
 pub prefix_first : (text : List ℕ) (b : ℕ) (rest : List ℕ) → IsUtf8 text → text ≡ b ∷ rest → b < 128
     → Hash ≡ family_of b → next_is opens_guarded rest ≡ true
     → IsFirstToken text record { kind = GuardedStrPrefix; len = 2 }
-prefix_first text b [] is e small family opens = absurd (true≢false (sym opens))
+prefix_first text b [] is e small family opens = absurd (cc)
 prefix_first text b (d ∷ ds) is e small family opens =
     first text b (d ∷ ds) GuardedStrPrefix 1 is e small (omega arith) decided
   where
@@ -84,6 +81,4 @@ hash_older text b rest is e small family =
   where
     past : IsCharBoundary text 1
     past =
-        let inner : IsUtf8 rest = IsUtf8-ascii b rest (subst IsUtf8 e is) small in
-        let left : rest ≡ drop 1 text = ap (drop 1) (sym e) in
-        IsCharBoundary-from_drop text 1 (omega (arith, ap length e)) (subst IsUtf8 left inner)
+        IsCharBoundary-from_drop text 1 (omega (arith, ap length e)) (rw e (IsUtf8-ascii b rest (rw e at is) small))
