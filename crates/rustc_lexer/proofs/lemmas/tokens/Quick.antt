@@ -72,60 +72,52 @@ module _ (b : ℕ) (rest : List ℕ) (kind : TokenKind) (n : ℕ) (is : IsUtf8 (
       let len : length (b ∷ rest) - length (drop n rest) ≡ 1 + n = omega (arith, length-drop n rest) in
       rw (← len) (made _ rest (drop n rest) b kind is (chars-ascii b rest is small) (past-ascii b rest is small) g)
 
--- The same holds for a text that starts with this byte.
-pub first : (text : List ℕ) (b : ℕ) (rest : List ℕ) (kind : TokenKind) (n : ℕ) → IsUtf8 text → text ≡ b ∷ rest → b < 128
-    → n ≤ length rest → (IsUtf8 rest → (kind, drop n rest) ≡ scanned (past_first b) rest)
-    → IsFirstToken text record { kind = kind; len = 1 + n }
-first text b rest kind n is e small inside g =
-    let whole = rw e at is in rw e (taken b rest kind n whole small inside (g (IsUtf8-ascii b rest whole small)))
-
--- A word whose next byte does not change it is an identifier.
-pub word_first : (text : List ℕ) (b : ℕ) (rest : List ℕ) (end : ℕ) → IsUtf8 text → text ≡ b ∷ rest → b < 128
-    → Word ≡ family_of b → end ≡ prefix_len is_continue_byte rest → not (next_is turns_word (drop end rest)) ≡ true
-    → IsFirstToken text record { kind = Ident; len = 1 + end }
-word_first text b rest end is e small family counted ends =
-    first text b rest Ident end is e small (omega (arith, prefix_len-le-length is_continue_byte rest)) decided
-  where
-    decided : IsUtf8 rest → (Ident, drop end rest) ≡ scanned (past_first b) rest
-    decided inner =
-        let left : List ℕ = drop end rest in
-        let whole : IsUtf8 left = rw counted (skips is_continue_byte is_id_continue continue_part rest inner).utf8 in
-        let next = turned-emoji left whole (not-true _ ends) in
-        let offset : left ≡ past (run_len is_id_continue (chars rest)) rest =
-        stops_here is_continue_byte is_id_continue continue_part rest rest end inner refl counted left refl
-        next.1.1 in
-        let no_end : next_is ends_prefix (drop (run_len is_id_continue (chars rest)) (chars rest)) ≡ false =
-        cc (offset, chars-past (run_len is_id_continue (chars rest)) rest inner, next.1.0) in
-        by_family Word b rest _ family (rw next.1.0 at (ident_or_unknown_prefix-valid rest left inner offset next.0)
-        ∙ sym (scanned-same (word b) ident_or_unknown_prefix rest (word-plain b (chars rest) no_end)))
-
-pub space_first : (text : List ℕ) (b : ℕ) (rest : List ℕ) (end : ℕ) → IsUtf8 text → text ≡ b ∷ rest → b < 128
-    → Space ≡ family_of b → end ≡ prefix_len is_space_byte rest → not (next_is is_space_lead (drop end rest)) ≡ true
-    → IsFirstToken text record { kind = Whitespace; len = 1 + end }
-space_first text b rest end is e small family counted ends =
-    first text b rest Whitespace end is e small (omega (arith, prefix_len-le-length is_space_byte rest)) decided
-  where
-    decided : IsUtf8 rest → (Whitespace, drop end rest) ≡ scanned (past_first b) rest
-    decided inner = by_family Space b rest _ family
-        (cc (space_stops_here rest rest end inner refl counted (drop end rest) refl (not-true _ ends)))
-
-pub symbol_first : (text : List ℕ) (b : ℕ) (rest : List ℕ) (kind : TokenKind) → IsUtf8 text → text ≡ b ∷ rest → b < 128
-    → Symbol ≡ family_of b → kind ≡ symbol_kind b → IsFirstToken text record { kind = kind; len = 1 }
-symbol_first text b rest kind is e small family same = first text b rest kind 0 is e small (omega arith) decided
-  where
-    decided : IsUtf8 rest → (kind, rest) ≡ scanned (past_first b) rest
-    decided inner = by_family Symbol b rest _ family
-        (cc (scanned-gives (symbol_kind b) rest inner))
-
 -- Every edition has the same symbols.
 symbol-kept : (b : ℕ) → is_newer (symbol_kind b) ≡ false
 symbol-kept b = not-true _ (by_symbol (λ (kind : TokenKind). not (is_newer kind)) symbols b refl refl)
 
-pub symbol_by : (guards : Bool) (text : List ℕ) (b : ℕ) (rest : List ℕ) (kind : TokenKind) → IsUtf8 text
-    → text ≡ b ∷ rest → b < 128 → Symbol ≡ family_of b → kind ≡ symbol_kind b
-    → IsFirstBy guards text record { kind = kind; len = 1 }
-symbol_by guards text b rest kind is e small family same =
-    first_by guards text _ (symbol_first text b rest kind is e small family same) (rw same (symbol-kept b))
+-- The same holds for a text that starts with this byte.
+module _ {text : List ℕ} {b : ℕ} {rest : List ℕ} (is : IsUtf8 text) (e : text ≡ b ∷ rest) (small : b < 128) where
+  pub first : (kind : TokenKind) (n : ℕ) → n ≤ length rest → (IsUtf8 rest → (kind, drop n rest) ≡
+      scanned (past_first b) rest) → IsFirstToken text record { kind = kind; len = 1 + n }
+  first kind n inside g =
+      let whole = rw e at is in rw e (taken b rest kind n whole small inside (g (IsUtf8-ascii b rest whole small)))
+
+  -- A word whose next byte does not change it is an identifier.
+  pub word_first : {end : ℕ} → Word ≡ family_of b → end ≡ prefix_len is_continue_byte rest
+      → not (next_is turns_word (drop end rest)) ≡ true → IsFirstToken text record { kind = Ident; len = 1 + end }
+  word_first {end} family counted ends =
+      first Ident end (omega (arith, prefix_len-le-length is_continue_byte rest)) decided
+    where
+      decided : IsUtf8 rest → (Ident, drop end rest) ≡ scanned (past_first b) rest
+      decided inner =
+          let left : List ℕ = drop end rest in
+          let whole : IsUtf8 left = rw counted (skips is_continue_byte is_id_continue continue_part rest inner).utf8 in
+          let next = turned-emoji left whole (not-true _ ends) in
+          let offset : left ≡ past (run_len is_id_continue (chars rest)) rest =
+          stops_here is_continue_byte is_id_continue continue_part rest rest end inner refl counted left refl
+          next.1.1 in
+          let no_end : next_is ends_prefix (drop (run_len is_id_continue (chars rest)) (chars rest)) ≡ false =
+          cc (offset, chars-past (run_len is_id_continue (chars rest)) rest inner, next.1.0) in
+          by_family Word b rest _ family (rw next.1.0 at (ident_or_unknown_prefix-valid rest left inner offset next.0)
+          ∙ sym (scanned-same (word b) ident_or_unknown_prefix rest (word-plain b (chars rest) no_end)))
+
+  pub space_first : {end : ℕ} → Space ≡ family_of b → end ≡ prefix_len is_space_byte rest
+      → not (next_is is_space_lead (drop end rest)) ≡ true → IsFirstToken text record { kind = Whitespace; len = 1 + end }
+  space_first {end} family counted ends =
+      first Whitespace end (omega (arith, prefix_len-le-length is_space_byte rest)) (λ inner.
+      by_family Space b rest _ family
+      (cc (space_stops_here rest rest end inner refl counted (drop end rest) refl (not-true _ ends))))
+
+  pub symbol_first : {kind : TokenKind} → Symbol ≡ family_of b → kind ≡ symbol_kind b
+      → IsFirstToken text record { kind = kind; len = 1 }
+  symbol_first family same = first _ 0 (omega arith) (λ inner.
+      by_family Symbol b rest _ family (cc (scanned-gives (symbol_kind b) rest inner)))
+
+  pub symbol_by : (guards : Bool) {kind : TokenKind} → Symbol ≡ family_of b → kind ≡ symbol_kind b
+      → IsFirstBy guards text record { kind = kind; len = 1 }
+  symbol_by guards family same =
+      first_by guards text _ (symbol_first family same) (rw same (symbol-kept b))
 
 -- The byte after an identifier decides that it is an identifier.
 pub ident_or_unknown_prefix_ends : (tail rest bytes : List ℕ) → IsUtf8 tail → IsUtf8 rest

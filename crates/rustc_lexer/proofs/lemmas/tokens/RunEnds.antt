@@ -91,7 +91,7 @@ module _ (text : List ℕ) (at block ends low n : ℕ) (behind : block ≤ at)
   }
 
 -- A run is the run of a class, if the bytes that continue it are exactly the bytes of the class.
-module _ (p : ℕ → Bool) (goes : (a b : ℕ) → p a ≡ true → goes_on a b ≡ p b) (b : ℕ) (rest : List ℕ) (n : ℕ)
+module _ (p : ℕ → Bool) (goes : (a b : ℕ) → p a ≡ true → goes_on a b ≡ p b) {b : ℕ} {rest : List ℕ} {n : ℕ}
     (run : RunsTo b rest n) (first : p b ≡ true) where
   in_run : (k : ℕ) → k ≤ n → p (get_or (b ∷ rest) k 0) ≡ true
   in_run zero l = first
@@ -147,7 +147,7 @@ classified_small b some = elim (cases_lt b 128) [
 
 -- ---- a token, from its run and the byte after it
 
-module _ (text : List ℕ) (is : IsUtf8 text) (b : ℕ) (rest : List ℕ) (e : text ≡ b ∷ rest) (n : ℕ)
+module _ {text : List ℕ} (is : IsUtf8 text) {b : ℕ} {rest : List ℕ} (e : text ≡ b ∷ rest) {n : ℕ}
     (run : RunsTo b rest n) (small : b < 128) where
   stops : (p : ℕ → Bool) → p (get_or rest n 0) ≡ false → not (next_is p (drop n rest)) ≡ true
   stops p none = rw (drop-cons rest n 0 run.room, none) refl
@@ -155,21 +155,17 @@ module _ (text : List ℕ) (is : IsUtf8 text) (b : ℕ) (rest : List ℕ) (e : t
   as_word : Word ≡ family_of b → turns_word (get_or rest n 0) ≡ false
       → IsFirstToken text record { kind = Ident; len = 1 + n }
   as_word family stays =
-      word_first text b rest n is e small family (run_is is_continue_byte
-      (λ x y. first_of_two (is_continue_byte x) (is_space_byte x) (is_continue_byte y) (is_space_byte y) (never_both x))
-      b rest n run
+      word_first is e small family (run_is is_continue_byte (λ x y. first_of_two _ _ _ _ (never_both x)) run
       (run_of_family b Word small family)) (stops turns_word stays)
 
   as_space : Space ≡ family_of b → is_space_lead (get_or rest n 0) ≡ false
       → IsFirstToken text record { kind = Whitespace; len = 1 + n }
   as_space family stays =
-      space_first text b rest n is e small family (run_is is_space_byte
-      (λ x y. second_of_two (is_continue_byte x) (is_space_byte x) (is_continue_byte y) (is_space_byte y)
-      (never_both x)) b rest n run
+      space_first is e small family (run_is is_space_byte (λ x y. second_of_two _ _ _ _ (never_both x)) run
       (run_of_family b Space small family)) (stops is_space_lead stays)
 
   as_symbol : Symbol ≡ family_of b → IsFirstToken text record { kind = symbol_kind b; len = 1 + n }
-  as_symbol family = rw (← alone n refl) (symbol_first text b rest (symbol_kind b) is e small family refl)
+  as_symbol family = rw (← alone n refl) (symbol_first is e small family refl)
     where
       alone : (m : ℕ) → n ≡ m → 0 ≡ n
       alone zero f = sym f
@@ -234,7 +230,7 @@ pub record TellsNext (text : List ℕ) (at block ends low : ℕ) (kind : TokenKi
   pub lowest : IsLowest ends low
   pub stays : StaysWithin kind (get_or text (block + low) 0)
 
-module _ (text : List ℕ) (at block ends low : ℕ) (kind : TokenKind) (next : TellsNext text at block ends low kind) where
+module _ {text : List ℕ} {at block ends low : ℕ} {kind : TokenKind} (next : TellsNext text at block ends low kind) where
   pub classified_after : at < block + low
   classified_after = let after = (next.known low next.lowest.set).0 in omega (arith, after, next.behind)
 
@@ -246,11 +242,11 @@ module _ (text : List ℕ) (at block ends low : ℕ) (kind : TokenKind) (next : 
       let n : ℕ = block + low - at - 1 in
       let e : at + suc n ≡ block + low = omega (arith, classified_after) in
       let whole : 1 + n ≡ block + low - at = omega (arith, classified_after) in
-      let byte : get_or text (block + low) 0 ≡ get_or (drop (suc at) text) n 0 = ap (λ i. get_or text i 0)
-      (let f : block + low ≡ suc at + n = omega (arith, classified_after) in f) ∙ sym (get_or-drop (suc at) text n 0) in
-      subst (λ k. IsFirstToken (drop at text) record { kind = kind; len = k }) whole
-      (as_classified (drop at text) (IsUtf8-drop text at next.utf8 next.bound) (get_or text at 0) (drop (suc at) text)
-      (drop-cons text at 0 (omega (arith, classified_after, classified_inside))) n
+      let sum : block + low ≡ suc at + n = omega (arith, classified_after) in
+      let byte : get_or text (block + low) 0 ≡ get_or (drop (suc at) text) n 0 = cc (sum, get_or-drop (suc at) text n 0) in
+      rw (← whole)
+      (as_classified (IsUtf8-drop text at next.utf8 next.bound)
+      (drop-cons text at 0 (omega (arith, classified_after, classified_inside)))
       (runs_to text at block ends low n next.behind next.known next.lowest e)
       (classified_small _ (ap is_some next.tells)) kind next.tells (subst (StaysWithin kind) byte next.stays))
 

@@ -47,20 +47,20 @@ returns-then-is_some c =
       lowest = lowest;
       stays = rw c.as_bytes.ensures.value at stays;
     } in
-    let ahead = classified_ahead text at block ends low c.in_ok-kind.kind next c.past_lowest-self.result
+    let ahead = classified_ahead next c.past_lowest-self.result
     (λ k le. c.past_lowest-self.ensures.gone low k lowest le)
     (λ k l. c.past_lowest-self.ensures.others low k lowest l) in
-    let after = classified_after text at block ends low c.in_ok-kind.kind next in
+    let after = classified_after next in
     record {
       utf8 = c.utf8.text;
       classified = is;
-      some = let inside = classified_inside text at block ends low c.in_ok-kind.kind next in
+      some = let inside = classified_inside next in
           omega (arith, after, inside);
-      first = classified_first text at block ends low c.in_ok-kind.kind next;
+      first = classified_first next;
       offset = omega (arith, after);
       tells = record {
         fits = known.fits;
-        bound = classified_bound text at block ends low c.in_ok-kind.kind next;
+        bound = classified_bound next;
         behind = omega arith;
         small = omega arith;
         past = λ j after set. let r = ahead j set in (r.1, r.2);
