@@ -1,10 +1,9 @@
-use Rattle.std.proofs.Common.{sym, ap, ◌∙◌, subst}
-use Rattle.rustc_lexer.specs.model.{Edition.{first_token_in}, Quick.{BeginsWithNoHash}}
+use Rattle.std.proofs.Common.{sym}
 use Rattle.rustc_lexer.proofs.edition.token_in.Goals as goal
 
 pub returns-in-Some-clause-token : goal.returns-in-Some-clause-token
-returns-in-Some-clause-token c = c.in-Some.ensures.token c.args.edition (sym c.reserves_guards.ensures)
-    ∙ ap (first_token_in c.args.edition) c.as_bytes.ensures.value
+returns-in-Some-clause-token c =
+    rw c.as_bytes.ensures.value at (c.in-Some.ensures.token c.args.edition (sym c.reserves_guards.ensures))
 
 pub choose_in-requires-clause-no_hash : goal.choose_in-requires-clause-no_hash
-choose_in-requires-clause-no_hash c = subst BeginsWithNoHash c.as_bytes.ensures.value c.in-None.ensures
+choose_in-requires-clause-no_hash c = rw c.as_bytes.ensures.value at c.in-None.ensures

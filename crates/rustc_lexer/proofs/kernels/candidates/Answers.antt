@@ -4,20 +4,17 @@ use Rattle.rustc_lexer.proofs.kernels.candidates.Goals as goal
 
 pub returns-then-firsts-eq0-clause-at : goal.returns-then-firsts-eq0-clause-at
 returns-then-firsts-eq0-clause-at c =
-    no_first c.args.probe.first c.args.probe.second c.args.probe.third c.args.probe.last c.args.probe.span
-    c.args.bytes.now c.places-firsts.result c.places-firsts.ensures.at (omega arith)
+    no_first _ _ _ _ _ c.args.bytes.now c.places-firsts.result c.places-firsts.ensures.at (omega arith)
 
 pub returns-then-both-eq0-clause-at : goal.returns-then-both-eq0-clause-at
 returns-then-both-eq0-clause-at c =
-    no_last c.args.probe.first c.args.probe.second c.args.probe.third c.args.probe.last c.args.probe.span
-    c.args.bytes.now c.places-firsts.result c.places-firsts.ensures.at
-    c.places-lasts.result _ (take_rest c.args.bytes.now c.args.probe.span) c.places-lasts.ensures.at (omega arith)
+    no_last _ _ _ _ _ c.args.bytes.now c.places-firsts.result c.places-firsts.ensures.at c.places-lasts.result _
+    (take_rest c.args.bytes.now c.args.probe.span) c.places-lasts.ensures.at (omega arith)
 
 pub returns-clause-at : goal.returns-clause-at
 returns-clause-at c =
-    all_four c.args.probe.first c.args.probe.second c.args.probe.third c.args.probe.last c.args.probe.span
-    c.args.bytes.now c.places-firsts.result c.places-firsts.ensures.at
-    c.places-lasts.result _ (take_rest c.args.bytes.now c.args.probe.span) c.places-lasts.ensures.at
+    all_four _ _ _ _ _ c.args.bytes.now c.places-firsts.result c.places-firsts.ensures.at c.places-lasts.result _
+    (take_rest c.args.bytes.now c.args.probe.span) c.places-lasts.ensures.at
     c.places-seconds.result c.places-thirds.result _ _ (take_rest c.args.bytes.now 1)
     (take_rest c.args.bytes.now 2) c.places-seconds.ensures.at c.places-thirds.ensures.at
 

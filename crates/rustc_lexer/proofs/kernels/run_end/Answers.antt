@@ -1,5 +1,4 @@
-use Rattle.std.proofs.Common.{sym, ap, ◌∙◌, arith}
-use lib.Count.{count_trailing_zeros}
+use Rattle.std.proofs.Common.{sym, arith}
 use Rattle.std.proofs.lemmas.List.Sums.{prefix_len-le-length}
 use Rattle.rustc_lexer.proofs.lemmas.tokens.Kernels.{run_stops}
 use Rattle.rustc_lexer.proofs.kernels.run_end.Goals as goal
@@ -7,8 +6,8 @@ use Rattle.rustc_lexer.proofs.kernels.run_end.Goals as goal
 pub returns-clause-value : goal.returns-clause-value
 returns-clause-value g c =
     let fits = g.C.ByteClass.width_fits in
-    sym (run_stops g.C.ByteClass.passes c.args.bytes.now 0 g.C.ByteClass.WIDTH (omega arith) fits.1
-    (omega (arith, c.stops-stops.ensures)) ∙ ap (count_trailing_zeros 64) (sym c.stops-stops.ensures))
+    rw c.stops-stops.ensures (sym (run_stops g.C.ByteClass.passes c.args.bytes.now 0 g.C.ByteClass.WIDTH (omega arith)
+    fits.1 (omega (arith, c.stops-stops.ensures))))
 
 pub returns-clause-inside : goal.returns-clause-inside
 returns-clause-inside g c = let run = returns-clause-value g c in

@@ -1,6 +1,6 @@
 -- The head that is found in a document is the head that its tokens define: the tokens up to the frontmatter.
 use Rattle.std.proofs.Common.{◌≡◌, ℕ, zero, suc, ◌+◌, ◌-◌, ◌≤◌, true, false, true≢false, List, [], ◌∷◌, ◌++◌, length}
-use Rattle.std.proofs.Common.{length-append, length-drop, drop-drop, take, drop, refl, sym, ap, ap₂, ◌∙◌, subst, arith}
+use Rattle.std.proofs.Common.{length-append, length-drop, drop-drop, drop, refl, sym, ap, arith}
 use Rattle.std.proofs.Common.{chars, Option, None, Some, IsCharBoundary}
 use Rattle.std.proofs.{Math.Seq.{take-append_seam}, lemmas.Bool.{not-true}}
 use Rattle.rustc_lexer.specs.{Edition, Token, TokenKind, declared.head.Head.{Head}, Classes.{IsText, bytes}}
@@ -9,7 +9,7 @@ use Rattle.rustc_lexer.specs.Document.{is_frontmatter, tokens_start, document_to
 use Rattle.rustc_lexer.specs.model.Document.{front_tokens}
 use Rattle.rustc_lexer.specs.LanguageText as grammar
 use Rattle.rustc_lexer.specs.LanguageText.{AreTokens, IsTokenIn, Mode, is_source, mode_after, newest, part, source}
-use Rattle.rustc_lexer.specs.{Partition.{tokens_in}, Relexing.{IsHeadOf}, Tokens.{bound, tokens_by}}
+use Rattle.rustc_lexer.specs.{Partition.{tokens_in}, Relexing.{IsHeadOf}, Tokens.{bound}}
 use Rattle.rustc_lexer.specs.laws.{Choice.{by_either, by_symbol}, LanguageTokens.{language}, Tokens.{partitions}}
 use Rattle.rustc_lexer.specs.model.{Frontmatter.{frontmatter, opens, spaces_len}, Scan.{past}, Tokens.{read_tokens}}
 use Rattle.rustc_lexer.proofs.lemmas.heads.DocumentTokens.{start-boundary, with-front, with-spaced, without-front}
@@ -54,7 +54,7 @@ record IsFront (rest : List ℕ) (space : ℕ) (front : Option Token) (len : ℕ
 
 some-one : (text : List ℕ) (t : Token) → Some (frontmatter text) ≡ Some t → is_frontmatter t.kind ≡ true
 unfolding frontmatter
-some-one text t same = let is : frontmatter text ≡ t = cc in ap (λ (t : Token). is_frontmatter t.kind) (sym is)
+some-one text t same = let is : frontmatter text ≡ t = cc in rw (← is) refl
 
 some-end : (space : ℕ) (front : Token)
     → space + front.len ≡ bound (front_tokens space (Some front)) (length (front_tokens space (Some front)))
@@ -68,7 +68,7 @@ count-front space front tokens w3 w4 = grind (arith, common_steps)
 
 pub bound-append : (ts us : List Token) → bound (ts ++ us) (length ts) ≡ bound ts (length ts)
 bound-append [] us = refl
-bound-append (t ∷ ts) us = ap (λ n. t.len + n) (bound-append ts us)
+bound-append (t ∷ ts) us = cc (bound-append ts us)
 
 -- Holds if this is the head of the text, and its frontmatter is a frontmatter token.
 pub record IsHead (text : List ℕ) (head : Head) : Type 0 where
@@ -84,47 +84,43 @@ module _ (text : List ℕ) (is : IsText text) where
 
   rest_text : (rest : List ℕ) → rest ≡ drop (tokens_start text) text → IsText rest
   rest_text rest e =
-      let fits = is.fits in
-      let utf8 = IsUtf8-drop text (tokens_start text) is.utf8 (start-boundary text is) in
-      subst IsText (sym e) record { utf8 = utf8; fits = omega (arith, length-drop (tokens_start text) text) }
+      rw e record {
+        utf8 = IsUtf8-drop text _ is.utf8 (start-boundary text is);
+        fits = omega (arith, is.fits, length-drop (tokens_start text) text);
+      }
 
   module _ (n : ℕ) (n_is : n ≡ tokens_start text) (rest : List ℕ) (rest_is : rest ≡ drop n text) where
     rest_same : rest ≡ drop (tokens_start text) text
-    rest_same = rest_is ∙ ap (λ k. drop k text) n_is
+    rest_same = cc
 
     head_is : {space : ℕ} {front : Option Token} {len : ℕ} → IsFront rest space front len → (body : ℕ) → body ≡ n + len
         → IsHead text record { tokens_start = n; space_len = space; frontmatter = front; body = body }
     head_is {space} {front} {len} at body body_is =
         let ts : List Token = front_tokens space front in
-        let whole : all ≡ ts ++ read_tokens (part newest) (drop len rest) =
-        ap (read_tokens (source newest)) (sym rest_same) ∙ at.tokens newest in
-        let end : bound all (length ts) ≡ len = ap (λ us. bound us (length ts)) whole
-        ∙ (bound-append ts _ ∙ sym at.ends) in
-        let cut : IsCharBoundary rest len =
-        subst (IsCharBoundary rest) end (subst (λ xs. IsCharBoundary xs (bound all (length ts))) (sym rest_same)
+        let us : List Token = read_tokens (part newest) (drop len rest) in
+        let whole : all ≡ ts ++ us = rw (← rest_same) (at.tokens newest) in
+        let end : bound all (length ts) ≡ len = cc (whole, bound-append ts us, at.ends) in
+        let cut : IsCharBoundary rest len = rw rest_same (rw end at
         ((partitions _ (source newest) (rest_text _ refl)).boundaries (length ts)
-        (omega (arith, ap length whole, length-append ts (read_tokens (part newest) (drop len rest)))))) in
-        let behind : drop body text ≡ drop len rest = ap (λ k. drop k text) body_is
-        ∙ (sym (drop-drop len n text) ∙ ap (drop len) (sym rest_is)) in
+        (omega (arith, ap length whole, length-append ts us)))) in
+        let behind : drop body text ≡ drop len rest = cc (drop-drop len n text) in
         let its = rest_text rest rest_same in
         let left : IsText (drop len rest) =
         record {
           utf8 = IsUtf8-drop rest len its.utf8 cut;
-          fits = let f = its.fits in
-              omega (arith, length-drop len rest);
+          fits = omega (arith, its.fits, length-drop len rest);
         } in
         let count : head_count all ≡ length ts =
-        ap head_count whole ∙ count-front space front _ at.is_one (part-none newest (drop len rest) left) in
+        cc (whole, count-front space front us at.is_one (part-none newest (drop len rest) left)) in
         record {
           of = record {
             shebang_is = n_is;
-            tokens_are = sym (ap₂ take count whole ∙ take-append_seam ts _);
+            tokens_are = cc (count, whole, take-append_seam ts us);
             bare = at.bare;
             end_is = omega (arith, body_is, n_is, end, ap (bound all) count);
           };
           is_one = at.is_one;
-          tokens = λ edition. ap (λ xs. ts ++ read_tokens (part edition) xs) behind
-              ∙ (sym (at.tokens edition) ∙ ap (read_tokens (source edition)) rest_same);
+          tokens = λ edition. cc (behind, at.tokens edition, rest_same);
         }
 
     pub head-front : (front : Token) → opens (chars rest) ≡ true → front ≡ frontmatter rest
@@ -178,8 +174,7 @@ module _ (text : List ℕ) (is : IsText text) where
   pub in_edition : (edition : Edition) → tokens_in (document_by (first_in edition) text) ≡ document_tokens edition text
   in_edition edition =
       let some = some_head.1 in
-      sym (ap₂ (λ ts n. ts ++ tokens_by (first_in edition) (drop n text)) some.of.tokens_are some.of.end_is)
-      ∙ some.tokens edition
+      cc (some.of.tokens_are, some.of.end_is, some.tokens edition)
 
   -- The tokens of the head are cut at char boundaries.
   pub head_cuts : (k : ℕ) → k ≤ length (head_tokens text)
@@ -188,7 +183,6 @@ module _ (text : List ℕ) (is : IsText text) where
       let same : bound all k ≡ bound (head_tokens text) k =
       bound-same k all (head_tokens text)
       (sym (take-take k (head_count all) all (omega (arith, few, length-take (head_count all) all)))) in
-      IsCharBoundary-from_rest text (tokens_start text) (bound (head_tokens text) k) (start-boundary text is).0
-      (subst (IsCharBoundary rest) same
-      ((partitions rest (source newest) (rest_text rest refl)).boundaries k
+      IsCharBoundary-from_rest text _ _ (start-boundary text is).0
+      (rw same at ((partitions rest (source newest) (rest_text rest refl)).boundaries k
       (omega (arith, few, length-take (head_count all) all))))

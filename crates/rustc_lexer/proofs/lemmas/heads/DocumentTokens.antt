@@ -1,8 +1,8 @@
 -- The tokens of a document are the tokens of its head and the tokens of its body.
 use Rattle.std.proofs.lemmas.Grind.{common_steps}
-use Rattle.std.proofs.Common.{◌≡◌, ℕ, zero, suc, ◌+◌, ◌-◌, ◌<◌, Bool, not, true, false, true≢false, List, [], ◌∷◌, ◌++◌}
-use Rattle.std.proofs.Common.{length, take, drop, refl, sym, ap, ap₂, ◌∙◌, subst, arith, length-drop, drop-drop}
-use Rattle.std.proofs.Common.{take-append-drop, append_assoc, length-append, codes, get_or, IsUtf8, IsCharBoundary}
+use Rattle.std.proofs.Common.{◌≡◌, ℕ, zero, suc, ◌+◌, ◌-◌, ◌<◌, Bool, not, true, false, List, [], ◌∷◌, ◌++◌}
+use Rattle.std.proofs.Common.{length, take, drop, refl, ap, arith, length-drop, drop-drop}
+use Rattle.std.proofs.Common.{take-append-drop, length-append, codes, get_or, IsCharBoundary}
 use Rattle.std.proofs.Common.{chars, Option, None, Some}
 use Rattle.std.specs.Option.{unwrap_or}
 use Rattle.std.proofs.{lemmas.Bool.{and_parts, eqb-true, not-true}, Math.Seq.{get_or-append_seam}}
@@ -44,7 +44,7 @@ solid-after edition kind w2 = grind (arith, common_steps)
 solid : {next u : List ℕ} {kind : TokenKind} → IsTokenBefore next kind u → next_is is_whitespace u ≡ false
     → 0 < length u → stays kind ≡ false
 solid (the.end none) out some = absurd (omega arith)
-solid (the.whitespace {c} {w} all stop) out some = absurd (true≢false (sym (and_parts (is_whitespace c) _ all).0 ∙ out))
+solid (the.whitespace {c} {w} all stop) out some = absurd (cc ((and_parts (is_whitespace c) _ all).0))
 solid (the.symbol {c} is) out some =
     not-true (stays (symbol_kind c)) (by_symbol (λ (kind : TokenKind). not (stays kind)) symbols c refl refl)
 solid p out some = refl
@@ -74,8 +74,7 @@ module _ (edition : Edition) where
       let some : 0 < length text = (let cut = frontmatter-cut text is.utf8 e in let i = cut.inside in
       let m = cut.not_empty in omega arith) in
       let at : token_at (source edition) text ≡ frontmatter text = rw e refl in
-      tokens-cons (source edition) text is some
-      ∙ ap (λ (t : Token). t ∷ read_tokens (mode_after (source edition) t.kind) (drop t.len text)) at
+      rw at at (tokens-cons (source edition) text is some)
 
   -- If no frontmatter opens and no whitespace is in front, the tokens are the tokens of a fragment.
   as-source : {cs : List ℕ} {tokens : List Token} → AreTokens (part edition) cs tokens → OpensNone cs
@@ -83,9 +82,7 @@ module _ (edition : Edition) where
       → AreTokens (source edition) cs tokens
   as-source grammar.nothing none out = grammar.nothing
   as-source (grammar.something {kind} {next} {tokens} p free rest) none out =
-      grammar.something p (λ e. none)
-      (subst (λ (mode : Mode). AreTokens mode next tokens)
-      (sym (solid-after edition kind (solid-in p out (omega arith)))) rest)
+      grammar.something p (λ e. none) (rw (solid-after edition kind (solid-in p out (omega arith))) rest)
 
   without-space : (text : List ℕ) → IsText text → opens (chars text) ≡ false → next_is is_whitespace (chars text) ≡
       false → read_tokens (source edition) text ≡ read_tokens (part edition) text
@@ -101,16 +98,16 @@ module _ (edition : Edition) where
     size_is = let long = length-past (spaces_len (chars text)) text is.utf8 in omega (arith, long, ap length tail_is)
 
     tail_drop : tail ≡ drop size text
-    tail_drop = tail_is ∙ (past-drop (spaces_len (chars text)) text is.utf8 ∙ ap (λ n. drop n text) size_is)
+    tail_drop = cc (past-drop (spaces_len (chars text)) text is.utf8, size_is)
 
     tail_text : IsText tail
     tail_text = record {
-      utf8 = subst IsUtf8 (sym tail_is) (IsUtf8-past (spaces_len (chars text)) text is.utf8);
+      utf8 = rw tail_is (IsUtf8-past (spaces_len (chars text)) text is.utf8);
       fits = let f = is.fits in omega (arith, ap length tail_drop, length-drop size text);
     }
 
     left : chars tail ≡ drop (spaces_len (chars text)) (chars text)
-    left = ap chars tail_is ∙ chars-past (spaces_len (chars text)) text is.utf8
+    left = cc (chars-past (spaces_len (chars text)) text is.utf8)
 
     spaced : (mode : Mode) → (is_source mode ≡ true → opens (chars text) ≡ false)
         → read_tokens mode text ≡ space_before size ++ read_tokens mode tail
@@ -118,9 +115,8 @@ module _ (edition : Edition) where
       where
         bare : spaces_len (chars text) ≡ 0 → read_tokens mode text ≡ space_before size ++ read_tokens mode tail
         bare zero_len =
-            let same : tail ≡ text = tail_is ∙ (ap (λ n. past n text) zero_len ∙ past-zero text is.utf8) in
-            sym (ap₂ (λ n u. space_before n ++ read_tokens mode u)
-            (let no_size : size ≡ 0 = omega (arith, ap length same) in no_size) same)
+            let same : tail ≡ text = cc (past-zero text is.utf8) in
+            let no_size : size ≡ 0 = omega (arith, ap length same) in rw (no_size, same) refl
 
         one : (n : ℕ) (tokens : List Token) → 0 < n → record { kind = Whitespace; len = n } ∷ tokens ≡
             space_before n ++ tokens
@@ -131,29 +127,27 @@ module _ (edition : Edition) where
         by_chars (c ∷ s) e = by_either (is_whitespace c)
             (λ white.
             let n : ℕ = run_len is_whitespace s in
-            let long : spaces_len (chars text) ≡ suc n = ap spaces_len e ∙ rw white refl in
-            let whole : chars text ≡ c ∷ take n s ++ drop n s = e ∙ ap (λ xs. c ∷ xs) (sym (take-append-drop n s)) in
-            let len : bytes (c ∷ take n s) ≡ size = sym (ap₂ bytes_of long e) ∙ size_is in
+            let long : spaces_len (chars text) ≡ suc n = rw (e, white) refl in
+            let whole : chars text ≡ c ∷ take n s ++ drop n s = cc (take-append-drop n s) in
+            let len : bytes (c ∷ take n s) ≡ size = rw (long, e) at size_is in
             let behind : AreTokens (mode_after mode Whitespace) (drop n s) (read_tokens mode tail) =
-            subst (λ (m : Mode). AreTokens m (drop n s) (read_tokens mode tail)) (sym (space-after mode))
-            (subst (λ cs. AreTokens mode cs (read_tokens mode tail)) (left ∙ ap₂ drop long e)
-            (tokens-are tail mode tail_text)) in
-            let token = grammar.kept (oldest (mode_edition mode)) (space-sound c white s) in
-            tokens-read (grammar.something token (λ y. subst OpensNone whole (opens-none (chars text) (none y))) behind)
-            text is whole
-            ∙ (ap (λ k. record { kind = Whitespace; len = k } ∷ read_tokens mode tail) len
-            ∙ one size (read_tokens mode tail) (omega (arith, len, length-le-encodes (c ∷ take n s)))))
-            (λ out. bare (ap spaces_len e ∙ rw out refl))
+            rw (space-after mode) (rw (left, long, e) at (tokens-are tail mode tail_text)) in
+            cc (
+              tokens-read (grammar.something (grammar.kept (oldest (mode_edition mode)) (space-sound c white s))
+                  (λ y. rw whole at (opens-none (chars text) (none y))) behind) text is whole,
+              one size (read_tokens mode tail) (omega (arith, len, length-le-encodes (c ∷ take n s))),
+            ))
+            (λ out. bare (rw (e, out) refl))
 
     -- If no frontmatter opens, with or without whitespace before, the tokens are the tokens of a fragment.
     pub without-front : opens (chars text) ≡ false → opens (chars tail) ≡ false → read_tokens (source edition) text ≡
         read_tokens (part edition) text
     without-front none none_past =
-        let out : next_is is_whitespace (chars tail) ≡ false = ap (next_is is_whitespace) left
-        ∙ run-stops is_whitespace (chars text) in
-        spaced (source edition) (λ e. none)
-        ∙ (ap (λ ts. space_before size ++ ts) (without-space tail tail_text none_past out)
-        ∙ sym (spaced (part edition) (λ e. absurd (true≢false (sym e)))))
+        cc (
+          spaced (source edition) (λ e. none),
+          without-space tail tail_text none_past (rw left (run-stops is_whitespace (chars text))),
+          spaced (part edition) (λ e. absurd (cc)),
+        )
 
     -- If a frontmatter opens after whitespace, the tokens are the whitespace, the frontmatter, and the tokens of a
     -- fragment.
@@ -161,13 +155,10 @@ module _ (edition : Edition) where
         → read_tokens (source edition) text ≡ front_tokens size (Some (frontmatter tail)) ++ read_tokens (part edition)
         (drop (size + (frontmatter tail).len) text)
     with-spaced none opened =
-        spaced (source edition) (λ e. none)
-        ∙ (ap (λ ts. space_before size ++ ts)
-        (with-front tail tail_text opened ∙ ap (λ xs. frontmatter tail ∷ read_tokens (part edition) xs) behind)
-        ∙ both size _)
+        cc (spaced (source edition) (λ e. none), with-front tail tail_text opened, behind, both size _)
       where
         behind : drop (frontmatter tail).len tail ≡ drop (size + (frontmatter tail).len) text
-        behind = ap (drop (frontmatter tail).len) tail_drop ∙ drop-drop (frontmatter tail).len size text
+        behind = cc (tail_drop, drop-drop (frontmatter tail).len size text)
 
         both : (n : ℕ) (tokens : List Token) → space_before n ++ (frontmatter tail ∷ tokens) ≡
             front_tokens n (Some (frontmatter tail)) ++ tokens
@@ -176,12 +167,12 @@ module _ (edition : Edition) where
 -- ---- the end of a shebang line
 
 seam : (xs ys : List ℕ) → (0 < length ys → get_or ys 0 0 < 128) → IsCharBoundary (xs ++ ys) (length xs)
-seam xs [] small = subst (IsCharBoundary (xs ++ [])) (let none = length-append xs [] in
-    let same : length (xs ++ []) ≡ length xs = omega (arith, none) in same) (IsCharBoundary-end (xs ++ []))
+seam xs [] small =
+    let same : length xs ≡ length (xs ++ []) = omega (arith, length-append xs []) in
+    rw same (IsCharBoundary-end (xs ++ []))
 seam xs (y ∷ ys) small =
     IsCharBoundary-before_ascii (xs ++ (y ∷ ys)) (length xs) (omega (arith, length-append xs (y ∷ ys)))
-    (let there : get_or (xs ++ (y ∷ ys)) (length xs) 0 ≡ y = get_or-append_seam xs y ys 0 in
-    let less = small (omega arith) in omega (arith, there))
+    (rw (get_or-append_seam xs y ys 0) (small (omega arith)))
 
 line-boundary : (text : List ℕ) → IsText text → IsCharBoundary text (unwrap_or (shebang text) 0)
 line-boundary text is = by_answer (shebang text) (((the_shebang text).only is (shebang text)).1 refl)
@@ -189,8 +180,7 @@ line-boundary text is = by_answer (shebang text) (((the_shebang text).only is (s
     by_line : (w next : List ℕ) → text ≡ codes "#!" ++ (w ++ next) → IsLineBefore next w
         → IsCharBoundary text (length (codes "#!" ++ w))
     by_line w next whole line =
-        subst (λ xs. IsCharBoundary xs (length (codes "#!" ++ w))) (append_assoc (codes "#!") w next ∙ sym whole)
-        (seam (codes "#!" ++ w) next (small line))
+        rw whole (seam (codes "#!" ++ w) next (small line))
       where
         small : IsLineBefore next w → 0 < length next → get_or next 0 0 < 128
         small w0 left = grind (arith, common_steps, eqb-true, and_parts)
@@ -205,6 +195,4 @@ start-boundary text is =
       utf8 = IsUtf8-drop text (byte_order_mark_len text) is.utf8 (mark_boundary text is.utf8);
       fits = omega (arith, is.fits, length-drop (byte_order_mark_len text) text);
     } in
-    IsCharBoundary-from_rest text (byte_order_mark_len text)
-    (unwrap_or (shebang (drop (byte_order_mark_len text) text)) 0)
-    (mark_boundary text is.utf8).0 (line-boundary (drop (byte_order_mark_len text) text) after)
+    IsCharBoundary-from_rest text _ _ (mark_boundary text is.utf8).0 (line-boundary _ after)

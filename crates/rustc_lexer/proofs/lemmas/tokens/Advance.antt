@@ -1,8 +1,8 @@
 -- A cursor reads the tokens of its iterator, longer by the bytes that are pending.
 use Rattle.std.proofs.lemmas.Grind.{common_steps}
 use Rattle.std.proofs.Common.{◌≡◌, ◌≢◌, ℕ, ◌+◌, ◌<◌, ◌≤◌, ◌^◌, ◌==◌, List, [], length, length-drop, drop, false, refl}
-use Rattle.std.proofs.Common.{sym, ap, subst, ◌∙◌, arith}
-use Rattle.std.specs.{Prelude.{All}, Str.{IsCharBoundary}}
+use Rattle.std.proofs.Common.{sym, ap, ◌∙◌, arith}
+use Rattle.std.specs.{Str.{IsCharBoundary}}
 use Rattle.std.proofs.lemmas.{Bool.{ne_eqb}, List.Elements.{All-head}, Str.{IsUtf8-drop}}
 use Rattle.rustc_lexer.specs.{FrontmatterAllowed, Token, TokenKind, Eof, LanguageText.{Mode, mode_in, newest}}
 use Rattle.rustc_lexer.specs.State.{State, kind_past, token_past, HasSuffixWithin}
@@ -37,12 +37,11 @@ module _ (pending : ℕ) (tokens : State) (is : IsCursor pending tokens) (s : St
   -- At the end of the text the cursor returns `Eof`.
   pub ends : tokens_left tokens ≡ [] → take_next s ≡ (record { kind = Eof; len = 0 }, s)
   ends none = advance-end pending tokens.rest tokens.mode s view
-      (ap (λ xs. length xs == 0) (nothing_left tokens.mode tokens.rest is.text none))
+      (rw (nothing_left tokens.mode tokens.rest is.text none) refl)
 
   pub none_left : tokens_left tokens ≡ [] → (tokens_left s ≡ []) × (s.rest ≡ [])
   none_left none =
-      subst (λ (x : State). (tokens_left x ≡ []) × (x.rest ≡ [])) view
-      (none, nothing_left tokens.mode tokens.rest is.text none)
+      rw (← view) (none, nothing_left tokens.mode tokens.rest is.text none)
 
   -- The iterator's token, and the cursor's.
   module _ (taken : Token) (t : State) (takes : TakesToken tokens taken t) where
@@ -66,8 +65,7 @@ module _ (pending : ℕ) (tokens : State) (is : IsCursor pending tokens) (s : St
     alone_is = sym takes.advances ∙ advance-some tokens.pending tokens.rest tokens.mode tokens refl more
 
     taken_is : taken ≡ first
-    taken_is = ap (λ (r : Token × State). r.0) alone_is
-        ∙ (ap (λ n. token_past n first) is.alone ∙ token_past-zero first)
+    taken_is = rw (is.alone, token_past-zero first) at (ap (λ (r : Token × State). r.0) alone_is)
 
     next_is : t ≡ past_token tokens.rest tokens.mode first
     next_is = ap (λ (r : Token × State). r.1) alone_is
@@ -76,14 +74,14 @@ module _ (pending : ℕ) (tokens : State) (is : IsCursor pending tokens) (s : St
     whole = advance-some pending tokens.rest tokens.mode old refl more
 
     token_is : token_past pending taken ≡ (take_next old).0
-    token_is = ap (token_past pending) taken_is ∙ sym (ap (λ (r : Token × State). r.0) whole)
+    token_is = rw (whole, taken_is) refl
 
     state_is : new ≡ (take_next old).1
-    state_is = ap (λ (x : State). state 0 x.rest x.mode) next_is ∙ sym (ap (λ (r : Token × State). r.1) whole)
+    state_is = rw (whole, next_is) refl
 
     no_end : (token_past pending taken).kind ≢ Eof
     no_end h = token_at-not_end tokens.mode tokens.rest is.text some
-        (sym (ap (λ (k : Token). k.kind) taken_is) ∙ kind_past-end pending taken.kind h)
+        (rw (← taken_is) (kind_past-end pending taken.kind h))
 
     takes_alone : TakesToken (state 0 tokens.rest tokens.mode) taken new
     takes_alone = grind (arith, common_steps, next_is)
@@ -96,8 +94,7 @@ module _ (pending : ℕ) (tokens : State) (is : IsCursor pending tokens) (s : St
 
     pub suffix_within : HasSuffixWithin taken
     suffix_within =
-        (All-head HasSuffix taken (tokens_left t)
-        (subst (All HasSuffix) takes.first (suffixes tokens.rest tokens.mode is.text))).0
+        (All-head HasSuffix taken (tokens_left t) (rw takes.first at (suffixes tokens.rest tokens.mode is.text))).0
 
     pub whole_fits : pending + taken.len < 2 ^ 32
     whole_fits = omega (arith, is.fits, takes.boundary.0)

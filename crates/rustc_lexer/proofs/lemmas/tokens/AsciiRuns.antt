@@ -1,6 +1,6 @@
 -- Runs of characters that start with ASCII, in bytes.
-use Rattle.std.proofs.Common.{◌≡◌, ℕ, suc, ◌<◌, ◌≤◌, Bool, true, false, true≢false, List, [], ◌∷◌, ◌++◌, length, drop}
-use Rattle.std.proofs.Common.{nat_lt, refl, sym, ap, ◌∙◌, arith, subst}
+use Rattle.std.proofs.Common.{◌≡◌, ℕ, suc, ◌<◌, ◌≤◌, Bool, true, false, List, [], ◌∷◌, ◌++◌, length, drop}
+use Rattle.std.proofs.Common.{nat_lt, refl, sym, ◌∙◌, arith}
 use Rattle.std.specs.{Char.{encode_utf8}, List.{prefix_len}, Str.{chars, encode_utf8_all, IsUtf8, IsCharBoundary}}
 use Rattle.std.proofs.lemmas.Bool.{ltb-false, ltb-true}
 use Rattle.std.proofs.lemmas.Str.{chars-nil, chars_past_char, encodes-chars, IsUtf8-past_char, byte_from_char}
@@ -13,7 +13,7 @@ use Rattle.rustc_lexer.proofs.lemmas.tokens.Runs.{run_ends}
 -- A text that starts with an ASCII byte.
 module _ (b : ℕ) (bs : List ℕ) (is : IsUtf8 (b ∷ bs)) (small : b < 128) where
   reads : b ∷ bs ≡ encode_utf8 b ++ bs
-  reads = ap (λ (xs : List ℕ). xs ++ bs) (sym (encode_ascii b small))
+  reads = rw (encode_ascii b small) refl
 
   pub chars-ascii : chars (b ∷ bs) ≡ b ∷ chars bs
   chars-ascii = chars_past_char (b ∷ bs) bs b is reads
@@ -53,21 +53,19 @@ skips q p part (b ∷ bs) is = by_either (q b)
     let small = part.small b e in
     let rest = skips q p part bs (IsUtf8-ascii b bs is small) in
     let more : prefix_len q (b ∷ bs) ≡ suc (prefix_len q bs) = rw e (omega arith) in
-    let in_class : p b ≡ true = sym (part.same b small) ∙ e in
-    subst (λ n. Skips q p (b ∷ bs) (drop n (b ∷ bs))) (sym more) record {
+    let in_class : p b ≡ true = cc (part.same b small) in
+    rw more record {
       utf8 = rest.utf8;
-      run = ap (past_run p) (chars-ascii b bs is small) ∙ (past_run-in p b (chars bs) in_class ∙ rest.run);
+      run = rw (chars-ascii b bs is small, past_run-in p b (chars bs) in_class) rest.run;
       stops = rest.stops;
     })
-    (λ e.
-    let none : prefix_len q (b ∷ bs) ≡ 0 = rw e refl in
-    subst (λ n. Skips q p (b ∷ bs) (drop n (b ∷ bs))) (sym none) record { utf8 = is; run = refl; stops = e })
+    (λ e. rw e record { utf8 = is; run = refl; stops = e })
 
 -- The run ends if the next character is not in the class.
 pub run_over : (q p : ℕ → Bool) (text left : List ℕ) → Skips q p text left → next_is p (chars left) ≡ false
     → left ≡ past (run_len p (chars text)) text
 unfolding past
-run_over q p text left at out = sym (at.run ∙ run_ends p left at.utf8 out)
+run_over q p text left at out = cc (at.run, run_ends p left at.utf8 out)
 
 -- The next byte is neither in the class nor outside ASCII.
 none_next : (q p : ℕ → Bool) → IsPart q p → (left : List ℕ) → IsUtf8 left → next_is q left ≡ false
@@ -79,10 +77,10 @@ none_next q p part w3 is stops narrow = grind (arith, common_steps, chars-nil, l
 module _ (q p : ℕ → Bool) (part : IsPart q p) (text bytes : List ℕ) (end : ℕ) (is : IsUtf8 text) (read : bytes ≡ text)
     (counted : end ≡ prefix_len q bytes) where
   e : end ≡ prefix_len q text
-  e = counted ∙ ap (prefix_len q) read
+  e = cc
 
   there : Skips q p text (drop end text)
-  there = subst (λ n. Skips q p text (drop n text)) (sym e) (skips q p part text is)
+  there = rw e (skips q p part text is)
 
   pub may_cut : IsCharBoundary text end
   unfolding there e
@@ -91,12 +89,12 @@ module _ (q p : ℕ → Bool) (part : IsPart q p) (text bytes : List ℕ) (end :
   module _ (left : List ℕ) (f : left ≡ drop end text) where
     pub left_there : Skips q p text left
     unfolding there e
-    left_there = subst (λ xs. Skips q p text xs) (sym f) there
+    left_there = rw f there
 
     pub goes_on : (rest : List ℕ) → rest ≡ past (run_len p (chars left)) left
         → rest ≡ past (run_len p (chars text)) text
     unfolding past there e
-    goes_on rest g = g ∙ (ap (λ xs. past_run p (chars xs)) f ∙ sym there.run)
+    goes_on rest g = cc (g, f, there.run)
 
     pub stops_here : next_is is_wide left ≡ false → left ≡ past (run_len p (chars text)) text
     stops_here narrow =
@@ -105,20 +103,19 @@ module _ (q p : ℕ → Bool) (part : IsPart q p) (text bytes : List ℕ) (end :
 -- For a class within ASCII, the characters are the bytes.
 module _ (p : ℕ → Bool) (small : (c : ℕ) → p c ≡ true → c < 128) where
   pub next_byte : (text : List ℕ) → IsUtf8 text → next_is p (chars text) ≡ next_is p text
-  next_byte [] is = ap (next_is p) chars-nil
+  next_byte [] is = rw chars-nil refl
   next_byte (d ∷ ds) is = by_either (nat_lt d 128)
-      (λ e. ap (next_is p) (chars-ascii d ds is (ltb-true d 128 e)))
+      (λ e. rw (chars-ascii d ds is (ltb-true d 128 e)) refl)
       (λ e. let wide = ltb-false d 128 e in none wide (next_is p (chars (d ∷ ds))) refl ∙ sym (by_either (p d)
       (λ e. absurd (let in_ascii = small d e in omega arith))
       (λ e. e)))
     where
       first_byte : (cs : List ℕ) → chars (d ∷ ds) ≡ cs → next_is p cs ≡ true → d < 128
-      first_byte [] e f = absurd (true≢false (sym f))
+      first_byte [] e f = absurd (cc)
       first_byte (c ∷ cs) e f =
           let in_ascii : c < 128 = small c f in
           let same : d ≡ c =
-          byte_from_char (d ∷ ds) (encode_utf8_all cs) c (sym (encodes-chars (d ∷ ds) is) ∙ ap encode_utf8_all e)
-          in_ascii in
+          byte_from_char (d ∷ ds) (encode_utf8_all cs) c (cc (encodes-chars (d ∷ ds) is)) in_ascii in
           omega arith
 
       none : 128 ≤ d → (t : Bool) → next_is p (chars (d ∷ ds)) ≡ t → next_is p (chars (d ∷ ds)) ≡ false
@@ -128,7 +125,7 @@ module _ (p : ℕ → Bool) (small : (c : ℕ) → p c ≡ true → c < 128) whe
   -- A byte of the class in front is a character.
   pub front_small : (text : List ℕ) → IsUtf8 text → next_is p text ≡ true → IsCharBoundary text 1
       × (drop 1 text ≡ past 1 text) × (length (drop 1 text) < length text)
-  front_small [] is e = absurd (true≢false (sym e))
+  front_small [] is e = absurd (cc)
   front_small (d ∷ ds) is e =
       let in_ascii = small d e in (
         IsCharBoundary-from_drop (d ∷ ds) 1 (omega arith) (IsUtf8-ascii d ds is in_ascii),

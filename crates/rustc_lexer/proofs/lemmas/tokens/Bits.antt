@@ -1,6 +1,6 @@
 -- One bit of a word, for each operation on words.
 use Rattle.std.proofs.Common.{◌≡◌, ℕ, zero, suc, ◌+◌, ◌-◌, ◌*◌, ◌/◌, ◌%◌, ◌^◌, ◌<◌, ◌≤◌, min, max, length, map, Bool}
-use Rattle.std.proofs.Common.{true, false, true≢false, not, ◌&&◌, ◌||◌, ◌==◌, List, get_or, refl, sym, ap, ap₂, ◌∙◌}
+use Rattle.std.proofs.Common.{true, false, true≢false, not, ◌&&◌, ◌||◌, ◌==◌, List, get_or, refl, sym, ap, ◌∙◌}
 use Rattle.std.proofs.Common.{arith, w64, bit_and, bit_or, inl, inr, nat_lt}
 use Rattle.std.specs.Int.{bit_at}
 use Rattle.std.proofs.lemmas.Bool.{agree_below_at, and_left, and_right, cases_lt, eqb-true, le-ltb, lt-ltb}
@@ -44,7 +44,7 @@ bit-mod : (n i : ℕ) → i < 64 → bit (n % 2 ^ 64) i ≡ bit n i
 unfolding bit
 bit-mod n i h =
     let e : n ≡ n / 2 ^ 64 * 2 ^ 64 + n % 2 ^ 64 = omega arith in
-    sym (ap (λ m. bit m i) e ∙ ap (λ b. b == 1) (bit_at_cat_low (n / 2 ^ 64) 64 (n % 2 ^ 64) i h))
+    cc (e, bit_at_cat_low (n / 2 ^ 64) 64 (n % 2 ^ 64) i h)
 
 ones : (k : ℕ) → k < 64 → bit (2 ^ 64 - 1) k ≡ true
 unfolding bit
@@ -54,15 +54,12 @@ ones k l = agree_below_at (λ j. bit (2 ^ 64 - 1) j) (λ _. true) 64 k refl l
 pub bit-shl_below : (y n k : ℕ) → k < n → k < 64 → bit (y * 2 ^ n % 2 ^ 64) k ≡ false
 unfolding bit
 bit-shl_below y n k less l =
-    bit-mod (y * 2 ^ n) k l
-    ∙ ap (λ x. x == 1) (ap (λ x. bit_at x k) (sym (add-zero (y * 2 ^ n)))
-    ∙ (bit_at_cat_low y n 0 k less ∙ bit_at-zero k))
+    cc (bit-mod (y * 2 ^ n) k l, add-zero (y * 2 ^ n), bit_at_cat_low y n 0 k less, bit_at-zero k)
 
 pub bit-shl_on : (y n k : ℕ) → n ≤ k → k < 64 → bit (y * 2 ^ n % 2 ^ 64) k ≡ bit y (k - n)
 unfolding bit
 bit-shl_on y n k le l =
-    bit-mod (y * 2 ^ n) k l
-    ∙ ap (λ x. x == 1) (ap (λ x. bit_at x k) (sym (add-zero (y * 2 ^ n))) ∙ bit_at_cat_high y n 0 k (pow_pos n) le)
+    cc (bit-mod (y * 2 ^ n) k l, add-zero (y * 2 ^ n), bit_at_cat_high y n 0 k (pow_pos n) le)
 
 bit-shr : (y n k : ℕ) → bit (y / 2 ^ n) k ≡ bit y (n + k)
 unfolding bit
@@ -83,7 +80,7 @@ bit-mask_l ms i = grind (arith, common_steps, bit_mask_l)
 -- The index of a bit that is set is less than 64.
 pub within : (x i : ℕ) → x < 2 ^ 64 → bit x i ≡ true → i < 64
 within x i small set =
-    elim (cases_lt i 64) [ inl near ↦ near | inr far ↦ absurd (true≢false (sym set ∙ bit-above x i small far)) ]
+    elim (cases_lt i 64) [ inl near ↦ near | inr far ↦ absurd (cc (bit-above x i small far)) ]
 
 pub bit-zero : (i : ℕ) → bit 0 i ≡ false
 unfolding bit
@@ -103,14 +100,13 @@ unfolding bit
 high-high k h = agree_below_at (λ j. bit high (suc j)) (λ _. true) 63 k refl (omega arith)
 
 high_past : (k n : ℕ) → n < k → k < 64 → bit high (k - n) ≡ true
-high_past k n more l = ap (bit high) (let e : k - n ≡ suc (k - n - 1) = omega arith in e)
-    ∙ high-high (k - n - 1) (omega arith)
+high_past k n more l = let e : k - n ≡ suc (k - n - 1) = omega arith in rw e (high-high (k - n - 1) (omega arith))
 
 pub low-off : (x : ℕ) → bit (bit_and x high) 0 ≡ false
-low-off x = bit-and x high 0 ∙ and_right _ _ high-low
+low-off x = rw bit-and (and_right _ _ high-low)
 
 pub high-stays : (x k : ℕ) → suc k < 64 → bit (bit_and x high) (suc k) ≡ bit x (suc k)
-high-stays x k h = bit-and x high (suc k) ∙ (ap (λ t. bit x (suc k) && t) (high-high k h) ∙ and-true (bit x (suc k)))
+high-stays x k h = rw (bit-and, high-high k h) (and-true (bit x (suc k)))
 
 -- ---- bits that are not set together in either of two words
 
@@ -127,12 +123,10 @@ module _ (w s : ℕ) (fits : w < 2 ^ 64) (fits_too : s < 2 ^ 64) where
       let small : together < 2 ^ 64 =
       or_lt 64 (bit_and (w * 2 % 2 ^ 64) w) (bit_and (s * 2 % 2 ^ 64) s)
       (omega (arith, and_le_r (w * 2 % 2 ^ 64) w)) (omega (arith, and_le_r (s * 2 % 2 ^ 64) s)) in
-      high-stays (flip together) k h
-      ∙ (bit-flip together (suc k) small h ∙ ap not (bit-or _ _ (suc k) ∙ ap₂ (λ a b. a || b) (both w) (both s)))
+      rw (high-stays (flip together) k h, bit-flip together (suc k) small h, bit-or, both w, both s) refl
     where
       both : (x : ℕ) → bit (bit_and (x * 2 % 2 ^ 64) x) (suc k) ≡ (bit x k && bit x (suc k))
-      both x = bit-and (x * 2 % 2 ^ 64) x (suc k) ∙ ap (λ t. t && bit x (suc k))
-          (bit-shl_on x 1 (suc k) (omega arith) h ∙ ap (bit x) (let e : suc k - 1 ≡ k = omega arith in e))
+      both x = let e : suc k - 1 ≡ k = omega arith in rw (bit-and, bit-shl_on x 1 (suc k) (omega arith) h, e) refl
 
 -- ---- bits after an offset
 
@@ -154,7 +148,7 @@ lowest_is x some small = let low = bit_at-trailing_zeros w64 x some small in
 -- The lowest bit is among the bits that can be set.
 pub lowest_in : (x w : ℕ) → 0 < x → x < 2 ^ 64 → ((k : ℕ) → w ≤ k → bit x k ≡ false) → count_trailing_zeros 64 x < w
 lowest_in x w some small none = elim (cases_lt (count_trailing_zeros 64 x) w)
-    [ inl near ↦ near | inr far ↦ absurd (true≢false (sym (lowest_is x some small).set ∙ none _ far)) ]
+    [ inl near ↦ near | inr far ↦ absurd (cc ((lowest_is x some small).set, none _ far)) ]
 
 -- The mask of w bytes from `at` on.
 module _ (p : ℕ → Bool) (bytes : List ℕ) (at w mask : ℕ) (inside : at + w ≤ length bytes)
@@ -218,9 +212,7 @@ module _ (x low : ℕ) (some : 0 < x) (lowest : IsLowest x low) where
 
   pub past_lowest-others : (k : ℕ) → low < k → bit (bit_and x (x - 1)) k ≡ bit x k
   unfolding bit
-  past_lowest-others k l =
-      bit-and x (x - 1) k
-      ∙ (ap (λ b. bit x k && b) (ap (λ n. n == 1) (above_pred low k x some set_at least_at l)) ∙ and_self (bit x k))
+  past_lowest-others k l = rw (bit-and, above_pred low k x some set_at least_at l) (and_self (bit x k))
 
 pub ruleset bit_lemmas = (
   run_edges-first,

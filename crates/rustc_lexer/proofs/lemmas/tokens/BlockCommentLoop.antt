@@ -1,6 +1,6 @@
 -- The loop over a block comment, from one star or slash to the next.
 use Rattle.std.proofs.Common.{◌≡◌, ◌≢◌, ℕ, suc, ◌+◌, ◌<◌, ◌==◌, Bool, true, false, List, [], ◌∷◌, ◌++◌, length, drop}
-use Rattle.std.proofs.Common.{refl, sym, ap, ◌∙◌, arith, length-append, subst, Option, Some, None, not}
+use Rattle.std.proofs.Common.{refl, ap, ◌∙◌, arith, length-append, Option, Some, None, not}
 use Rattle.std.specs.Str.{chars, IsUtf8}
 use Rattle.std.proofs.lemmas.{Bool.{and_parts, or_cases, or_parts, eqb-true, not-true, not-false}, Grind.{common_steps}}
 use Rattle.rustc_lexer.specs.{DocStyle, TokenKind, BlockComment, model.Least.{more}}
@@ -38,20 +38,18 @@ step : (text rest tail w : List ℕ) (depth to n : ℕ) → Commenting text rest
     → Commenting text tail to
 step text rest tail w depth to n at reads len cut e = record {
   utf8 = IsUtf8-cut n rest tail at.utf8 cut;
-  same = moved (out_of to (chars tail))
-      ∙ (ap (λ o. leaves o (w ++ chars tail) rest) (sym e)
-      ∙ (ap (λ cs. leaves (out_of depth cs) cs rest) (sym reads) ∙ at.same));
+  same = rw (moved (out_of to (chars tail)), ← e, ← reads) at.same;
 }
   where
     further : (m : ℕ) → past m tail ≡ past (n + m) rest
-    further m = ap (past m) cut ∙ past-past m n rest at.utf8
+    further m = rw cut (past-past m n rest at.utf8)
 
     moved : (o : Option ℕ) → leaves o (chars tail) tail ≡ leaves (more n o) (w ++ chars tail) rest
     moved None =
         let sum : n + length (chars tail) ≡ length (w ++ chars tail) =
         omega (arith, length-append w (chars tail), len) in
-        ap (λ xs. (false, xs)) (further (length (chars tail)) ∙ ap (λ m. past m rest) sum)
-    moved (Some m) = ap (λ xs. (true, xs)) (further m)
+        rw (further, sum) refl
+    moved (Some m) = rw (further m) refl
 
 -- Whether a character is neither a star nor a slash.
 abbrev pub is_other : ℕ → Bool
@@ -60,27 +58,26 @@ is_other c = not (is_byte2 42 47 c)
 -- All characters up to the next star or slash can be skipped.
 run_on : (text rest : List ℕ) (depth : ℕ) (cs : List ℕ) → 0 < depth → chars rest ≡ cs → Commenting text rest depth
     → Commenting text (past (run_len is_other cs) rest) depth
-run_on text rest depth [] some reads at = subst (λ xs. Commenting text xs depth) (sym (past-zero rest at.utf8)) at
+run_on text rest depth [] some reads at = rw (past-zero rest at.utf8) at
 run_on text rest depth (c ∷ cs) some reads at = by_either (is_other c)
     (λ e.
-    let left : chars (past 1 rest) ≡ cs = chars-past 1 rest at.utf8 ∙ ap (drop 1) reads in
-    let here : chars rest ≡ c ∷ chars (past 1 rest) = reads ∙ ap (λ xs. c ∷ xs) (sym left) in
+    let left : chars (past 1 rest) ≡ cs = rw reads at (chars-past 1 rest at.utf8) in
+    let here : chars rest ≡ c ∷ chars (past 1 rest) = cc in
     let p = or_parts (c == 42) (c == 47) (not-true _ e) in
     let next : Commenting text (past 1 rest) depth =
     step text rest (past 1 rest) (c ∷ []) depth depth 1 at here refl refl
     (out_of-plain depth c (chars (past 1 rest)) some (rw p.0 refl) (rw p.1 refl)) in
     let longer : 1 + run_len is_other cs ≡ run_len is_other (c ∷ cs) = rw e (omega arith) in
-    subst (λ xs. Commenting text xs depth) (past-past (run_len is_other cs) 1 rest at.utf8
-    ∙ ap (λ n. past n rest) longer) (run_on text (past 1 rest) depth cs some left next))
+    rw (← longer, ← past-past (run_len is_other cs) 1 rest at.utf8) (run_on text (past 1 rest) depth cs some left next))
     (λ e.
     let none : run_len is_other (c ∷ cs) ≡ 0 = rw e refl in
-    subst (λ xs. Commenting text xs depth) (sym (ap (λ n. past n rest) none ∙ past-zero rest at.utf8)) at)
+    rw (none, past-zero rest at.utf8) at)
 
 -- The loop at a star or a slash.
 module _ (text rest stop : List ℕ) (depth : ℕ) (some : 0 < depth) (at : Commenting text rest depth)
     (there : stop ≡ past (run_len is_other (chars rest)) rest) where
   pub at_stop : Commenting text stop depth
-  at_stop = subst (λ xs. Commenting text xs depth) (sym there) (run_on text rest depth (chars rest) some refl at)
+  at_stop = rw there (run_on text rest depth (chars rest) some refl at)
 
   pub open_at_end : chars stop ≡ [] → (false, stop) ≡ scanned (or_all comment_end) text
   open_at_end none = grind (arith, common_steps, past-zero, out_of-nil, at_stop)
@@ -109,13 +106,11 @@ module _ (text rest stop : List ℕ) (depth : ℕ) (some : 0 < depth) (at : Comm
         grind (
           arith,
           common_steps,
-          at_stop,
           g,
           chars-past 1 tail (IsUtf8-cut 1 stop tail (at_stop).utf8 cut),
           reads,
           e,
           begins-one b (chars tail) f,
-          (ap chars g ∙ chars-past 1 tail (IsUtf8-cut 1 stop tail (at_stop).utf8 cut)),
         )
 
     past_both : (past_pair : List ℕ) → past_pair ≡ past 1 tail → past_pair ≡ past 2 stop
@@ -126,29 +121,26 @@ module _ (text rest stop : List ℕ) (depth : ℕ) (some : 0 < depth) (at : Comm
     unfolding out_of
     closed_one past_pair less e f g h =
         step text stop past_pair (42 ∷ 47 ∷ []) depth less 2 at_stop (pair_reads 42 47 past_pair e f g) refl
-        (past_both past_pair g)
-        (ap (λ d. out_of d (42 ∷ 47 ∷ chars past_pair)) (sym h))
+        (past_both past_pair g) (rw (← h) refl)
 
     pub opened_one : (past_pair : List ℕ) (deeper : ℕ) → c ≢ 42 → begins (42 ∷ []) (chars tail) ≡ true
         → past_pair ≡ past 1 tail → deeper ≡ suc depth → Commenting text past_pair deeper
     opened_one past_pair deeper ne f g h =
         step text stop past_pair (47 ∷ 42 ∷ []) depth deeper 2 at_stop (pair_reads 47 42 past_pair (is_slash ne) f g)
         refl (past_both past_pair g)
-        (out_of-opening depth (chars past_pair) some ∙ ap (λ d. more 2 (out_of d (chars past_pair))) (sym h))
+        (rw h (out_of-opening depth (chars past_pair) some))
 
 pub closed : (text rest : List ℕ) (depth : ℕ) → Commenting text rest depth → depth ≡ 0
     → (true, rest) ≡ scanned (or_all comment_end) text
 unfolding out_of
-closed text rest depth at none = ap (λ xs. (true, xs)) (sym (past-zero rest at.utf8))
-    ∙ (ap (λ d. leaves (out_of d (chars rest)) (chars rest) rest) (sym none) ∙ at.same)
+closed text rest depth at none = rw (none, past-zero rest at.utf8) at at.same
 
 -- The style and the end determine the comment.
 pub comment : (text rest : List ℕ) (style : Option DocStyle) (terminated : Bool) → style ≡ block_doc_style (chars text)
     → (terminated, rest) ≡ scanned (or_all comment_end) text
     → (BlockComment style terminated, rest) ≡ scanned block_comment text
 comment text rest style terminated e f =
-    ap (λ (d : Option DocStyle). (BlockComment d terminated, rest)) e
-    ∙ (ap (λ (r : Bool × List ℕ). (BlockComment (block_doc_style (chars text)) r.0, r.1)) f
+    rw e (ap (λ (r : Bool × List ℕ). (BlockComment (block_doc_style (chars text)) r.0, r.1)) f
     ∙ by_end (comment_end (chars text)))
   where
     by_end : (o : Option ℕ)

@@ -1,15 +1,15 @@
 -- A buffer that is filled from the start with the tokens of a text.
-use Rattle.std.proofs.Common.{All, get_or, ◌≡◌, ℕ, zero, suc, ◌+◌, ◌-◌, ◌<◌, ◌≤◌, List, [], ◌∷◌, ◌++◌, length, map}
-use Rattle.std.proofs.Common.{take, drop, min, inl, inr, refl, sym, ap, ◌∙◌, arith, slice_set, length-drop}
+use Rattle.std.proofs.Common.{All, ◌≡◌, ℕ, zero, suc, ◌+◌, ◌-◌, ◌<◌, ◌≤◌, List, [], ◌∷◌, ◌++◌, length, map}
+use Rattle.std.proofs.Common.{take, drop, min, inl, inr, refl, ap, ◌∙◌, arith, slice_set, length-drop}
 use Rattle.std.proofs.lemmas.Bool.{cases_lt}
 use Rattle.std.proofs.lemmas.List.{take-append-drop, take_more_set, drop-set-lt, drop-drop, length-set, map-append}
 use Rattle.std.proofs.lemmas.{List.Elements.{All-head, All-tail}, Str.{IsCharBoundary-from_drop}}
 use Rattle.std.proofs.{Math.Nat.{min-eq_left, min-eq_right, min-le_right}, lemmas.Grind.{common_steps}}
 use Rattle.rustc_lexer.specs.{Token, Edition, FrontmatterAllowed}
-use Rattle.rustc_lexer.specs.Tokens.{IsFilledTo, state_past, bound, tokens_by, tokens_of, tokens_left, Partitions}
+use Rattle.rustc_lexer.specs.Tokens.{IsFilledTo, state_past, bound, tokens_by, tokens_left, Partitions}
 use Rattle.rustc_lexer.specs.Tokens.{TakesToken}
 use Rattle.rustc_lexer.specs.{model.Tokens.{IsFilled}, State.{State}, Classes.{IsText}, Locality.{IsGrammar}}
-use Rattle.rustc_lexer.specs.LanguageText.{Mode, part, mode_after, mode_edition, mode_in}
+use Rattle.rustc_lexer.specs.LanguageText.{Mode, part, mode_edition, mode_in}
 use Rattle.rustc_lexer.specs.{model.{Edition.{first_token_in}, Taking.{take_next}}, laws.Edition.{edition_grammar}}
 use Rattle.rustc_lexer.specs.laws.Cuts.{IsCutAt, at_bound, tokens-cons}
 use Rattle.rustc_lexer.proofs.lemmas.tokens.Progress.{IsOffset, next-from_drop, none_more, none_past}
@@ -37,8 +37,7 @@ module _ {X : Type 0} (written : Token → X) (tokens left : List Token) (buffer
 
 pub whole_buffer : {X : Type 0} (written : Token → X) (tokens : List Token) (buffer filled : List X) (count : ℕ)
     → IsWritten written tokens buffer filled count → filled ≡ map written (take count tokens) ++ drop count buffer
-whole_buffer written tokens buffer filled count is = sym (take-append-drop count filled)
-    ∙ (ap (λ l. l ++ drop count filled) is.front ∙ ap (λ l. map written (take count tokens) ++ l) is.back)
+whole_buffer written tokens buffer filled count is = cc (take-append-drop count filled)
 
 -- All tokens are written, so the buffer is filled.
 pub all_written : {X : Type 0} (written : Token → X) (tokens : List Token) (buffer filled : List X) (count : ℕ)
@@ -88,13 +87,8 @@ filled_all {first} law written text is end whole buffer filled count to = record
     | inl more ↦
         let far = to.all more in
         let n : length (tokens_by first text) ≤ count = none_past law text count is (omega (arith, whole)) in
-        let e : count ≡ length (tokens_by first text) = omega (arith, to.few) in
-        let m : length (tokens_by first text) ≤ length buffer = omega (arith, to.within) in
-        e ∙ sym (min-eq_right m)
-    | inr full ↦
-        let e : count ≡ length buffer = omega (arith, to.within) in
-        let m : length buffer ≤ length (tokens_by first text) = omega (arith, to.few) in
-        e ∙ sym (min-eq_left m)
+        omega (arith, to.few, to.within)
+    | inr full ↦ omega (arith, to.few, to.within)
   ];
   tokens = to.tokens;
 }
@@ -130,14 +124,14 @@ module _ (s at past : State) (count : ℕ) (token : Token) (there : at ≡ state
   more_is = omega arith
 
   pub next_is : drop count (tokens_left s) ≡ token ∷ tokens_left past
-  next_is = sym left ∙ takes.first
+  next_is = cc
 
   pub past_more : past ≡ state_past (count + 1) s
-  past_more = sym (ap (λ (r : Token × State). r.1) takes.advances)
-      ∙ (ap (λ (x : State). (take_next x).1) there ∙ sym (ap (λ n. state_past n s) more_is))
+  past_more =
+      let one : (take_next at).1 ≡ state_past (suc count) s = rw there refl in cc (takes.advances, one, more_is)
 
   pub left_more : tokens_left past ≡ drop (count + 1) (tokens_left s)
-  left_more = ap (drop 1) (sym next_is) ∙ drop-drop 1 count (tokens_left s)
+  left_more = rw (← drop-drop 1 count (tokens_left s), next_is) refl
 
   pub rest_more : at.rest ≡ drop (bound (tokens_left s) count) s.rest
       → past.rest ≡ drop (bound (tokens_left s) (count + 1)) s.rest
@@ -149,14 +143,13 @@ module _ (edition : Edition) (text : List ℕ) (is : IsText text) (s : State) (m
     (rest : s.rest ≡ text) (some : 0 < length text) where
   left_is : tokens_left s ≡ first_token_in edition text ∷ tokens_by (first_token_in edition)
       (drop (first_token_in edition text).len text)
-  left_is = ap (λ (m : Mode). tokens_of m s.rest) mode
-      ∙ (ap (tokens_of (part edition)) rest ∙ tokens-cons (edition_grammar edition) text is some)
+  left_is = rw (mode, rest) (tokens-cons (edition_grammar edition) text is some)
 
   pub token_taken : (t : State) (token : Token) → TakesToken s token t → token ≡ first_token_in edition text
-  token_taken t token takes = ap (λ (ts : List Token). get_or ts 0 token) (sym takes.first ∙ left_is)
+  token_taken t token takes = cc (takes.first, left_is)
 
   pub some_left : 0 < length (tokens_left s)
-  some_left = let long = ap (λ (ts : List Token). length ts) left_is in omega (arith, long)
+  some_left = rw left_is (omega arith)
 
 -- Holds if the first `count` tokens of a text in an edition are written, and all of them start before `end`.
 pub record IsFilling {X : Type 0} (form : Token → X) (edition : Edition) (text : List ℕ) (end : ℕ)
@@ -183,13 +176,9 @@ filled_more written edition text end buffer filled count s t token x is inside a
     token_taken edition (drop offset text) past s at.mode at.rest (omega (arith, here, length-drop offset text)) t
     token takes in
     record {
-      mode = takes.mode ∙ ap (λ (m : Mode). mode_after m token.kind) at.mode;
-      rest = takes.rest
-          ∙ (ap (drop token.len) at.rest
-          ∙ (drop-drop token.len offset text
-          ∙ ap (λ n. drop n text)
-          (ap (λ (t : Token). offset + t.len) token_is ∙ next_offset law text is count offset refl here)));
-      written = one_written written (tokens_by first text) _ buffer filled count (first (drop offset text)) at.written
+      mode = rw at.mode at takes.mode;
+      rest = cc (takes.rest, drop-drop token.len offset text, next_offset law text is count offset refl here);
+      written = one_written written _ _ buffer filled count _ at.written
           (next_token law text is count offset refl here) room x (e ∙ ap written token_is);
       begun = begun_more (tokens_by first text) count offset end refl early at.begun;
     }

@@ -1,6 +1,6 @@
 -- A search in bytes finds the end of a run, if only ASCII characters stop the class.
-use Rattle.std.proofs.Common.{◌≡◌, ℕ, ◌+◌, ◌<◌, ◌≤◌, ◌==◌, ◌||◌, ◌&&◌, not, cond, Bool, true, false, true≢false, List}
-use Rattle.std.proofs.Common.{[], ◌∷◌, ◌++◌, append-nil, length, drop, get_or, refl, sym, ap, ap₂, ◌∙◌, arith, inl, inr}
+use Rattle.std.proofs.Common.{◌≡◌, ℕ, ◌+◌, ◌<◌, ◌≤◌, ◌==◌, ◌||◌, ◌&&◌, not, cond, Bool, true, false, List}
+use Rattle.std.proofs.Common.{[], ◌∷◌, ◌++◌, append-nil, length, drop, get_or, refl, sym, ap, ◌∙◌, arith, inl, inr}
 use Rattle.std.proofs.Common.{drop-drop, map, bit_or, Some, None}
 use Rattle.std.specs.{Char.{encode_utf8}, List.{position_or_len, prefix_len}, Str.{chars, encode_utf8_all, IsUtf8}}
 use Rattle.std.proofs.Math.ListN.{drop_of_length-le}
@@ -27,9 +27,7 @@ module _ (stops : ℕ → Bool) (small : (b : ℕ) → stops b ≡ true → b < 
       (λ k l. not_from_false _ (false_from_ne_true _ (λ e. inside k l e))) (λ l. absurd (omega arith))
     where
       inside : (k : ℕ) → k < length (encode_utf8 c) → stops (get_or (encode_utf8 c) k 0) ≡ true → ⊥
-      inside k l e = true≢false
-          (sym e ∙ (ap stops (sym (inside_one c [] (encode_utf8 c) k (sym (append-nil (encode_utf8 c))) l (small _ e)))
-          ∙ f))
+      inside k l e = cc (inside_one c [] (encode_utf8 c) k (sym (append-nil (encode_utf8 c))) l (small _ e))
 
   char_past : (c : ℕ) (rest : List ℕ) → stops c ≡ false
       → drop (position_or_len stops (encode_utf8 c ++ rest)) (encode_utf8 c ++ rest) ≡ drop
@@ -38,23 +36,23 @@ module _ (stops : ℕ → Bool) (small : (b : ℕ) → stops b ≡ true → b < 
       let n : position_or_len stops (encode_utf8 c ++ rest) ≡ length (encode_utf8 c) + position_or_len stops rest =
       prefix_len-append others
       (encode_utf8 c) rest ∙ cond-true _ _ _ (eq-eqb _ _ (char_passes c f)) in
-      ap (λ k. drop k (encode_utf8 c ++ rest)) n
-      ∙ (sym (drop-drop (position_or_len stops rest) (length (encode_utf8 c)) (encode_utf8 c ++ rest))
-      ∙ ap (drop (position_or_len stops rest)) (drop-append_seam (encode_utf8 c) rest))
+      cc (
+        drop-drop (position_or_len stops rest) (length (encode_utf8 c)) (encode_utf8 c ++ rest),
+        drop-append_seam (encode_utf8 c) rest,
+      )
 
   by_chars : (cs : List ℕ) → past_run others cs ≡ drop (position_or_len stops (encode_utf8_all cs)) (encode_utf8_all cs)
   by_chars [] = refl
   by_chars (c ∷ cs) = by_either (stops c)
       (λ f. past_run-out others c cs (not_from_true (stops c) f) ∙ rw (encode_ascii c (small c f), f) refl)
-      (λ f. past_run-in others c cs (not_from_false (stops c) f)
-      ∙ (by_chars cs ∙ sym (char_past c (encode_utf8_all cs) f)))
+      (λ f. rw (char_past c (encode_utf8_all cs) f)
+      (past_run-in others c cs (not_from_false (stops c) f) ∙ by_chars cs))
 
   pub up_to : (text : List ℕ) (n : ℕ) → IsUtf8 text → position_or_len stops text ≡ n
       → past (run_len others (chars text)) text ≡ drop n text
   unfolding past
   up_to text n is at =
-      by_chars (chars text) ∙ ap₂ (λ k xs. drop k xs) (ap (position_or_len stops) (encodes-chars text is) ∙ at)
-      (encodes-chars text is)
+      rw (encodes-chars text is, at) at (by_chars (chars text))
 
 pub byte_small : (stop b : ℕ) → stop < 128 → is_byte stop b ≡ true → b < 128
 byte_small stop b l e = omega (arith, eqb-true b stop e)
@@ -65,8 +63,8 @@ begins-byte w0 w1 = grind (arith, common_steps)
 
 pub begins_small : (stop : ℕ) (text : List ℕ) → stop < 128 → IsUtf8 text → begins (stop ∷ []) (chars text) ≡
     next_is (is_byte stop) text
-begins_small stop text small is = sym (begins-byte stop (chars text))
-    ∙ next_byte (is_byte stop) (λ b e. byte_small stop b small e) text is
+begins_small stop text small is =
+    rw (← begins-byte) (next_byte (is_byte stop) (λ b e. byte_small stop b small e) text is)
 
 -- A text starts with two characters if it starts with the first, and its rest with the second.
 pub begins_two : (a b : ℕ) (text tail : List ℕ) → IsUtf8 text → tail ≡ past 1 text → begins (a ∷ b ∷ []) (chars text) ≡
@@ -77,16 +75,14 @@ pub byte2_small : (one two b : ℕ) → one < 128 → two < 128 → is_byte2 one
 byte2_small one two b l m e =
     elim (or_cases (b == one) (b == two) e) [
       | inl f ↦ omega (arith, eqb-true b one f)
-      | inr f ↦
-          omega (arith, eqb-true b two f)
+      | inr f ↦ omega (arith, eqb-true b two f)
     ]
 
 -- A search that finds a byte ends there, and a search that finds none ends at the end of the text.
 pub found_at : (stops : ℕ → Bool) (text bytes : List ℕ) (n : ℕ) → bytes ≡ text → IsFirstByte stops bytes (Some n)
     → position_or_len stops text ≡ n
-found_at stops text bytes n read h = ap (position_or_len stops) (sym read)
-    ∙ position_or_len_is stops bytes n 0 (omega arith)
-    (λ k l. false_from_ne_true _ (h.0.before k (omega arith) l)) (λ l. h.1)
+found_at stops text bytes n read h = rw (← read) (position_or_len_is stops bytes n 0 (omega arith)
+    (λ k l. false_from_ne_true _ (h.0.before k (omega arith) l)) (λ l. h.1))
 
 pub found_nowhere : (stops : ℕ → Bool) (small : (b : ℕ) → stops b ≡ true → b < 128) (text bytes : List ℕ) → IsUtf8 text
     → bytes ≡ text → IsFirstByte stops bytes None → [] ≡ past (run_len (others stops small) (chars text)) text
@@ -94,8 +90,7 @@ found_nowhere stops small text bytes is read h =
     let none : position_or_len stops bytes ≡ length bytes =
     position_or_len_is stops bytes (length bytes) 0 (omega arith)
     (λ k l. false_from_ne_true _ (h k (omega arith) l)) (λ l. absurd (omega arith)) in
-    sym (up_to stops small text (length bytes) is (ap (position_or_len stops) (sym read) ∙ none)
-    ∙ drop_of_length-le text (omega (arith, ap length read)))
+    sym (up_to stops small text (length bytes) is (cc) ∙ drop_of_length-le text (omega (arith, ap length read)))
 
 -- ---- reading the first n bytes
 
@@ -110,10 +105,9 @@ in_first stops bytes n found few le mask some =
       record {
         low = omega arith;
         high = omega arith;
-        before = λ k from to e. true≢false (sym e ∙ (sym (at k (omega arith)) ∙ low.1.least k to));
+        before = λ k from to e. cc (at k (omega arith), low.1.least k to);
       },
-      sym
-          (at _ low.0) ∙ low.1.set,
+      cc (at _ low.0, low.1.set),
     )
 
 -- A lane is set if one of two tests passes.

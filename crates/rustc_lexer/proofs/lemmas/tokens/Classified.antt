@@ -1,6 +1,6 @@
 -- The ends of runs that an iterator has found after its offset, and the tokens that they determine.
 use Rattle.std.proofs.lemmas.Grind.{common_steps}
-use Rattle.std.proofs.Common.{◌≡◌, ℕ, ◌+◌, ◌-◌, ◌<◌, List, length, drop, take, sym, ap, subst, ◌∙◌, arith}
+use Rattle.std.proofs.Common.{◌≡◌, ℕ, ◌+◌, ◌-◌, ◌<◌, List, length, drop, take, arith}
 use Rattle.std.specs.Str.{IsUtf8}
 use Rattle.std.proofs.lemmas.List.{take_rest}
 use Rattle.rustc_lexer.specs.{Edition, FrontmatterAllowed, Token, No, LanguageText.{mode_in}}
@@ -15,7 +15,7 @@ found_at text at m are = grind (arith, common_steps)
 
 -- The remaining text is a slice of the bytes.
 pub left_is : (text bytes : List ℕ) (at : ℕ) → bytes ≡ text → take (length bytes - at) (drop at bytes) ≡ drop at text
-left_is text bytes at e = take_rest bytes at ∙ ap (drop at) e
+left_is text bytes at e = rw e (take_rest text at)
 
 -- The iterator returns the token that the ends determine.
 module _ (allowed : FrontmatterAllowed) (edition : Edition) (text : List ℕ) (s : State) (old new : Ahead)
@@ -29,7 +29,7 @@ module _ (allowed : FrontmatterAllowed) (edition : Edition) (text : List ℕ) (s
   -- If they determine no token, the remaining text is unchanged.
   module _ (says : IsUnclassified text old new) where
     pub still : state 0 (drop new.at text) (mode_in allowed edition) ≡ s
-    still = subst (λ p. state 0 (drop p text) (mode_in allowed edition) ≡ s) (sym says.at) view
+    still = rw says.at view
 
     pub takes_left : (bytes left : List ℕ) (past : ℕ) (token : Token) → IsUtf8 bytes → bytes ≡ text
         → left ≡ drop new.at text → new.at < length text
@@ -37,7 +37,6 @@ module _ (allowed : FrontmatterAllowed) (edition : Edition) (text : List ℕ) (s
         → TakesToken s token (state 0 (drop past text) (mode_in allowed edition))
     takes_left bytes left past token is same e some never first o =
         takes_part allowed edition text new.at s never still past token record
-        { utf8 = subst IsUtf8 same is; fits = says.tells.fits }
-        says.tells.bound some (first ∙ ap (first_token_in edition) e) o
+        { utf8 = rw same at is; fits = says.tells.fits } says.tells.bound some (rw e at first) o
 
 pub ruleset classified_lemmas = (takes_classified, still)

@@ -1,7 +1,6 @@
 -- The family of a character: from the table for ASCII, and from the classes for other characters.
-use Rattle.std.proofs.Common.{◌≡◌, ℕ, ◌<◌, ◌≤◌, ◌==◌, not, true, false, true≢false, List, [], ◌∷◌, get_or, refl, sym}
-use Rattle.std.proofs.Common.{ap, ◌∙◌, arith}
-use Rattle.std.specs.Str.{chars}
+use Rattle.std.proofs.Common.{◌≡◌, ℕ, ◌<◌, ◌≤◌, ◌==◌, not, true, false, List, [], ◌∷◌, get_or, refl, sym}
+use Rattle.std.proofs.Common.{◌∙◌, arith}
 use Rattle.std.proofs.lemmas.{Bool.{ne_eqb}, List.FromFn.{get_or-map-range_with_len}}
 use Rattle.unicode_ident.specs.Ident.{is_xid_start}
 use Rattle.unicode_ident.proofs.Computing.{unicode_ident}
@@ -15,8 +14,7 @@ use Rattle.rustc_lexer.specs.{model.Scan.{scanned}, laws.Scan.{scanned-same}}
 pub by_family : (f : Family) (c : ℕ) (tail : List ℕ) (read : TokenKind × List ℕ) → f ≡ family_of c
     → read ≡ scanned (read_by f c) tail → read ≡ scanned (past_first c) tail
 unfolding past_first
-by_family f c tail read g e =
-    e ∙ sym (scanned-same (past_first c) (read_by f c) tail (ap (λ h. read_by h c (chars tail)) (sym g)))
+by_family f c tail read g e = e ∙ sym (scanned-same (past_first c) (read_by f c) tail (rw g refl))
 
 -- ---- the table of families
 
@@ -34,7 +32,7 @@ no_start d e = among (λ x. not (is_xid_start x))
 
 no_space : (c : ℕ) → is_xid_start c ≡ true → is_whitespace c ≡ false
 no_space c e = by_either (is_whitespace c)
-    (λ f. absurd (true≢false (sym (no_start c f) ∙ ap not e)))
+    (λ f. absurd (cc (no_start c f)))
     (λ f. f)
 
 module _ (c : ℕ) (wide : 128 ≤ c) where

@@ -1,9 +1,9 @@
 -- The iterator after `Tokens::fill`, from the clauses `count` and `state` and the contract of `as_str`.
-use Rattle.std.proofs.Common.{◌≡◌, ℕ, zero, suc, ◌+◌, ◌<◌, ◌≤◌, [], length, drop, min, refl, sym, ap, subst, ◌∙◌, arith}
+use Rattle.std.proofs.Common.{◌≡◌, ℕ, zero, suc, ◌+◌, ◌<◌, ◌≤◌, length, drop, min, refl, arith}
 use Rattle.std.proofs.Common.{length-drop, pos_of_ne-zero}
 use Rattle.std.proofs.{lemmas.{List.{nil_from_length}, Str.{IsUtf8-drop}}, Math.Nat.{min-le_right}}
-use Rattle.rustc_lexer.specs.{Token, Classes.{IsText}, LanguageText.{Mode, mode_edition}, State.{State}}
-use Rattle.rustc_lexer.specs.Tokens.{advance, bound, state_past, tokens_left, tokens_of, TakesToken}
+use Rattle.rustc_lexer.specs.{Token, Classes.{IsText}, LanguageText.{mode_edition}, State.{State}}
+use Rattle.rustc_lexer.specs.Tokens.{advance, bound, state_past, tokens_left, TakesToken}
 use Rattle.rustc_lexer.specs.{model.Taking.{token_at}, laws.State.{edition-after, past_token}}
 use Rattle.rustc_lexer.specs.laws.Tokens.{partitions, tokens-nil}
 use Rattle.rustc_lexer.proofs.lemmas.tokens.{Buffers.{left_more, rest_more, shorter_left}, Progress.{none_more}}
@@ -24,26 +24,22 @@ is_past s is none (suc count) few =
     let at : State = state_past count s in
     let token : Token = token_at at.mode at.rest in
     let some : 0 < length at.rest = pos_of_ne-zero (λ zero.
-    let none_left : tokens_left at ≡ [] = ap (tokens_of at.mode) (nil_from_length at.rest zero) ∙ tokens-nil at.mode in
-    let all = none_more (tokens_left s) count (sym before.left ∙ none_left) in omega (arith, all, few)) in
+    let all = none_more (tokens_left s) count (cc (before.left, nil_from_length at.rest zero, tokens-nil at.mode)) in
+    omega (arith, all, few)) in
     let first : TakesToken at token (past_token at.rest at.mode token) = takes_first at
     (past_token at.rest at.mode token) token before.pending before.text some refl refl in
-    let next_is : (advance at).1 ≡ past_token at.rest at.mode token = ap (λ (r : Token × State). r.1) first.advances in
-    let takes : TakesToken at token (state_past (suc count) s) =
-    subst (λ (x : State). TakesToken at token x) (sym next_is) first in
+    let next_is : (advance at).1 ≡ past_token at.rest at.mode token = cc (first.advances) in
+    let takes : TakesToken at token (state_past (suc count) s) = rw next_is first in
     let more : count + 1 ≡ suc count = omega arith in
     record {
-      text = subst IsText (sym takes.rest)
-          (record {
-            utf8 = IsUtf8-drop at.rest token.len before.text.utf8 takes.boundary;
-            fits = let fits = before.text.fits in omega (arith, length-drop token.len at.rest, fits);
-          });
-      pending = ap (λ (x : State). x.pending) next_is;
-      left = left_more s at (state_past (suc count) s) count token refl before.left takes
-          ∙ ap (λ n. drop n (tokens_left s)) more;
-      rest = rest_more s at (state_past (suc count) s) count token refl before.left takes before.rest
-          ∙ ap (λ n. drop (bound (tokens_left s) n) s.rest) more;
-      edition = ap (λ (m : Mode). mode_edition m) takes.mode ∙ (edition-after at.mode token.kind ∙ before.edition);
+      text = rw takes.rest record {
+        utf8 = IsUtf8-drop at.rest token.len before.text.utf8 takes.boundary;
+        fits = omega (arith, length-drop token.len at.rest, before.text.fits);
+      };
+      pending = rw next_is refl;
+      left = rw more at (left_more s at (state_past (suc count) s) count token refl before.left takes);
+      rest = rw more at (rest_more s at (state_past (suc count) s) count token refl before.left takes before.rest);
+      edition = cc (takes.mode, edition-after at.mode token.kind, before.edition);
     }
 
 -- Holds if `fill` turned the iterator `s` into `t`: it returned `count` tokens, with room for `room` tokens in its
@@ -61,12 +57,12 @@ pub past_fill : (s t : State) (room count : ℕ) → IsText s.rest → s.pending
 past_fill s t room count is none as_many past =
     let few : count ≤ length (tokens_left s) = omega (arith, as_many, min-le_right room (length (tokens_left s))) in
     let all = is_past s is none count few in
-    let cut : t.rest ≡ drop (bound (tokens_left s) count) s.rest = ap (λ (x : State). x.rest) past ∙ all.rest in
+    let cut : t.rest ≡ drop (bound (tokens_left s) count) s.rest = rw past all.rest in
     record {
-      text = subst (λ (x : State). IsText x.rest) (sym past) all.text;
-      pending = ap (λ (x : State). x.pending) past ∙ all.pending;
-      tokens = ap tokens_left past ∙ all.left;
+      text = rw past all.text;
+      pending = rw past all.pending;
+      tokens = rw past all.left;
       rest = cut;
-      edition = ap (λ (x : State). mode_edition x.mode) past ∙ all.edition;
+      edition = rw past all.edition;
       progress = shorter_left s.rest t.rest (tokens_left s) (partitions s.rest s.mode is) room count as_many cut;
     }

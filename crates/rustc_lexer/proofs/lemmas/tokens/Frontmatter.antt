@@ -1,5 +1,5 @@
 -- A frontmatter opens, or the text has another token there.
-use Rattle.std.proofs.Common.{◌≡◌, ℕ, ◌==◌, true, false, List, [], ◌∷◌, drop, refl, sym, ap, ◌∙◌, arith}
+use Rattle.std.proofs.Common.{◌≡◌, ℕ, ◌==◌, true, false, List, [], ◌∷◌, drop, refl, sym, ◌∙◌, arith}
 use Rattle.std.specs.{List.{starts_with}, Str.{chars, IsUtf8}}
 use Rattle.std.proofs.lemmas.{Bool.{eqb-true}, Grind.{common_steps}}
 use Rattle.unicode_ident.proofs.Computing.{unicode_ident}
@@ -50,18 +50,13 @@ module _ (edition : Edition) (text : List ℕ) (is : IsUtf8 text) where
       (λ w.
       let at : token ≡ record { kind = Whitespace; len = bytes_of (spaces_len (chars text)) (chars text) } =
       is_first ∙ token-space c s e w in
-      let none = no_space (ap (λ (t : Token). t.kind) at) in
-      let len : token.len ≡ bytes_of (spaces_len (chars text)) (chars text) = ap (λ (t : Token). t.len) at in
-      let begins_none : begins (fence 3) (drop (spaces_len (chars text)) (chars text)) ≡ false =
-      sym (dashes (spaces_len (chars text)))
-      ∙ (ap (λ n. starts_with (λ x y. x == y) (drop n text) (fence 3)) (sym len) ∙ none) in
-      opens-none (c ∷ s) (ap (λ (cs : List ℕ). begins (fence 3) (drop (spaces_len cs) cs)) (sym e) ∙ begins_none))
+      let none = rw (at, dashes) at (no_space (rw at refl)) in
+      opens-none (c ∷ s) (rw e at none))
       (λ w. by_either (is_dash c)
       (λ d.
-      let at : chars text ≡ 45 ∷ s = e ∙ ap (λ (b : ℕ). b ∷ s) (eqb-true c 45 d) in
-      let none = no_dash (ap (λ (t : Token). t.kind) (is_first ∙ token-dash s at)) in
-      let begins_none : begins (fence 3) (chars text) ≡ false = sym (dashes 0) ∙ none in
-      opens-none (c ∷ s) (rw w (ap (begins (fence 3)) (sym e) ∙ begins_none)))
+      let at : chars text ≡ 45 ∷ s = cc (eqb-true c 45 d) in
+      let none = no_dash (rw (is_first, token-dash s at) refl) in
+      opens-none (c ∷ s) (rw w (rw e at (sym (dashes 0) ∙ none))))
       (λ d. opens-other (c ∷ s) (rw (d, w) refl)))
 
   pub opens_not : (token : Token) → token ≡ first_token_in edition text

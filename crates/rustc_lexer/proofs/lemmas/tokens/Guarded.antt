@@ -1,9 +1,9 @@
 -- Guarded strings: the part of a text that is read.
 use Rattle.std.proofs.Common.{◌≡◌, ℕ, suc, ◌+◌, ◌-◌, Bool, true, false, if◌then◌else◌, List, [], ◌∷◌, length, drop, sym}
-use Rattle.std.proofs.Common.{ap, ◌∙◌, arith, subst, Option, Some, None}
+use Rattle.std.proofs.Common.{ap, ◌∙◌, arith, Option, Some, None}
 use Rattle.std.specs.Str.{chars, IsUtf8, IsCharBoundary}
 use Rattle.std.proofs.lemmas.{Str.{IsCharBoundary-from_drop}, Grind.{common_steps}}
-use Rattle.rustc_lexer.specs.{GuardedStr, model.Guarded.{guarded_body, string_past, guarded_by, take_guarded}}
+use Rattle.rustc_lexer.specs.{model.Guarded.{guarded_body, string_past, guarded_by, take_guarded}}
 use Rattle.rustc_lexer.specs.model.{Raw.{hash_run, is_quote}, Scan.{after, begins, bytes_of, next_is, past, scanned}}
 use Rattle.rustc_lexer.specs.{LanguageText.{Mode}, State.{State}}
 use Rattle.rustc_lexer.specs.laws.Past.{past-past, past-drop, chars-past, IsUtf8-past, length-past}
@@ -17,7 +17,7 @@ module _ (rest front : List ℕ) (n : ℕ) (is : IsUtf8 rest) (count : n ≡ has
   front_is = cut ∙ hash_cut rest is n (omega arith)
 
   quote_next : next_is is_quote (drop n (chars rest)) ≡ begins (34 ∷ []) (chars front)
-  quote_next = sym (ap (next_is is_quote) (ap chars front_is ∙ chars-past n rest is)) ∙ begins-byte 34 (chars front)
+  quote_next = cc (front_is, chars-past n rest is, begins-byte 34 (chars front))
 
   abbrev body_read : Bool × ℕ
   body_read = guarded_body n (drop (suc n) (chars rest))
@@ -26,13 +26,13 @@ module _ (rest front : List ℕ) (n : ℕ) (is : IsUtf8 rest) (count : n ≡ has
   chosen b = if b then Some (body_read.0, bytes_of (suc n + body_read.1) (chars rest)) else None
 
   pub no_string : begins (34 ∷ []) (chars front) ≡ false → None ≡ string_past n (chars rest)
-  no_string e = sym (ap chosen (quote_next ∙ e))
+  no_string e = rw (quote_next, e)
 
   module _ (body left : List ℕ) (closed : Bool) (body_cut : body ≡ past 1 front)
       (read : (closed, left) ≡ scanned (guarded_body n) body) where
     body_is : body ≡ past (suc n) rest
     body_is = let one : n + 1 ≡ suc n = omega arith in
-        body_cut ∙ (ap (past 1) front_is ∙ (past-past 1 n rest is ∙ ap (λ (k : ℕ). past k rest) one))
+        cc (front_is, past-past 1 n rest is)
 
     whole_is : (closed, left) ≡ scanned (after (suc n) (guarded_body n)) rest
     whole_is = read ∙ sym (scanned-after (suc n) (guarded_body n) rest body is body_is)
@@ -44,8 +44,7 @@ module _ (rest front : List ℕ) (n : ℕ) (is : IsUtf8 rest) (count : n ≡ has
     pub string_boundary : IsCharBoundary rest (length rest - length left)
     string_boundary =
         IsCharBoundary-from_drop rest (length rest - length left) (omega arith)
-        (subst IsUtf8 (past-drop (suc n + body_read.1) rest is ∙ ap (λ (k : ℕ). drop k rest) taken_is)
-        (IsUtf8-past (suc n + body_read.1) rest is))
+        (rw (past-drop (suc n + body_read.1) rest is, taken_is) at (IsUtf8-past (suc n + body_read.1) rest is))
 
     pub string_here : begins (34 ∷ []) (chars front) ≡ true → Some (closed, length rest - length left) ≡
         string_past n (chars rest)
@@ -55,7 +54,7 @@ module _ (rest front : List ℕ) (n : ℕ) (is : IsUtf8 rest) (count : n ≡ has
 module _ (pending : ℕ) (left : List ℕ) (mode : Mode) (s : State) (rest : List ℕ) (view : state pending left mode ≡ s)
     (offset : rest ≡ s.rest) (n : ℕ) (count : n ≡ hash_run (chars rest)) where
   here : rest ≡ left
-  here = offset ∙ sym (ap (λ (x : State). x.rest) view)
+  here = rw (← view) at offset
 
   abbrev here_is : State
   here_is = state pending rest mode
@@ -65,9 +64,7 @@ module _ (pending : ℕ) (left : List ℕ) (mode : Mode) (s : State) (rest : Lis
   guarded-is o read = grind (arith, common_steps)
 
   pub none_here : None ≡ string_past n (chars rest) → take_guarded s ≡ (None, state (pending + n) (drop n left) mode)
-  none_here read =
-      guarded-is None read
-      ∙ ap (λ (xs : List ℕ). let r : Option GuardedStr × State = (None, state (pending + n) (drop n xs) mode) in r) here
+  none_here read = rw (← here) (guarded-is None read)
 
   pub some_here : (closed : Bool) (t : ℕ) → Some (closed, t) ≡ string_past n (chars rest)
       → take_guarded s ≡

@@ -1,7 +1,7 @@
 -- A hash, decided by the byte after it.
-use Rattle.std.proofs.Common.{◌≡◌, ◌≢◌, ℕ, ◌<◌, ◌≤◌, Bool, drop, refl, subst, true, false, true≢false, List, [], ◌∷◌}
-use Rattle.std.proofs.Common.{◌++◌, length, sym, ap, ◌∙◌, arith}
-use Rattle.std.specs.Str.{encode_utf8_all, IsCharBoundary, IsUtf8}
+use Rattle.std.proofs.Common.{◌≡◌, ◌≢◌, ℕ, ◌<◌, ◌≤◌, Bool, refl, true, false, List, [], ◌∷◌}
+use Rattle.std.proofs.Common.{length, ap, arith}
+use Rattle.std.specs.Str.{IsUtf8}
 use Rattle.std.proofs.lemmas.Bool.{eqb-true, or_cases}
 use Rattle.std.proofs.lemmas.Str.{chars-nil, encode_ascii, encodes-chars, IsCharBoundary-from_drop}
 use Rattle.std.proofs.lemmas.Grind.{common_steps}
@@ -25,31 +25,28 @@ hash-code : (c : ℕ) → family_of c ≡ Hash → c ≡ 35
 hash-code c e = grind arith
 
 -- The first byte decides that a text does not start with a hash.
-pub no_hash : (text : List ℕ) (b : ℕ) (rest : List ℕ) → IsUtf8 text → text ≡ b ∷ rest → family_of b ≢ Hash
+pub no_hash : {text : List ℕ} {b : ℕ} {rest : List ℕ} → IsUtf8 text → text ≡ b ∷ rest → family_of b ≢ Hash
     → BeginsWithNoHash text
-no_hash text b rest is e other first cs read family =
+no_hash {text} {b} {rest} is e other first cs read family =
     let code : first ≡ 35 = hash-code first family in
-    let whole : b ∷ rest ≡ first ∷ encode_utf8_all cs =
-    sym e ∙ (sym (encodes-chars text is)
-    ∙ (ap encode_utf8_all read ∙ ap (λ (xs : List ℕ). xs ++ encode_utf8_all cs)
-    (encode_ascii first (omega arith)))) in
-    let same : first ≡ b = cc in
-    other (ap family_of (sym same) ∙ family)
+    let whole = rw (read, encode_ascii first (omega arith)) at (encodes-chars text is) in
+    let same : b ≡ first = cc in
+    other (rw same family)
 
-pub no_hash-wide : (text : List ℕ) (b : ℕ) (rest : List ℕ) → IsUtf8 text → text ≡ b ∷ rest → 128 ≤ b
+pub no_hash-wide : {text : List ℕ} {b : ℕ} {rest : List ℕ} → IsUtf8 text → text ≡ b ∷ rest → 128 ≤ b
     → BeginsWithNoHash text
-no_hash-wide text b rest is e wide = no_hash text b rest is e (λ family. let code = hash-code b family in omega arith)
+no_hash-wide {b = b} is e wide = no_hash is e (λ family. let code = hash-code b family in omega arith)
 
 pub no_hash-empty : (text : List ℕ) → length text ≡ 0 → BeginsWithNoHash text
 no_hash-empty text w1 = grind (arith, common_steps, first, chars-nil)
 
 -- A hash before a quote or a hash is the prefix of a guarded string.
-pub prefix_first : (text : List ℕ) (b : ℕ) (rest : List ℕ) → IsUtf8 text → text ≡ b ∷ rest → b < 128
+pub prefix_first : {text : List ℕ} {b : ℕ} (rest : List ℕ) → IsUtf8 text → text ≡ b ∷ rest → b < 128
     → Hash ≡ family_of b → next_is opens_guarded rest ≡ true
     → IsFirstToken text record { kind = GuardedStrPrefix; len = 2 }
-prefix_first text b [] is e small family opens = absurd (true≢false (sym opens))
-prefix_first text b (d ∷ ds) is e small family opens =
-    first text b (d ∷ ds) GuardedStrPrefix 1 is e small (omega arith) decided
+prefix_first [] is e small family opens = absurd (cc)
+prefix_first {text} {b} (d ∷ ds) is e small family opens =
+    first is e small GuardedStrPrefix 1 (omega arith) decided
   where
     decided : IsUtf8 (d ∷ ds) → (GuardedStrPrefix, ds) ≡ scanned (past_first b) (d ∷ ds)
     decided inner =
@@ -61,29 +58,20 @@ prefix_first text b (d ∷ ds) is e small family opens =
           past-ascii d ds inner (opens_guarded-small d opens),
         ))
 
-pub pound_first : (text : List ℕ) (b : ℕ) (rest : List ℕ) → IsUtf8 text → text ≡ b ∷ rest → b < 128 → Hash ≡ family_of b
-    → next_is opens_guarded rest ≡ false → IsFirstToken text record { kind = Pound; len = 1 }
-pound_first text b rest is e small family none = first text b rest Pound 0 is e small (omega arith) decided
-  where
-    decided : IsUtf8 rest → (Pound, rest) ≡ scanned (past_first b) rest
-    decided inner = by_family Hash b rest _ family
-        (grind (arith, common_steps, next_byte opens_guarded opens_guarded-small rest inner, past-zero rest inner))
+module _ {text : List ℕ} {b : ℕ} {rest : List ℕ} (is : IsUtf8 text) (e : text ≡ b ∷ rest) (small : b < 128)
+    (family : Hash ≡ family_of b) where
+  -- A hash before any other character is a token of one byte, in each edition.
+  pub hash_alone : (guards : Bool) → next_is opens_guarded rest ≡ false
+      → IsFirstBy guards text record { kind = Pound; len = 1 }
+  hash_alone guards none = first_by guards text _ (first is e small Pound 0 (omega arith) decided) refl
+    where
+      decided : IsUtf8 rest → (Pound, rest) ≡ scanned (past_first b) rest
+      decided inner = by_family Hash b rest _ family
+          (grind (arith, common_steps, next_byte opens_guarded opens_guarded-small rest inner, past-zero rest inner))
 
--- A hash before any other character is a token of one byte, in each edition.
-pub hash_alone : (guards : Bool) (text : List ℕ) (b : ℕ) (rest : List ℕ) → IsUtf8 text → text ≡ b ∷ rest → b < 128
-    → Hash ≡ family_of b → next_is opens_guarded rest ≡ false → IsFirstBy guards text record { kind = Pound; len = 1 }
-hash_alone guards text b rest is e small family none =
-    first_by guards text _ (pound_first text b rest is e small family none) refl
-
-pub hash_older : (text : List ℕ) (b : ℕ) (rest : List ℕ) → IsUtf8 text → text ≡ b ∷ rest → b < 128 → Hash ≡ family_of b
-    → IsFirstBy false text record { kind = Pound; len = 1 }
-hash_older text b rest is e small family =
-    by_either (next_is opens_guarded rest)
-    (λ opens. pound_by text (prefix_first text b rest is e small family opens) past)
-    (λ none. hash_alone false text b rest is e small family none)
-  where
-    past : IsCharBoundary text 1
-    past =
-        let inner : IsUtf8 rest = IsUtf8-ascii b rest (subst IsUtf8 e is) small in
-        let left : rest ≡ drop 1 text = ap (drop 1) (sym e) in
-        IsCharBoundary-from_drop text 1 (omega (arith, ap length e)) (subst IsUtf8 left inner)
+  pub hash_older : IsFirstBy false text record { kind = Pound; len = 1 }
+  hash_older =
+      by_either (next_is opens_guarded rest)
+      (λ opens. pound_by text (prefix_first rest is e small family opens)
+      (IsCharBoundary-from_drop text 1 (omega (arith, ap length e)) (rw e (IsUtf8-ascii b rest (rw e at is) small))))
+      (hash_alone false)

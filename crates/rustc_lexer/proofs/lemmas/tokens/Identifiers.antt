@@ -1,6 +1,6 @@
 -- The two runs of an identifier: the characters that can continue it, and then all characters of a word after an emoji.
-use Rattle.std.proofs.Common.{◌≡◌, ℕ, ◌+◌, ◌==◌, ◌&&◌, not, Bool, true, false, if◌then◌else◌, List, [], ◌∷◌, length}
-use Rattle.std.proofs.Common.{take, drop, refl, sym, ap, ◌∙◌, arith, zero-add, codes, ltb, lt-ltb}
+use Rattle.std.proofs.Common.{◌≡◌, ℕ, ◌+◌, ◌==◌, not, Bool, true, false, if◌then◌else◌, List, [], ◌∷◌, length}
+use Rattle.std.proofs.Common.{take, drop, refl, arith, zero-add, codes, ltb, lt-ltb}
 use Rattle.std.specs.{List.{list_all}, Str.{chars, encode_utf8_all, IsUtf8}}
 use Rattle.std.proofs.lemmas.{Bool.Decides.{nat_tests}, Grind.{common_steps}, Str.{length-le-encodes}}
 use Rattle.rustc_lexer.specs.{Ident, UnknownPrefix}
@@ -35,7 +35,7 @@ word_none (c ∷ cs) h = grind (arith, common_steps, word_none cs)
 
 module _ (tail rest : List ℕ) (is : IsUtf8 tail) (e : rest ≡ past (len (chars tail)) tail) where
   rest_is : chars rest ≡ drop (len (chars tail)) (chars tail)
-  rest_is = ap chars e ∙ chars-past (len (chars tail)) tail is
+  rest_is = cc (chars-past (len (chars tail)) tail is)
 
   pub ident_or_unknown_prefix-invalid : next_is is_emoji (chars rest) ≡ true
       → scanned invalid_ident rest ≡ scanned ident_or_unknown_prefix tail
@@ -50,15 +50,14 @@ module _ (tail rest : List ℕ) (is : IsUtf8 tail) (e : rest ≡ past (len (char
 module _ (tail word : List ℕ) (is : IsUtf8 tail) (e : word ≡ past 1 tail)
     (hash : begins (codes "#") (chars tail) ≡ true) where
   hash_ident-is : begins_hash_ident (chars tail) ≡ next_is is_id_start (chars word)
-  hash_ident-is = ap (λ (b : Bool). b && next_is is_id_start (drop 1 (chars tail))) hash
-      ∙ ap (next_is is_id_start) (sym (ap chars e ∙ chars-past 1 tail is))
+  hash_ident-is = rw (hash, e, chars-past 1 tail is) refl
 
   pub hash_ident-none : chars word ≡ [] → begins_hash_ident (chars tail) ≡ false
-  hash_ident-none none = hash_ident-is ∙ ap (next_is is_id_start) none
+  hash_ident-none none = rw none at hash_ident-is
 
   pub hash_ident-by : (c : ℕ) (cs : List ℕ) (b : Bool) → chars word ≡ c ∷ cs → b ≡ is_id_start c
       → begins_hash_ident (chars tail) ≡ b
-  hash_ident-by c cs b f g = hash_ident-is ∙ (ap (next_is is_id_start) f ∙ sym g)
+  hash_ident-by c cs b f g = rw (f, ← g) at hash_ident-is
 
   pub past-hash_ident : (ident left : List ℕ) → ident ≡ past 1 word
       → left ≡ past (run_len is_id_continue (chars ident)) ident

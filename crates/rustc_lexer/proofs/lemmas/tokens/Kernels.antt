@@ -31,10 +31,10 @@ module _ (q : ℕ → Bool) (d : List ℕ) (i n : ℕ) (room : i + n ≤ length 
   stops = mask_l (map (outside q) (chunk i n d))
 
   passes : (k : ℕ) → k < n → bit stops k ≡ false → q (get_or d (i + k) 0) ≡ true
-  passes k l none = not-false _ (sym (mask_in (outside q) d i n stops room refl k (i + k) refl l) ∙ none)
+  passes k l none = not-false _ (cc (mask_in (outside q) d i n stops room refl k (i + k) refl l))
 
   pub run_through : stops ≡ 0 → prefix_len q (drop i d) ≡ n + prefix_len q (drop (i + n) d)
-  run_through none = through q d i n room (λ k l. passes k l (ap (λ m. bit m k) none ∙ bit-zero k))
+  run_through none = through q d i n room (λ k l. passes k l (rw none (bit-zero k)))
 
   pub run_stops : n ≤ 64 → 0 < stops → prefix_len q (drop i d) ≡ count_trailing_zeros 64 stops
   run_stops short some =
@@ -43,9 +43,8 @@ module _ (q : ℕ → Bool) (d : List ℕ) (i n : ℕ) (room : i + n ≤ length 
       (sym (mask_in (outside q) d i n stops room refl _ _ refl low.0) ∙ low.1.set) in
       omega (
         arith,
-        through q d i (count_trailing_zeros 64 stops) (omega arith) (λ k l. passes k (omega arith) (low.1.least k l)),
-        prefix_len-drop_no
-            q d (i + count_trailing_zeros 64 stops) 0 (omega arith) ends,
+        through q d i _ (omega arith) (λ k l. passes k (omega arith) (low.1.least k l)),
+        prefix_len-drop_no q d _ 0 (omega arith) ends,
       )
 
 pub ruleset run_lemmas = (take_rest, run_bound, run_through, run_stops, prefix_len-le-length)

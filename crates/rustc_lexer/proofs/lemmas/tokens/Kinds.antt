@@ -1,6 +1,6 @@
 -- The text of a token matches its kind, and so does the suffix of a literal.
-use Rattle.std.proofs.Common.{◌≡◌, ◌↔◌, ◌≤◌, Bool, true, false, true≢false, List, ℕ, [], ◌∷◌, ◌++◌, codes, drop, take}
-use Rattle.std.proofs.Common.{length, refl, sym, ap, ap₂, arith, ◌∙◌, chars, Ok, Option, Result, Some, None, IsSome}
+use Rattle.std.proofs.Common.{◌≡◌, ◌↔◌, ◌≤◌, Bool, true, false, List, ℕ, [], ◌∷◌, ◌++◌, codes, drop, take}
+use Rattle.std.proofs.Common.{refl, arith, chars, Ok, Option, Result, Some, None, IsSome}
 use Rattle.std.proofs.lemmas.{List.{append-nil}, Str.{chars-append, chars-encodes, encode_ascii, encodes-append}}
 use Rattle.std.proofs.lemmas.Grind.{common_steps}
 use Rattle.std.specs.Str.{encode_utf8_all}
@@ -41,7 +41,7 @@ accepted w0 w1 w2 w3 = grind (arith, common_steps, raw-read)
 
 accepts : {rest w : Chars} (p : ℕ) (o : Option ℕ) → IsRaw rest o w → IsSome o → IsRawAnswer p (w ++ rest) (Ok tt)
 accepts p (Some n) is some = call.good is
-accepts p None is some = absurd (true≢false (sym some))
+accepts p None is some = absurd (cc)
 
 checked : {next rest w : Chars} {o : Option ℕ} → IsRaw next o w → (o ≡ None → rest ≡ []) → (p : ℕ) (text : Utf8)
     → drop p (chars text) ≡ w ++ rest → (raw_check text p ≡ Ok tt) ↔ IsSome o
@@ -97,8 +97,7 @@ says (the.literal {w = w} is) =
     record {
       within = omega arith;
       ends = λ bad. refl;
-      text = λ text e. literal-text is [] (λ f. refl) (bytes w) text
-          (e ∙ sym (append-nil w));
+      text = λ text e. literal-text is [] (λ f. refl) (bytes w) text (rw append-nil e);
     }
 says (the.literal_with {w = w} {suffix = suffix} is suffix_is) =
     grind (arith, common_steps, bytes-append, suffixed, literal-text)
@@ -119,25 +118,22 @@ first_token-suffix text = (suffix _ _ (says (lexeme-sound (chars text)))).0
 -- ---- the first token of a text
 
 hash_r : encode_utf8_all (codes "r#") ≡ codes "r#"
-hash_r = ap₂ (λ a b. a ++ (b ++ [])) (encode_ascii 114 (omega arith)) (encode_ascii 35 (omega arith))
+hash_r = rw (encode_ascii 114 (omega arith), encode_ascii 35 (omega arith)) refl
 
 chars_r : chars (codes "r#") ≡ codes "r#"
-chars_r = ap chars (sym hash_r) ∙ chars-encodes (codes "r#") refl
+chars_r = rw hash_r at (chars-encodes (codes "r#") refl)
 
 has_text : (kind : TokenKind) (w : Chars) (text : Utf8) → Says kind w → text ≡ encode_utf8_all w → chars text ≡ w
     → HasText kind text
 has_text Ident w text said e f = rw f said
 has_text RawIdent w text (word, is_raw, is) e f =
     let cut : text ≡ codes "r#" ++ encode_utf8_all word =
-    e ∙ (ap encode_utf8_all is_raw
-    ∙ (encodes-append (codes "r#") word ∙ ap (λ bs. bs ++ encode_utf8_all word) hash_r)) in
+    cc (encodes-append (codes "r#") word, hash_r) in
     let own : chars (encode_utf8_all word) ≡ word =
-    ap (drop 2) (ap (λ cs. cs ++ chars (encode_utf8_all word)) (sym chars_r)
-    ∙ (sym (chars-append (codes "r#") (encode_utf8_all word) (codes "r#", (refl, hash_r)))
-    ∙ (ap chars (sym cut) ∙ (f ∙ is_raw)))) in
-    (encode_utf8_all word, cut, ap is_ident own ∙ is)
+    cc (chars_r, chars-append (codes "r#") (encode_utf8_all word) (codes "r#", (refl, hash_r))) in
+    (encode_utf8_all word, cut, rw own is)
 has_text (Literal kind suffix_start) w text said e f = said.text text f
-has_text Eof w text said e f = ap length (e ∙ ap encode_utf8_all said)
+has_text Eof w text said e f = rw (e, said) refl
 has_text kind w text said e f = tt
 
 -- Holds if the text of the token matches its kind, and so does its suffix.

@@ -1,17 +1,15 @@
 -- The text of each token of a text matches its kind.
 use Rattle.std.proofs.lemmas.Grind.{common_steps}
-use Rattle.std.proofs.Common.{◌≡◌, ℕ, ◌<◌, List, length, refl, arith, subst, All, length-take}
-use Rattle.std.specs.Str.{chars}
+use Rattle.std.proofs.Common.{◌≡◌, ℕ, ◌<◌, List, length, refl, arith, All, length-take}
 use Rattle.std.proofs.lemmas.List.Elements.{All-nil, All-cons}
-use Rattle.rustc_lexer.specs.{Eof, Classes.{IsText}, LanguageText.{AreTokens, Mode}}
+use Rattle.rustc_lexer.specs.{Eof, Classes.{IsText}, LanguageText.{Mode}}
 use Rattle.rustc_lexer.specs.{Tokens.{tokens_of, HasSuffix, HaveTexts}, laws.LanguageTokens.{tokens-are}}
 use Rattle.rustc_lexer.specs.{laws.Tokens.{token_at-cuts, by_tokens, tokens-nil, tokens-cons}, model.Taking.{token_at}}
 use Rattle.rustc_lexer.proofs.lemmas.tokens.Kinds.{first-said, IsSaid}
 
 token_at-said : (mode : Mode) (text : List ℕ) → IsText text → 0 < length text → IsSaid text (token_at mode text)
 token_at-said mode text is some =
-    first-said (subst (AreTokens mode (chars text)) (tokens-cons mode text is some) (tokens-are text mode is)) text is
-    refl
+    first-said (rw (tokens-cons mode text is some) at (tokens-are text mode is)) text is refl
 
 -- No token of a text is the end of the text.
 pub token_at-not_end : (mode : Mode) (text : List ℕ) → IsText text → 0 < length text → (token_at mode text).kind ≡ Eof

@@ -1,9 +1,9 @@
 -- The token of a text with a known first character.
 use Rattle.std.proofs.lemmas.Grind.{common_steps}
-use Rattle.std.proofs.Common.{◌≡◌, ℕ, ◌+◌, ◌-◌, ◌≤◌, [], ◌∷◌, List, length, sym, ap, ◌∙◌, arith, subst}
+use Rattle.std.proofs.Common.{◌≡◌, ℕ, ◌+◌, ◌-◌, ◌≤◌, [], ◌∷◌, List, length, sym, ap, arith, subst}
 use Rattle.std.specs.Str.{chars, IsUtf8, IsCharBoundary}
 use Rattle.std.proofs.lemmas.Str.{IsCharBoundary-from_drop}
-use Rattle.rustc_lexer.specs.{Token, TokenKind, Eof, model.Lexeme.{past_first, lexeme, first_token}}
+use Rattle.rustc_lexer.specs.{Token, TokenKind, Eof, model.Lexeme.{past_first, first_token}}
 use Rattle.rustc_lexer.specs.{model.{Quick.{IsFirstToken}, Scan.{bytes_of, past, scanned}}, State.{HasSuffixWithin}}
 use Rattle.rustc_lexer.specs.laws.Past.{past-past, past-drop, IsUtf8-past, length-past}
 use Rattle.rustc_lexer.proofs.lemmas.tokens.Kinds.{first_token-suffix}
@@ -15,21 +15,19 @@ module _ (text tail rest : List ℕ) (c : ℕ) (kind : TokenKind) (is : IsUtf8 t
   taken = (past_first c (chars tail)).1
 
   left : rest ≡ past (1 + taken) text
-  left = ap (λ (r : TokenKind × List ℕ). r.1) f ∙ (ap (past taken) e ∙ past-past taken 1 text is)
+  left = cc (ap (λ (r : TokenKind × List ℕ). r.1) f, past-past taken 1 text is)
 
   bytes : bytes_of (1 + taken) (chars text) + length rest ≡ length text
-  bytes = ap (λ xs. bytes_of (1 + taken) (chars text) + length xs) left ∙ length-past (1 + taken) text is
+  bytes = rw left (length-past (1 + taken) text is)
 
   pub left-le : length rest ≤ length text
-  left-le = let b = bytes in omega arith
+  left-le = omega (arith, bytes)
 
   boundary : IsCharBoundary text (length text - length rest)
   boundary =
-      let cut : bytes_of (1 + taken) (chars text) ≡ length text - length rest = let b = bytes in omega arith in
-      let front : bytes_of (1 + taken) (chars text) ≤ length text = let b = bytes in omega arith in
-      subst (IsCharBoundary text) cut
-      (IsCharBoundary-from_drop text _ front
-      (subst (λ (xs : List ℕ). IsUtf8 xs) (past-drop (1 + taken) text is) (IsUtf8-past (1 + taken) text is)))
+      let cut : bytes_of (1 + taken) (chars text) ≡ length text - length rest = omega (arith, bytes) in
+      IsCharBoundary-from_drop text _ (omega arith)
+      (rw (past-drop (1 + taken) text is, cut) at (IsUtf8-past (1 + taken) text is))
 
   token-is : record { kind = kind; len = length text - length rest } ≡ first_token text
   unfolding first_token
@@ -45,5 +43,4 @@ module _ (text tail rest : List ℕ) (c : ℕ) (kind : TokenKind) (is : IsUtf8 t
 
 pub token-at_end : (text : List ℕ) → chars text ≡ [] → record { kind = Eof; len = 0 } ≡ first_token text
 unfolding first_token
-token-at_end text e =
-    ap (λ (ds : List ℕ). let t : Token = record { kind = (lexeme ds).0; len = bytes_of (lexeme ds).1 ds } in t) (sym e)
+token-at_end text e = rw e

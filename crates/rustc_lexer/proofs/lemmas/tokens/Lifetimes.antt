@@ -20,9 +20,7 @@ module _ (text tail : List ℕ) (c : ℕ) (is : IsUtf8 text) (reads : chars text
   pub first-length : len_utf8 c + length tail ≡ length text
   first-length =
       let one : bytes_of 1 (chars text) ≡ len_utf8 c =
-      ap (bytes_of 1) reads
-      ∙ (length-append (encode_utf8 c) [] ∙ let none : length (encode_utf8 c) + 0 ≡
-      len_utf8 c = omega (arith, length-encode c) in none) in
+      rw reads (omega (arith, length-append (encode_utf8 c) [], length-encode c)) in
       omega (arith, length-past 1 text is, ap length cut)
 
   pub pick-name : (r : TokenKind × List ℕ) → is_character c (chars tail) ≡ false → r ≡ scanned (lifetime c) tail
@@ -56,7 +54,7 @@ module _ (c : ℕ) (rest part end : List ℕ) (is : IsUtf8 rest)
   whole = run_len is_word_continue (chars rest)
 
   part-chars : chars part ≡ drop plain (chars rest)
-  part-chars = ap chars first ∙ chars-past plain rest is
+  part-chars = cc (chars-past plain rest is)
 
   end-is : end ≡ past whole rest
   end-is = grind (arith, common_steps, part-chars, past-past, word_runs)
@@ -78,7 +76,7 @@ module _ (c : ℕ) (rest part end : List ℕ) (is : IsUtf8 rest)
 
   plain_lifetime-is : scanned (plain_lifetime c) rest ≡ scanned (past_name c (take whole (chars rest))) end
   plain_lifetime-is = scanned-and_then name_of (past_name c) rest end (take whole (chars rest)) is
-      (ap (λ (xs : List ℕ). (take whole (chars rest), xs)) end-is)
+      (cc (end-is))
 
   pub plain_lifetime-quoted : (left : List ℕ) (w : ℕ) → begins (codes "'") (chars end) ≡ true → left ≡ past 1 end
       → w ≡ len_utf8 c

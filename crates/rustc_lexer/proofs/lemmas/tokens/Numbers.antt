@@ -1,5 +1,5 @@
 -- Numbers, as the code reads them.
-use Rattle.std.proofs.Common.{◌≡◌, ◌<◌, ℕ, ◌+◌, Bool, true, false, List, [], ◌∷◌, take, drop, get_or, refl, sym, ◌∙◌}
+use Rattle.std.proofs.Common.{◌≡◌, ◌<◌, ℕ, ◌+◌, Bool, true, false, List, [], ◌∷◌, take, drop, get_or, refl}
 use Rattle.std.proofs.Common.{zero-add, arith}
 use Rattle.std.specs.{Char.{is_ascii_digit, is_ascii_hexdigit}, List.{list_any}, Str.{chars, IsUtf8}}
 use Rattle.std.proofs.lemmas.{Bool.{eqb-true}, Grind.{common_steps}}
@@ -28,8 +28,8 @@ is_no_fraction-zero = is_xid_start-ascii 0 (omega arith)
 
 -- The first byte decides whether the first character is a digit.
 pub digit_first : (text : List ℕ) → IsUtf8 text → is_ascii_digit (get_or (chars text) 0 0) ≡ next_is is_ascii_digit text
-digit_first text is = sym (next_is-first is_ascii_digit (chars text) refl)
-    ∙ next_byte is_ascii_digit ascii_digit-small text is
+digit_first text is =
+    cc (next_is-first is_ascii_digit (chars text) refl, next_byte is_ascii_digit ascii_digit-small text is)
 
 -- No exponent starts with a dot.
 pub dot_only : (s : List ℕ) → begins (46 ∷ []) s ≡ true → next_is is_exponent_letter s ≡ false

@@ -17,8 +17,8 @@ piece_is text rest piece start n e left = grind (arith, common_steps)
 -- The length of the remaining text gives the offset of the first token of a document, before any token is read.
 pub document_start : (text rest : List ℕ) (s : State) → IsCharBoundary text (tokens_start text) → rest ≡ s.rest
     → s.rest ≡ drop (tokens_start text) text → length text - length rest ≡ tokens_start text
-document_start text rest s boundary left is = let b = boundary.0 in
-    omega (arith, ap length (left ∙ is), length-drop (tokens_start text) text)
+document_start text rest s boundary left is =
+    omega (arith, boundary.0, ap length (left ∙ is), length-drop (tokens_start text) text)
 
 pub document_offset : (text rest : List ℕ) (s : State) → IsCharBoundary text (tokens_start text) → rest ≡ s.rest
     → s.rest ≡ drop (tokens_start text) text → StandsAt text (length text - length rest) s

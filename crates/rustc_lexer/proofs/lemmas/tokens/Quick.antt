@@ -1,11 +1,11 @@
 -- Tokens that can be decided by their bytes.
-use Rattle.std.proofs.Common.{◌≡◌, ℕ, ◌+◌, ◌-◌, ◌<◌, ◌≤◌, ◌==◌, not, Bool, true, false, if◌then◌else◌, List, ◌∷◌}
-use Rattle.std.proofs.Common.{length, drop, codes, refl, sym, ap, ◌∙◌, arith, subst, length-drop}
+use Rattle.std.proofs.Common.{◌≡◌, ℕ, ◌+◌, ◌-◌, ◌<◌, ◌≤◌, ◌==◌, not, Bool, true, false, List, ◌∷◌}
+use Rattle.std.proofs.Common.{length, drop, codes, refl, sym, ◌∙◌, arith, length-drop}
 use Rattle.std.specs.{List.{prefix_len}, Str.{chars, IsUtf8}}
 use Rattle.std.proofs.lemmas.Bool.{or_parts, or_cases, not-true, not-false, eqb-true, ltb-true, lt-leb}
 use Rattle.std.proofs.lemmas.{Str.{chars-nil}, List.Sums.{prefix_len-le-length}, Grind.{common_steps}}
 use Rattle.unicode_ident.proofs.IdentLemmas.{is_xid_continue-ascii}
-use Rattle.rustc_lexer.specs.{TokenKind, Ident, UnknownPrefix, Whitespace}
+use Rattle.rustc_lexer.specs.{TokenKind, Ident, Whitespace}
 use Rattle.rustc_lexer.specs.model.ByteRuns.{is_continue_byte, is_space_byte, is_wide}
 use Rattle.rustc_lexer.specs.{Classes.{is_id_continue, ends_prefix}, Tables.{is_emoji}}
 use Rattle.rustc_lexer.specs.{model.Ident.{ident_or_unknown_prefix, begins_hash_ident}, laws.Choice.{by_symbol}}
@@ -69,79 +69,60 @@ module _ (b : ℕ) (rest : List ℕ) (kind : TokenKind) (n : ℕ) (is : IsUtf8 (
     (inside : n ≤ length rest) (g : (kind, drop n rest) ≡ scanned (past_first b) rest) where
   taken : IsFirstToken (b ∷ rest) record { kind = kind; len = 1 + n }
   taken =
-      let text = b ∷ rest in
-      let len : length text - length (drop n rest) ≡ 1 + n = omega (arith, length-drop n rest) in
-      subst (λ k. IsFirstToken text record { kind = kind; len = k }) len
-      (made text rest (drop n rest) b kind is (chars-ascii b rest is small) (past-ascii b rest is small) g)
-
--- The same holds for a text that starts with this byte.
-pub first : (text : List ℕ) (b : ℕ) (rest : List ℕ) (kind : TokenKind) (n : ℕ) → IsUtf8 text → text ≡ b ∷ rest → b < 128
-    → n ≤ length rest → (IsUtf8 rest → (kind, drop n rest) ≡ scanned (past_first b) rest)
-    → IsFirstToken text record { kind = kind; len = 1 + n }
-first text b rest kind n is e small inside g =
-    let whole : IsUtf8 (b ∷ rest) = subst (λ xs. IsUtf8 xs) e is in
-    subst (λ xs. IsFirstToken xs record { kind = kind; len = 1 + n }) (sym e)
-    (taken b rest kind n whole small inside (g (IsUtf8-ascii b rest whole small)))
-
--- A word whose next byte does not change it is an identifier.
-pub word_first : (text : List ℕ) (b : ℕ) (rest : List ℕ) (end : ℕ) → IsUtf8 text → text ≡ b ∷ rest → b < 128
-    → Word ≡ family_of b → end ≡ prefix_len is_continue_byte rest → not (next_is turns_word (drop end rest)) ≡ true
-    → IsFirstToken text record { kind = Ident; len = 1 + end }
-word_first text b rest end is e small family counted ends =
-    first text b rest Ident end is e small (omega (arith, prefix_len-le-length is_continue_byte rest)) decided
-  where
-    decided : IsUtf8 rest → (Ident, drop end rest) ≡ scanned (past_first b) rest
-    decided inner =
-        let left : List ℕ = drop end rest in
-        let whole : IsUtf8 left =
-        subst (λ k. IsUtf8 (drop k rest)) (sym counted)
-        (skips is_continue_byte is_id_continue continue_part rest inner).utf8 in
-        let next = turned-emoji left whole (not-true _ ends) in
-        let offset : left ≡ past (run_len is_id_continue (chars rest)) rest =
-        stops_here is_continue_byte is_id_continue continue_part rest rest end inner refl counted left refl
-        next.1.1 in
-        let no_end : next_is ends_prefix (drop (run_len is_id_continue (chars rest)) (chars rest)) ≡ false =
-        sym (ap (next_is ends_prefix) (ap chars offset ∙ chars-past (run_len is_id_continue (chars rest)) rest inner))
-        ∙ next.1.0 in
-        by_family Word b rest _ family (ap (λ (t : Bool). let k : TokenKind = if t then UnknownPrefix else Ident in
-        (k, left)) (sym next.1.0)
-        ∙ (ident_or_unknown_prefix-valid rest left inner offset next.0
-        ∙ sym (scanned-same (word b) ident_or_unknown_prefix rest (word-plain b (chars rest) no_end))))
-
-pub space_first : (text : List ℕ) (b : ℕ) (rest : List ℕ) (end : ℕ) → IsUtf8 text → text ≡ b ∷ rest → b < 128
-    → Space ≡ family_of b → end ≡ prefix_len is_space_byte rest → not (next_is is_space_lead (drop end rest)) ≡ true
-    → IsFirstToken text record { kind = Whitespace; len = 1 + end }
-space_first text b rest end is e small family counted ends =
-    first text b rest Whitespace end is e small (omega (arith, prefix_len-le-length is_space_byte rest)) decided
-  where
-    decided : IsUtf8 rest → (Whitespace, drop end rest) ≡ scanned (past_first b) rest
-    decided inner = by_family Space b rest _ family
-        (ap (λ xs. (Whitespace, xs))
-        (space_stops_here rest rest end inner refl counted (drop end rest) refl (not-true _ ends)))
-
-pub symbol_first : (text : List ℕ) (b : ℕ) (rest : List ℕ) (kind : TokenKind) → IsUtf8 text → text ≡ b ∷ rest → b < 128
-    → Symbol ≡ family_of b → kind ≡ symbol_kind b → IsFirstToken text record { kind = kind; len = 1 }
-symbol_first text b rest kind is e small family same = first text b rest kind 0 is e small (omega arith) decided
-  where
-    decided : IsUtf8 rest → (kind, rest) ≡ scanned (past_first b) rest
-    decided inner = by_family Symbol b rest _ family
-        (ap (λ (k : TokenKind). (k, rest)) same ∙ sym (scanned-gives (symbol_kind b) rest inner))
+      let len : length (b ∷ rest) - length (drop n rest) ≡ 1 + n = omega (arith, length-drop n rest) in
+      rw (← len) (made _ rest (drop n rest) b kind is (chars-ascii b rest is small) (past-ascii b rest is small) g)
 
 -- Every edition has the same symbols.
 symbol-kept : (b : ℕ) → is_newer (symbol_kind b) ≡ false
 symbol-kept b = not-true _ (by_symbol (λ (kind : TokenKind). not (is_newer kind)) symbols b refl refl)
 
-pub symbol_by : (guards : Bool) (text : List ℕ) (b : ℕ) (rest : List ℕ) (kind : TokenKind) → IsUtf8 text
-    → text ≡ b ∷ rest → b < 128 → Symbol ≡ family_of b → kind ≡ symbol_kind b
-    → IsFirstBy guards text record { kind = kind; len = 1 }
-symbol_by guards text b rest kind is e small family same =
-    first_by guards text _ (symbol_first text b rest kind is e small family same) (ap is_newer same ∙ symbol-kept b)
+-- The same holds for a text that starts with this byte.
+module _ {text : List ℕ} {b : ℕ} {rest : List ℕ} (is : IsUtf8 text) (e : text ≡ b ∷ rest) (small : b < 128) where
+  pub first : (kind : TokenKind) (n : ℕ) → n ≤ length rest → (IsUtf8 rest → (kind, drop n rest) ≡
+      scanned (past_first b) rest) → IsFirstToken text record { kind = kind; len = 1 + n }
+  first kind n inside g =
+      let whole = rw e at is in rw e (taken b rest kind n whole small inside (g (IsUtf8-ascii b rest whole small)))
+
+  -- A word whose next byte does not change it is an identifier.
+  pub word_first : {end : ℕ} → Word ≡ family_of b → end ≡ prefix_len is_continue_byte rest
+      → not (next_is turns_word (drop end rest)) ≡ true → IsFirstToken text record { kind = Ident; len = 1 + end }
+  word_first {end} family counted ends =
+      first Ident end (omega (arith, prefix_len-le-length is_continue_byte rest)) decided
+    where
+      decided : IsUtf8 rest → (Ident, drop end rest) ≡ scanned (past_first b) rest
+      decided inner =
+          let left : List ℕ = drop end rest in
+          let whole : IsUtf8 left = rw counted (skips is_continue_byte is_id_continue continue_part rest inner).utf8 in
+          let next = turned-emoji left whole (not-true _ ends) in
+          let offset : left ≡ past (run_len is_id_continue (chars rest)) rest =
+          stops_here is_continue_byte is_id_continue continue_part rest rest end inner refl counted left refl
+          next.1.1 in
+          let no_end : next_is ends_prefix (drop (run_len is_id_continue (chars rest)) (chars rest)) ≡ false =
+          cc (offset, chars-past (run_len is_id_continue (chars rest)) rest inner, next.1.0) in
+          by_family Word b rest _ family (rw next.1.0 at (ident_or_unknown_prefix-valid rest left inner offset next.0)
+          ∙ sym (scanned-same (word b) ident_or_unknown_prefix rest (word-plain b (chars rest) no_end)))
+
+  pub space_first : {end : ℕ} → Space ≡ family_of b → end ≡ prefix_len is_space_byte rest
+      → not (next_is is_space_lead (drop end rest)) ≡ true → IsFirstToken text record { kind = Whitespace; len = 1 + end }
+  space_first {end} family counted ends =
+      first Whitespace end (omega (arith, prefix_len-le-length is_space_byte rest)) (λ inner.
+      by_family Space b rest _ family
+      (cc (space_stops_here rest rest end inner refl counted (drop end rest) refl (not-true _ ends))))
+
+  pub symbol_first : {kind : TokenKind} → Symbol ≡ family_of b → kind ≡ symbol_kind b
+      → IsFirstToken text record { kind = kind; len = 1 }
+  symbol_first family same = first _ 0 (omega arith) (λ inner.
+      by_family Symbol b rest _ family (cc (scanned-gives (symbol_kind b) rest inner)))
+
+  pub symbol_by : (guards : Bool) {kind : TokenKind} → Symbol ≡ family_of b → kind ≡ symbol_kind b
+      → IsFirstBy guards text record { kind = kind; len = 1 }
+  symbol_by guards family same =
+      first_by guards text _ (symbol_first family same) (rw same (symbol-kept b))
 
 -- The byte after an identifier decides that it is an identifier.
 pub ident_or_unknown_prefix_ends : (tail rest bytes : List ℕ) → IsUtf8 tail → IsUtf8 rest
     → rest ≡ past (run_len is_id_continue (chars tail)) tail → bytes ≡ rest → not (next_is turns_word bytes) ≡ true
     → (Ident, rest) ≡ scanned ident_or_unknown_prefix tail
 ident_or_unknown_prefix_ends tail rest bytes is whole offset read ends =
-    let next = turned-emoji rest whole (sym (ap (next_is turns_word) read) ∙ not-true _ ends) in
-    ap (λ (t : Bool). let k : TokenKind = if t then UnknownPrefix else Ident in (k, rest)) (sym next.1.0)
-    ∙ ident_or_unknown_prefix-valid tail rest is offset next.0
+    let next = turned-emoji rest whole (rw read at (not-true _ ends)) in
+    rw next.1.0 at (ident_or_unknown_prefix-valid tail rest is offset next.0)

@@ -1,6 +1,6 @@
 -- The loops over quoted text.
-use Rattle.std.proofs.Common.{◌≡◌, ◌≢◌, ℕ, suc, ◌+◌, not, Bool, true, false, List, [], ◌∷◌, length, drop, refl, sym, ap}
-use Rattle.std.proofs.Common.{◌∙◌, arith, ◌<◌, Option, MatchOption, Bor}
+use Rattle.std.proofs.Common.{◌≡◌, ◌≢◌, ℕ, suc, ◌+◌, not, Bool, true, false, List, [], ◌∷◌, length, drop, refl}
+use Rattle.std.proofs.Common.{arith, ◌<◌, Option, MatchOption, Bor}
 use Rattle.std.specs.Str.{chars, IsUtf8}
 use Rattle.memchr.specs.Find.{is_byte2}
 use Rattle.std.proofs.lemmas.{Bool.{eqb-true, ne_eqb, not-false, or_cases, or_parts}, Grind.{common_steps}}
@@ -12,12 +12,11 @@ use Rattle.rustc_lexer.specs.laws.Past.{past-zero, past-past, past-two, chars-pa
 pub run_fails : (p : ℕ → Bool) (text left s : List ℕ) (c : ℕ) → IsUtf8 text → left ≡ past (run_len p (chars text)) text
     → chars left ≡ c ∷ s → p c ≡ false
 run_fails p text left s c is e reads =
-    run_len-stop p (chars text) c s (sym (ap chars e ∙ chars-past (run_len p (chars text)) text is) ∙ reads)
+    run_len-stop p (chars text) c s (cc (chars-past (run_len p (chars text)) text is))
 
 -- Skipping n + 1 characters is skipping one and then n.
 pub past-suc : (n : ℕ) (text : List ℕ) → IsUtf8 text → past (suc n) text ≡ past n (past 1 text)
-past-suc n text is = let one : suc n ≡ 1 + n = omega arith in
-    ap (λ (k : ℕ). past k text) one ∙ sym (past-past n 1 text is)
+past-suc n text is = let one : suc n ≡ 1 + n = omega arith in cc (past-past n 1 text is)
 
 -- Whether a character is neither a quote nor a backslash.
 abbrev plain : ℕ → Bool

@@ -1,6 +1,6 @@
 -- The loop over the text of a raw string.
-use Rattle.std.proofs.Common.{◌≡◌, ℕ, suc, ◌+◌, ◌-◌, ◌≤◌, ◌<◌, ◌==◌, ◌&&◌, max, nat_le, Bool, true, false}
-use Rattle.std.proofs.Common.{if◌then◌else◌, List, [], ◌∷◌, length, drop, refl, sym, ap, ◌∙◌, subst, arith, Option}
+use Rattle.std.proofs.Common.{◌≡◌, ℕ, suc, ◌+◌, ◌-◌, ◌≤◌, ◌<◌, ◌==◌, max, Bool, true, false}
+use Rattle.std.proofs.Common.{List, [], ◌∷◌, length, drop, refl, ap, arith, Option}
 use Rattle.std.proofs.Common.{Some, None, Result, Err, MatchOption}
 use Rattle.std.specs.Str.{chars, encode_utf8_all, IsUtf8, IsCharBoundary}
 use Rattle.std.proofs.lemmas.Bool.{eqb-true, eq-eqb, ne_eqb, le-leb, lt-leb, and_parts, not-true}
@@ -9,7 +9,7 @@ use Rattle.rustc_lexer.specs.{RawStrError, NoTerminator, model.Least.{one_more, 
 use Rattle.rustc_lexer.specs.laws.Least.{offset-here, offset-on, more-more, more-zero}
 use Rattle.rustc_lexer.specs.model.Raw.{least_offset, is_hash, is_quote, is_no_quote, hash_run, closes, close}
 use Rattle.rustc_lexer.specs.model.Raw.{quote_hashes, most_hashes, quote_with, quote_if, quote_end, hash_count}
-use Rattle.rustc_lexer.specs.model.Raw.{raw_closed, raw_text}
+use Rattle.rustc_lexer.specs.model.Raw.{raw_text}
 use Rattle.rustc_lexer.specs.laws.LanguageRuns.{run-stops}
 use Rattle.rustc_lexer.specs.model.Scan.{begins, next_is, bytes_of, past, run_len, scanned}
 use Rattle.rustc_lexer.specs.laws.Scan.{bytes-run, length-run}
@@ -49,19 +49,13 @@ pub past_quote-is : {B : Type 0} (now : B → List ℕ) (rest mid : List ℕ) (o
     (λ tail. (drop (run_len is_no_quote (chars rest)) (chars rest) ≡ 34 ∷ chars (now tail))
     × (now tail ≡ past (suc (run_len is_no_quote (chars rest))) rest) × (length (now tail) < length rest))
 past_quote-is now rest mid None is e le h =
-    let reads : chars mid ≡ drop (run_len is_no_quote (chars rest)) (chars rest) =
-    ap chars e ∙ chars-past (run_len is_no_quote (chars rest)) rest is in
-    no_quote-nil (drop (run_len is_no_quote (chars rest)) (chars rest)) (sym (ap (begins (34 ∷ [])) reads) ∙ h)
-    (run-stops is_no_quote (chars rest))
+    no_quote-nil _ (cc (chars-past (run_len is_no_quote (chars rest)) rest is)) (run-stops is_no_quote (chars rest))
 past_quote-is now rest mid (Some tail) is e le h =
     let n : ℕ = run_len is_no_quote (chars rest) in
-    let reads : chars mid ≡ drop n (chars rest) = ap chars e ∙ chars-past n rest is in
-    let here : now tail ≡ past (n + 1) rest = h.1 ∙ (ap (past 1) e ∙ past-past 1 n rest is) in
+    let reads : chars mid ≡ drop n (chars rest) = cc (chars-past n rest is) in
     let one : n + 1 ≡ suc n = omega arith in (
-      quote_front (drop n (chars rest)) (chars (now tail)) (sym (ap (begins (34 ∷ [])) reads) ∙ h.0)
-          (ap chars h.1 ∙ (chars-past 1 mid (subst IsUtf8 (sym e) (IsUtf8-past n rest is)) ∙ ap (drop 1) reads)),
-      here
-          ∙ ap (λ k. past k rest) one,
+      quote_front _ _ (cc) (cc (chars-past 1 mid (rw e (IsUtf8-past n rest is)))),
+      cc (past-past 1 n rest is),
       omega arith,
     )
 
@@ -70,11 +64,10 @@ module _ (v w : List ℕ) (at_quote : drop (run_len is_no_quote v) v ≡ 34 ∷ 
   -- A test that fails at each character except a quote.
   module _ (test : List ℕ → Bool) (fails : (c : ℕ) (s : List ℕ) → is_quote c ≡ false → test (c ∷ s) ≡ false) where
     to-quote : least_offset test v ≡ more (run_len is_no_quote v) (least_offset test (34 ∷ w))
-    to-quote = skip-offset is_no_quote (λ c. not-true (is_quote c)) test fails v
-        ∙ ap (λ s. more (run_len is_no_quote v) (least_offset test s)) at_quote
+    to-quote = rw at_quote at (skip-offset is_no_quote (λ c. not-true (is_quote c)) test fails v)
 
     pub offset-at : test (34 ∷ w) ≡ true → least_offset test v ≡ Some (run_len is_no_quote v)
-    offset-at e = to-quote ∙ (ap (more (run_len is_no_quote v)) (offset-here test 34 w e) ∙ ap Some (omega arith))
+    offset-at e = rw (to-quote, offset-here test 34 w e) (ap Some (omega arith))
 
     pub offset-past : test (34 ∷ w) ≡ false → least_offset test v ≡ more (suc (run_len is_no_quote v) + hash_run w)
         (least_offset test (drop (hash_run w) w))
@@ -89,14 +82,13 @@ module _ (v w : List ℕ) (at_quote : drop (run_len is_no_quote v) v ≡ 34 ∷ 
         )
 
   pub most-past : most_hashes v ≡ max (hash_run w) (most_hashes (drop (hash_run w) w))
-  most-past = skip-most is_no_quote (λ c. not-true (is_quote c)) v
-      ∙ (ap most_hashes at_quote ∙ ap (max (hash_run w)) (skip-most is_hash hash-no_quote w))
+  most-past = cc (skip-most is_no_quote (λ c. not-true (is_quote c)) v, skip-most is_hash hash-no_quote w)
 
 closes-fails : (n c : ℕ) (s : List ℕ) → is_quote c ≡ false → closes n (c ∷ s) ≡ false
-closes-fails n c s e = ap (λ b. b && nat_le n (hash_run s)) e
+closes-fails n c s e = rw e refl
 
 counts-fails : (m c : ℕ) (s : List ℕ) → 0 < m → is_quote c ≡ false → (quote_hashes (c ∷ s) == m) ≡ false
-counts-fails m c s some e = ap (λ (b : Bool). (if b then hash_run s else 0) == m) e ∙ ne_eqb 0 m (λ f. omega arith)
+counts-fails m c s some e = rw e (ne_eqb 0 m (λ f. omega arith))
 
 -- Holds at the start of each iteration: `found` is the maximum number of hashes after a quote that was read, and `end`
 -- is the end of the first quote with `found` hashes.
@@ -122,11 +114,11 @@ module _ (rest : List ℕ) (is : IsUtf8 rest) (n : ℕ) (few : n ≤ hash_run (c
   hash_bytes_are = bytes-run is_hash (λ c e. let f = eqb-true c 35 e in omega arith) n (chars rest) few
 
   pub hash_cut : drop n rest ≡ past n rest
-  hash_cut = sym (past-drop n rest is ∙ ap (λ (m : ℕ). drop m rest) hash_bytes_are)
+  hash_cut = cc (past-drop n rest is, hash_bytes_are)
 
   pub hash_boundary : IsCharBoundary rest n
   hash_boundary = IsCharBoundary-from_drop rest n (let l = length-past n rest is in let b = hash_bytes_are in
-      omega arith) (subst IsUtf8 (sym hash_cut) (IsUtf8-past n rest is))
+      omega arith) (rw hash_cut (IsUtf8-past n rest is))
 
 -- One iteration of the loop: `tail` is the text after the next quote, and `next` the text after its hashes.
 module _ (n before : ℕ) (text left tail next : List ℕ) (found : ℕ) (end : Option ℕ) (is : IsUtf8 text)
@@ -135,18 +127,16 @@ module _ (n before : ℕ) (text left tail next : List ℕ) (found : ℕ) (end : 
     (tail_is : tail ≡ past (suc (run_len is_no_quote (chars left))) left)
     (next_is : next ≡ past (run_len is_hash (chars tail)) tail) where
   tail_at : tail ≡ past (at.taken + suc (run_len is_no_quote (chars left))) text
-  tail_at = tail_is
-      ∙ (ap (past (suc (run_len is_no_quote (chars left)))) at.offset
-      ∙ past-past (suc (run_len is_no_quote (chars left))) at.taken text is)
+  tail_at = cc (past-past (suc (run_len is_no_quote (chars left))) at.taken text is)
 
   tail_utf8 : IsUtf8 tail
-  tail_utf8 = subst IsUtf8 (sym tail_at) (IsUtf8-past (at.taken + suc (run_len is_no_quote (chars left))) text is)
+  tail_utf8 = rw tail_at (IsUtf8-past (at.taken + suc (run_len is_no_quote (chars left))) text is)
 
   count : length tail - length next ≡ hash_run (chars tail)
   count = hash_len tail next tail_utf8 next_is
 
   next_reads : chars next ≡ drop (hash_run (chars tail)) (chars tail)
-  next_reads = ap chars next_is ∙ chars-past (hash_run (chars tail)) tail tail_utf8
+  next_reads = cc (chars-past (hash_run (chars tail)) tail tail_utf8)
 
   next_at : next ≡ past (at.taken + (suc (run_len is_no_quote (chars left)) + hash_run (chars tail))) text
   next_at = grind (arith, common_steps, tail_at, past-past)
@@ -168,10 +158,7 @@ module _ (n before : ℕ) (text left tail next : List ℕ) (found : ℕ) (end : 
       )
 
   most_on : most_hashes (chars text) ≡ max found (max (hash_run (chars tail)) (most_hashes (chars next)))
-  most_on = at.most
-      ∙ ap (max found)
-      (most-past (chars left) (chars tail) quote ∙ ap (λ s. max (hash_run (chars tail)) (most_hashes s))
-      (sym next_reads))
+  most_on = cc (most-past (chars left) (chars tail) quote, next_reads)
 
   -- The quote has too few hashes to close the string.
   module _ (few : length tail - length next < n) (shorter : length next ≤ length text) where
@@ -191,23 +178,17 @@ module _ (n before : ℕ) (text left tail next : List ℕ) (found : ℕ) (end : 
         let is_count = count in
         let some : (h == 0) ≡ false = ne_eqb h 0 (λ f. omega arith) in
         let first : quote_with h (chars text) ≡ Some (at.taken + k) =
-        at.more h (omega arith)
-        ∙ ap (more at.taken)
-        (offset-at (chars left) (chars tail) quote (λ s. quote_hashes s == h)
-        (λ c s f. counts-fails h c s (omega arith) f) (eq-eqb h h refl)) in
+        rw (at.more h (omega arith), offset-at (chars left) (chars tail) quote (λ s. quote_hashes s == h)
+        (λ c s f. counts-fails h c s (omega arith) f) (eq-eqb h h refl)) refl in
         let same : suc (at.taken + k) ≡ at.taken + suc k = omega arith in
         let bytes : bytes_of (at.taken + suc k) (chars text) + length tail ≡ length text =
-        ap (λ (xs : List ℕ). bytes_of (at.taken + suc k) (chars text) + length xs) tail_at
-        ∙ length-past (at.taken + suc k) text is in
+        rw tail_at (length-past (at.taken + suc k) text is) in
         let ends : Some (before + (length text - length tail)) ≡
         quote_end before (chars text) (quote_if h (chars text)) =
-        ap (λ (m : ℕ). Some (before + m))
-        (let m : length text - length tail ≡ bytes_of (at.taken + suc k) (chars text) = omega arith in m)
-        ∙ (ap (λ (m : ℕ). Some (before + bytes_of m (chars text))) (sym same)
-        ∙ ap (quote_end before (chars text))
-        (sym first ∙ ap (λ (b : Bool). if b then None else quote_with h (chars text)) (sym some))) in
-        subst (λ (m : ℕ). Searching n before text next m (Some (before + (length text - length tail)))) (sym count)
-        (on h (Some (before + (length text - length tail))) (omega arith) (omega arith) (omega arith) ends)
+        let m : length text - length tail ≡ bytes_of (at.taken + suc k) (chars text) = omega arith in
+        rw (some, first, m, same) refl in
+        let all : Searching n before text next h _ = on h _ (omega arith) (omega arith) (omega arith) ends in
+        rw count all
 
   -- The quote closes the string.
   module _ (enough : n ≤ length tail - length next) where
@@ -222,18 +203,12 @@ module _ (n before : ℕ) (text left tail next : List ℕ) (found : ℕ) (end : 
     closed_here read cut e f =
         let k : ℕ = run_len is_no_quote (chars left) in
         let closes_here : close n (chars text) ≡ Some (at.taken + k) =
-        at.closes_at ∙ ap (more at.taken)
-        (offset-at (chars left) (chars tail) quote (closes n) (closes-fails n)
-        (le-leb n (hash_run (chars tail)) enough_hashes)) in
+        rw (at.closes_at, offset-at (chars left) (chars tail) quote (closes n) (closes-fails n)
+        (le-leb n (hash_run (chars tail)) enough_hashes)) refl in
         let same : (at.taken + suc k) + n ≡ suc (at.taken + k) + n = omega arith in
         let left_is : cut ≡ past (suc (at.taken + k) + n) text =
-        f ∙ (hash_cut tail tail_utf8 n enough_hashes
-        ∙ (ap (past n) tail_at ∙ (past-past n (at.taken + suc k) text is ∙ ap (λ (m : ℕ). past m text) same))) in
-        ap (λ (r : Result ℕ RawStrError). (r, cut)) e
-        ∙ (ap (λ (xs : List ℕ). (hash_count n, xs)) left_is
-        ∙ ap (λ (o : Option ℕ).
-        ((raw_closed n before (chars text) o).0, past (raw_closed n before (chars text) o).1 text))
-        (sym closes_here))
+        cc (hash_cut tail tail_utf8 n enough_hashes, tail_at, past-past n (at.taken + suc k) text is) in
+        rw (closes_here, e, left_is) refl
 
 past-all : (text : List ℕ) → past (length (chars text)) text ≡ []
 unfolding past

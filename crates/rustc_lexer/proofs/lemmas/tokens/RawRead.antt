@@ -1,7 +1,7 @@
 -- The result of reading a raw string, from the results for its parts.
 use Rattle.std.proofs.Common.{◌≡◌, ℕ, suc, ◌+◌, ◌-◌, ◌≤◌, ◌==◌, ◌↔◌, IsTrue, slice_index, true, List, [], ◌∷◌, length}
-use Rattle.std.proofs.Common.{take, drop, sym, ap, ◌∙◌, arith, length-take, length-drop, Result}
-use Rattle.std.specs.Str.{chars, encode_utf8_all, IsUtf8}
+use Rattle.std.proofs.Common.{take, arith, length-take, length-drop, Result}
+use Rattle.std.specs.Str.{chars, IsUtf8}
 use Rattle.std.proofs.{Math.{Seq.{drop-nil}, Bool.{and-true}}, lemmas.Str.{encodes-chars, length-le-encodes}}
 use Rattle.std.proofs.lemmas.Grind.{common_steps}
 use Rattle.rustc_lexer.specs.{RawStrError, model.Raw.{hash_run, raw_text, raw_starter, raw_read, StartsRaw}}
@@ -18,7 +18,7 @@ module _ (prefix : ℕ) (text from body : List ℕ) (is : IsUtf8 text) (from_is 
   opening =
       let utf8 : IsUtf8 from = IsUtf8-cut (hash_run (chars text)) text from is from_is in
       let reads : chars from ≡ 34 ∷ chars body =
-      quote_front (chars from) (chars body) opens (ap chars body_is ∙ chars-past 1 from utf8) in
+      quote_front _ _ opens (cc (chars-past 1 from utf8)) in
       let starter = scanned-after (hash_run (chars text)) (raw_starter prefix (hash_run (chars text))) text from is
       from_is in
       grind (arith, common_steps, past-past, utf8, starter, reads)
@@ -29,9 +29,7 @@ module _ (prefix : ℕ) (text from body : List ℕ) (is : IsUtf8 text) (from_is 
   past_opening read left f =
       let count : length text - length from ≡ hash_run (chars text) = hash_len text from is from_is in
       let before : prefix + hash_run (chars text) + 1 ≡ prefix + suc (hash_run (chars text)) = omega arith in
-      f
-      ∙ (ap (λ (k : ℕ). scanned (raw_text k (prefix + k + 1)) body) count
-      ∙ (ap (λ (k : ℕ). scanned (raw_text (hash_run (chars text)) k) body) before ∙ sym opening))
+      rw (opening, ← before, ← count) f
 
 -- The check of a raw string.
 module _ (text rest : List ℕ) (p : ℕ) (is : IsUtf8 text) (rest_is : rest ≡ past p text) where
@@ -54,11 +52,10 @@ module _ (text rest : List ℕ) (p : ℕ) (is : IsUtf8 text) (rest_is : rest ≡
 -- A text without characters is also the text after its first n characters.
 pub past-nil : (n : ℕ) (text : List ℕ) → IsUtf8 text → chars text ≡ [] → past n text ≡ text
 unfolding past
-past-nil n text is none = ap (λ cs. encode_utf8_all (drop n cs)) none
-    ∙ (ap encode_utf8_all (drop-nil n) ∙ (sym (ap encode_utf8_all none) ∙ encodes-chars text is))
+past-nil n text is none = cc (none, drop-nil {A = ℕ} n, encodes-chars text is)
 
 pub past-none : (n : ℕ) (text : List ℕ) → n ≡ 0 → IsUtf8 text → past n text ≡ text
-past-none n text none is = ap (λ (k : ℕ). past k text) none ∙ past-zero text is
+past-none n text none is = rw none (past-zero text is)
 
 pub ruleset past_lemmas = (past-nil, past-none, past-past, IsUtf8-past)
 

@@ -1,6 +1,6 @@
 -- The ends of runs in a block, which of them are known, and the tokens that they determine.
 use Rattle.std.proofs.Common.{◌≡◌, ℕ, zero, suc, ◌+◌, ◌-◌, ◌/◌, nat_lt, ◌^◌, bit_and, ◌<◌, ◌≤◌, Bool, true, false}
-use Rattle.std.proofs.Common.{true≢false, not, ◌&&◌, ◌||◌, List, ◌∷◌, length, drop, get_or, refl, sym, ap, ap₂, subst}
+use Rattle.std.proofs.Common.{true≢false, not, ◌&&◌, ◌||◌, List, ◌∷◌, length, drop, get_or, refl, sym, ap, subst}
 use Rattle.std.proofs.Common.{◌∙◌, arith, length-drop, inl, inr, Option, Some, None, is_some}
 use Rattle.std.specs.{List.{prefix_len}, Str.{IsCharBoundary, IsUtf8}}
 use Rattle.std.proofs.{lemmas.Str.{IsCharBoundary-from_rest, IsUtf8-drop}, Math.Seq.{drop-cons}}
@@ -41,7 +41,7 @@ module _ (text : List ℕ) (n a b edges : ℕ) (few : n ≤ 64) (inside : n ≤ 
   kept = bit_and edges ((2 ^ 64 - 1) / 2 ^ (64 - n))
 
   bit-kept : (k : ℕ) → k < 64 → bit kept k ≡ (bit edges k && nat_lt k n)
-  bit-kept k l = bit-and edges ((2 ^ 64 - 1) / 2 ^ (64 - n)) k ∙ ap (λ t. bit edges k && t) (bit-below n k few l)
+  bit-kept k l = rw (bit-and, bit-below n k few l) refl
 
   pub are_ends : IsEnds text kept
   are_ends j set =
@@ -50,8 +50,7 @@ module _ (text : List ℕ) (n a b edges : ℕ) (few : n ≤ 64) (inside : n ≤ 
       set in
       let less : j < n = ltb-true j n (and_parts (bit edges j) (nat_lt j n) (sym (bit-kept j near) ∙ set)).1 in (
         omega arith,
-        λ k le. bit-kept k (omega arith)
-            ∙ (rw (lt-ltb k n (omega arith)) (and-true (bit edges k)) ∙ is_at k (omega arith)),
+        λ k le. rw (bit-kept k (omega arith), lt-ltb k n (omega arith), and-true) (is_at k (omega arith)),
       )
 
 -- ---- the known ends after an offset
@@ -75,28 +74,24 @@ module _ (text : List ℕ) (at block ends low n : ℕ) (behind : block ≤ at)
   byte-is : (i k : ℕ) → block + i ≡ at + k → get_or (drop block text) i 0 ≡
       get_or (get_or text at 0 ∷ drop (suc at) text) k 0
   byte-is i zero f = grind (arith, common_steps)
-  byte-is i (suc k) f =
-      get_or-drop block text i 0 ∙ (ap (λ j. get_or text j 0) (let g : block + i ≡ suc at + k = omega arith in g)
-      ∙ sym (get_or-drop (suc at) text k 0))
+  byte-is i (suc k) f = let g : block + i ≡ suc at + k = omega arith in
+      rw (get_or-drop block text i 0, get_or-drop, g) refl
 
   edge-is : (k : ℕ) → k ≤ n → bit ends (suc (at - block + k)) ≡
       not (goes_on (get_or (get_or text at 0 ∷ drop (suc at) text) k 0)
       (get_or (drop (suc at) text) k 0))
   edge-is k le = (known low lowest.set).2 (suc (at - block + k)) (omega arith) (omega arith)
-      ∙ ap₂ (λ a b. not (goes_on a b)) (byte-is (at - block + k) k (omega arith))
-      (byte-is (suc (at - block + k)) (suc k) (omega arith))
+      ∙ rw (byte-is (at - block + k) k (omega arith), byte-is (suc (at - block + k)) (suc k) (omega arith)) refl
 
   runs_to : RunsTo (get_or text at 0) (drop (suc at) text) n
   runs_to = record {
     room = omega (arith, (known low lowest.set).1, length-drop block text, length-drop (suc at) text);
     on = λ k l. not-false _ (sym (edge-is k (omega arith)) ∙ lowest.least _ (omega arith));
-    end = not-true _
-        (sym (edge-is n (omega arith))
-        ∙ (ap (bit ends) (let f : suc (at - block + n) ≡ low = omega arith in f) ∙ lowest.set));
+    end = let f : suc (at - block + n) ≡ low = omega arith in not-true _ (cc (edge-is n (omega arith), lowest.set));
   }
 
 -- A run is the run of a class, if the bytes that continue it are exactly the bytes of the class.
-module _ (p : ℕ → Bool) (goes : (a b : ℕ) → p a ≡ true → goes_on a b ≡ p b) (b : ℕ) (rest : List ℕ) (n : ℕ)
+module _ (p : ℕ → Bool) (goes : (a b : ℕ) → p a ≡ true → goes_on a b ≡ p b) {b : ℕ} {rest : List ℕ} {n : ℕ}
     (run : RunsTo b rest n) (first : p b ≡ true) where
   in_run : (k : ℕ) → k ≤ n → p (get_or (b ∷ rest) k 0) ≡ true
   in_run zero l = first
@@ -130,7 +125,7 @@ pub symbol_classified : (b : ℕ) (none : Option TokenKind) → b < 128 → fami
 symbol_classified b none small family = classified_table b none (omega arith) ∙ rw (lt-ltb b 128 small, family) refl
 
 holds : (a b : Bool) → (not a || b) ≡ true → a ≡ true → b ≡ true
-holds a b e f = let g = ap (λ t. not t || b) f in sym g ∙ e
+holds a b e f = rw f at e
 
 -- Whether the byte is in the class of runs that a byte of this family starts.
 abbrev in_run_of : Family → ℕ → Bool
@@ -141,9 +136,7 @@ in_run_of other b = true
 
 run_of_family : (b : ℕ) (f : Family) → b < 128 → f ≡ family_of b → in_run_of f b ≡ true
 unfolding is_emoji unicode_ident
-run_of_family b f l e =
-    subst (λ (g : Family). in_run_of g b ≡ true) (sym e)
-    (agree_below_at (λ x. in_run_of (family_of x) x) (λ _. true) 128 b refl l)
+run_of_family b f l e = rw e (agree_below_at (λ x. in_run_of (family_of x) x) (λ _. true) 128 b refl l)
 
 classified_small : (b : ℕ) → is_some (classified b) ≡ true → b < 128
 classified_small b some = elim (cases_lt b 128) [
@@ -154,30 +147,25 @@ classified_small b some = elim (cases_lt b 128) [
 
 -- ---- a token, from its run and the byte after it
 
-module _ (text : List ℕ) (is : IsUtf8 text) (b : ℕ) (rest : List ℕ) (e : text ≡ b ∷ rest) (n : ℕ)
+module _ {text : List ℕ} (is : IsUtf8 text) {b : ℕ} {rest : List ℕ} (e : text ≡ b ∷ rest) {n : ℕ}
     (run : RunsTo b rest n) (small : b < 128) where
   stops : (p : ℕ → Bool) → p (get_or rest n 0) ≡ false → not (next_is p (drop n rest)) ≡ true
-  stops p none = ap (λ xs. not (next_is p xs)) (drop-cons rest n 0 run.room) ∙ ap not none
+  stops p none = rw (drop-cons rest n 0 run.room, none) refl
 
   as_word : Word ≡ family_of b → turns_word (get_or rest n 0) ≡ false
       → IsFirstToken text record { kind = Ident; len = 1 + n }
   as_word family stays =
-      word_first text b rest n is e small family (run_is is_continue_byte
-      (λ x y. first_of_two (is_continue_byte x) (is_space_byte x) (is_continue_byte y) (is_space_byte y) (never_both x))
-      b rest n run
+      word_first is e small family (run_is is_continue_byte (λ x y. first_of_two _ _ _ _ (never_both x)) run
       (run_of_family b Word small family)) (stops turns_word stays)
 
   as_space : Space ≡ family_of b → is_space_lead (get_or rest n 0) ≡ false
       → IsFirstToken text record { kind = Whitespace; len = 1 + n }
   as_space family stays =
-      space_first text b rest n is e small family (run_is is_space_byte
-      (λ x y. second_of_two (is_continue_byte x) (is_space_byte x) (is_continue_byte y) (is_space_byte y)
-      (never_both x)) b rest n run
+      space_first is e small family (run_is is_space_byte (λ x y. second_of_two _ _ _ _ (never_both x)) run
       (run_of_family b Space small family)) (stops is_space_lead stays)
 
   as_symbol : Symbol ≡ family_of b → IsFirstToken text record { kind = symbol_kind b; len = 1 + n }
-  as_symbol family = subst (λ k. IsFirstToken text record { kind = symbol_kind b; len = 1 + k }) (alone n refl)
-      (symbol_first text b rest (symbol_kind b) is e small family refl)
+  as_symbol family = rw (← alone n refl) (symbol_first is e small family refl)
     where
       alone : (m : ℕ) → n ≡ m → 0 ≡ n
       alone zero f = sym f
@@ -186,12 +174,11 @@ module _ (text : List ℕ) (is : IsUtf8 text) (b : ℕ) (rest : List ℕ) (e : t
   by_family : (kind : TokenKind) → StaysWithin kind (get_or rest n 0) → (f : Family) → f ≡ family_of b
       → Some kind ≡ classified_in f b
       → IsFirstToken text record { kind = kind; len = 1 + n }
-  by_family kind stays Word family is = let k = same_Some kind Ident is in subst
-      (λ (k : TokenKind). IsFirstToken text record { kind = k; len = 1 + n }) (sym k) (as_word family (stays.word k))
-  by_family kind stays Space family is = let k = same_Some kind Whitespace is in subst
-      (λ (k : TokenKind). IsFirstToken text record { kind = k; len = 1 + n }) (sym k) (as_space family (stays.space k))
-  by_family kind stays Symbol family is = subst (λ (k : TokenKind). IsFirstToken text record { kind = k; len = 1 + n })
-      (sym (same_Some kind (symbol_kind b) is)) (as_symbol family)
+  by_family kind stays Word family is =
+      let k = same_Some kind Ident is in rw k (as_word family (stays.word k))
+  by_family kind stays Space family is =
+      let k = same_Some kind Whitespace is in rw k (as_space family (stays.space k))
+  by_family kind stays Symbol family is = rw (same_Some kind (symbol_kind b) is) (as_symbol family)
   by_family kind stays f family is = absurd (none-some kind (sym is))
 
   as_classified : (kind : TokenKind) → classified b ≡ Some kind → StaysWithin kind (get_or rest n 0)
@@ -243,7 +230,7 @@ pub record TellsNext (text : List ℕ) (at block ends low : ℕ) (kind : TokenKi
   pub lowest : IsLowest ends low
   pub stays : StaysWithin kind (get_or text (block + low) 0)
 
-module _ (text : List ℕ) (at block ends low : ℕ) (kind : TokenKind) (next : TellsNext text at block ends low kind) where
+module _ {text : List ℕ} {at block ends low : ℕ} {kind : TokenKind} (next : TellsNext text at block ends low kind) where
   pub classified_after : at < block + low
   classified_after = let after = (next.known low next.lowest.set).0 in omega (arith, after, next.behind)
 
@@ -255,11 +242,11 @@ module _ (text : List ℕ) (at block ends low : ℕ) (kind : TokenKind) (next : 
       let n : ℕ = block + low - at - 1 in
       let e : at + suc n ≡ block + low = omega (arith, classified_after) in
       let whole : 1 + n ≡ block + low - at = omega (arith, classified_after) in
-      let byte : get_or text (block + low) 0 ≡ get_or (drop (suc at) text) n 0 = ap (λ i. get_or text i 0)
-      (let f : block + low ≡ suc at + n = omega (arith, classified_after) in f) ∙ sym (get_or-drop (suc at) text n 0) in
-      subst (λ k. IsFirstToken (drop at text) record { kind = kind; len = k }) whole
-      (as_classified (drop at text) (IsUtf8-drop text at next.utf8 next.bound) (get_or text at 0) (drop (suc at) text)
-      (drop-cons text at 0 (omega (arith, classified_after, classified_inside))) n
+      let sum : block + low ≡ suc at + n = omega (arith, classified_after) in
+      let byte : get_or text (block + low) 0 ≡ get_or (drop (suc at) text) n 0 = cc (sum, get_or-drop (suc at) text n 0) in
+      rw (← whole)
+      (as_classified (IsUtf8-drop text at next.utf8 next.bound)
+      (drop-cons text at 0 (omega (arith, classified_after, classified_inside)))
       (runs_to text at block ends low n next.behind next.known next.lowest e)
       (classified_small _ (ap is_some next.tells)) kind next.tells (subst (StaysWithin kind) byte next.stays))
 

@@ -20,8 +20,7 @@ pub starts-begins : (tail pattern : List ℕ) (answer : Bool) → answer ≡ sta
 starts-begins tail pattern answer is = by_either (begins pattern tail)
     (λ e. (starts_is Decides-eqb tail pattern answer is).1 _ (begins-whole pattern tail e) ∙ sym e)
     (λ e. false_from_ne_true answer
-    (λ t. either-way (begins pattern tail) (ap (begins pattern) ((starts_is Decides-eqb tail pattern answer is).0 t)
-    ∙ begins-front pattern _) e) ∙ sym e)
+    (λ t. either-way _ (rw ((starts_is Decides-eqb tail pattern answer is).0 t) (begins-front pattern _)) e) ∙ sym e)
 
 more-one : (k : ℕ) (o : Option ℕ) → more k (one_more o) ≡ more (k + 1) o
 more-one k o = grind (arith, common_steps)
@@ -42,18 +41,18 @@ module _ (d : ℕ) (ds : List ℕ) where
   over [] (suc k) le none = absurd (omega arith)
   over (c ∷ s) (suc k) le none = by_either (c == d)
       (λ e. absurd (none 0 (omega arith) e))
-      (λ e. offset-on (begins (d ∷ ds)) c s (rw e refl)
-      ∙ (ap one_more (over s k (omega arith) (λ j l. none (suc j) (omega arith)))
-      ∙ one_more-more k (first (d ∷ ds) (drop k s))))
+      (λ e. cc (
+        offset-on (begins (d ∷ ds)) c s (rw e refl),
+        over s k (omega arith) (λ j l. none (suc j) (omega arith)),
+        one_more-more k (first (d ∷ ds) (drop k s)),
+      ))
 
   -- The first occurrence of the byte after the part that is skipped.
   module _ (rest cut : List ℕ) (start : ℕ)
       (skipped : first (d ∷ ds) rest ≡ more start (first (d ∷ ds) (drop start rest))) (e : cut ≡ drop start rest) where
     pub start_none : IsFirstByte (is_byte d) cut None → first (d ∷ ds) rest ≡ None
     start_none none =
-        skipped ∙ (ap (λ (s : List ℕ). more start (first (d ∷ ds) s)) (sym e)
-        ∙ ap (more start) (over cut (length cut) (omega arith) (λ j l. none j (omega arith) l)
-        ∙ ap (λ (s : List ℕ). more (length cut) (first (d ∷ ds) s)) (drop-length cut)))
+        rw (← e, over cut (length cut) (omega arith) (λ j l. none j (omega arith) l), drop-length cut) at skipped
 
     pub start_some : start ≤ length rest → (step : ℕ) → IsFirstByte (is_byte d) cut (Some step)
         → (start + step < length rest) × (get_or rest (start + step) 0 ≡ d)
@@ -61,22 +60,21 @@ module _ (d : ℕ) (ds : List ℕ) where
     start_some inside step here =
         let h = here.0.high in (
           omega (arith, ap length e, length-drop start rest),
-          sym (get_or-drop start rest step 0)
-              ∙ (ap (λ (s : List ℕ). get_or s step 0) (sym e) ∙ eqb-true (get_or cut step 0) d here.1),
-          skipped
-              ∙ (ap (λ (s : List ℕ). more start (first (d ∷ ds) s)) (sym e)
-              ∙ (ap (more start) (over cut step (omega arith) (λ j l. here.0.before j (omega arith) l))
-              ∙ (more-more start step (first (d ∷ ds) (drop step cut))
-              ∙ ap (λ (s : List ℕ). more (start + step) (first (d ∷ ds) s))
-              (ap (drop step) e ∙ drop-drop step start rest)))),
+          cc (get_or-drop start rest step 0, eqb-true (get_or cut step 0) d here.1),
+          cc (
+            skipped,
+            over cut step (omega arith) (λ j l. here.0.before j (omega arith) l),
+            more-more start step (first (d ∷ ds) (drop step cut)),
+            drop-drop step start rest,
+          ),
         )
 
   module _ (rest cut : List ℕ) (from : ℕ) (at : IsPast (d ∷ ds) rest from) (e : cut ≡ drop from rest) where
     cut_left : first (d ∷ ds) rest ≡ more from (first (d ∷ ds) cut)
-    cut_left = at.left ∙ ap (λ (s : List ℕ). more from (first (d ∷ ds) s)) (sym e)
+    cut_left = rw e at.left
 
     pub past_end : first (d ∷ ds) cut ≡ None → None ≡ first (d ∷ ds) rest
-    past_end none = sym (cut_left ∙ ap (more from) none)
+    past_end none = rw none at (sym cut_left)
 
     -- The byte is `step` bytes further on, and `tail` is the text after it.
     module _ (step : ℕ) (here : (step < length cut) × (get_or cut step 0 ≡ d)
@@ -89,9 +87,7 @@ module _ (d : ℕ) (ds : List ℕ) where
       at_byte = grind (arith, common_steps, get_or-drop, drop-drop, drop-cons, inside)
 
       so_far : first (d ∷ ds) rest ≡ more (from + step) (first (d ∷ ds) (d ∷ tail))
-      so_far = cut_left
-          ∙ (ap (more from) (here.2 ∙ ap (λ (s : List ℕ). more step (first (d ∷ ds) s)) at_byte)
-          ∙ more-more from step (first (d ∷ ds) (d ∷ tail)))
+      so_far = cc (cut_left, here.2, at_byte, more-more from step (first (d ∷ ds) (d ∷ tail)))
 
       module _ (answer : Bool) (is : answer ≡ starts_with (λ x y. x == y) tail ds) where
         stands : begins (d ∷ ds) (d ∷ tail) ≡ answer
@@ -99,8 +95,7 @@ module _ (d : ℕ) (ds : List ℕ) where
 
         pub past_found : answer ≡ true → (place : ℕ) → place ≡ from + step + 1 - 1 → Some place ≡ first (d ∷ ds) rest
         past_found so place there =
-            sym (so_far ∙ ap (more (from + step)) (offset-here (begins (d ∷ ds)) d tail (stands ∙ so))
-            ∙ ap Some (omega arith))
+            rw (so_far, offset-here (begins (d ∷ ds)) d tail (stands ∙ so)) (ap Some (omega arith))
 
         pub past_on : answer ≡ false → IsPast (d ∷ ds) rest (from + step + 1)
         past_on fails = grind (arith, common_steps, inside, so_far, offset-on, stands, more-one)

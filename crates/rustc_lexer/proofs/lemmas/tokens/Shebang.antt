@@ -1,9 +1,9 @@
 -- Shebang lines: the front of a text, and its first line.
-use Rattle.std.proofs.Common.{◌≡◌, ◌≢◌, ℕ, zero, suc, ◌+◌, ◌-◌, ◌<◌, ◌≤◌, Bool, true, false, if◌then◌else◌, List, []}
+use Rattle.std.proofs.Common.{◌≡◌, ◌≢◌, ℕ, zero, suc, ◌+◌, ◌-◌, ◌<◌, ◌≤◌, true, false, List, []}
 use Rattle.std.proofs.Common.{◌∷◌, length, take, drop, get_or, codes, length-append, length-take-le, take-append-drop}
-use Rattle.std.proofs.Common.{refl, sym, ap, ◌∙◌, arith, Option, Some, None}
-use Rattle.std.proofs.Common.{inl, inr, subst, ◌==◌, ◌++◌}
-use Rattle.std.specs.{Char.{encode_utf8, len_utf8}, Str.{IsCharBoundary, IsUtf8, chars, encode_utf8_all}}
+use Rattle.std.proofs.Common.{refl, sym, ap, arith, Some, None}
+use Rattle.std.proofs.Common.{inl, inr, ◌==◌, ◌++◌}
+use Rattle.std.specs.{Char.{encode_utf8}, Str.{IsCharBoundary, IsUtf8, chars, encode_utf8_all}}
 use Rattle.std.proofs.Math.Seq.{drop-cons, drop-length, get_or-append_seam}
 use Rattle.std.proofs.lemmas.Bool.{cases_Bool, eqb-true, ne_eqb}
 use Rattle.std.proofs.lemmas.{List.{get_or-take}, Grind.{common_steps}}
@@ -25,13 +25,11 @@ module _ (s tail : List ℕ) (n : ℕ) (two : n ≡ 2) (front : s ≡ 35 ∷ 33 
   past_front = grind (arith, common_steps)
 
   pub attribute_here : is_attribute (tokens_of (part newest) tail) ≡ true → None ≡ read_shebang s
-  attribute_here e =
-      sym (past_front ∙ ap (λ (b : Bool). let r : Option ℕ = if b then None else Some (2 + line_len tail) in r) e)
+  attribute_here e = rw (past_front, e) refl
 
   pub line_here : (len : ℕ) → is_attribute (tokens_of (part newest) tail) ≡ false → len ≡ line_len tail
       → Some (2 + len) ≡ read_shebang s
-  line_here len e f = ap (λ (k : ℕ). Some (2 + k)) f
-      ∙ sym (past_front ∙ ap (λ (b : Bool). let r : Option ℕ = if b then None else Some (2 + line_len tail) in r) e)
+  line_here len e f = rw (past_front, e, f) refl
 
 -- The characters before the first newline are a line.
 inline : (text : List ℕ) (k : ℕ) → ((i : ℕ) → i < k → get_or text i 0 ≢ 10) → AreAll is_inline (take k text)
@@ -42,7 +40,7 @@ inline (c ∷ s) (suc k) none =
 
 module _ (text : List ℕ) where
   line_is : (k : ℕ) → k ≤ length text → IsLineBefore (drop k text) (take k text) → k ≡ line_len text
-  line_is k le is = sym (ap line_len (sym (take-append-drop k text)) ∙ (line-read is ∙ length-take-le k text le))
+  line_is k le is = cc (take-append-drop k text, line-read is, length-take-le k text le)
 
   -- A text without a newline is one line.
   pub no_newline : ((i : ℕ) → i < length text → get_or text i 0 ≢ 10) → length text ≡ line_len text
@@ -52,7 +50,7 @@ module _ (text : List ℕ) where
   module _ (k : ℕ) (inside : k < length text) (newline : get_or text k 0 ≡ 10)
       (first : (i : ℕ) → i < k → get_or text i 0 ≢ 10) where
     there : drop k text ≡ 10 ∷ drop (suc k) text
-    there = drop-cons text k 0 inside ∙ ap (λ c. c ∷ drop (suc k) text) newline
+    there = rw newline at (drop-cons text k 0 inside)
 
     pub with_return : 0 < k → get_or text (k - 1) 0 ≡ 13 → k - 1 ≡ line_len text
     with_return some e =
@@ -79,9 +77,8 @@ mark_boundary text utf8 = by_chars (chars text) refl
     by_chars [] e = rw e (IsCharBoundary-start text utf8)
     by_chars (c ∷ cs) e = elim (cases_Bool (c == 0xFEFF)) [
       | inl mark ↦
-          let all : text ≡ encode_utf8 c ++ encode_utf8_all cs =
-          sym (encodes-chars text utf8) ∙ ap encode_utf8_all e in
-          rw (e, mark) (subst (λ (d : ℕ). IsCharBoundary text (0 + len_utf8 d)) (eqb-true c 0xFEFF mark)
+          let all : text ≡ encode_utf8 c ++ encode_utf8_all cs = sym (rw e at (encodes-chars text utf8)) in
+          rw (e, mark) (rw (eqb-true c 0xFEFF mark) at
           (IsCharBoundary-past_char text (encode_utf8_all cs) 0 c (omega arith) utf8 all))
       | inr other ↦ rw (e, other) (IsCharBoundary-start text utf8)
     ]

@@ -1,7 +1,7 @@
 -- A short character literal: an ASCII character, or a backslash and an ASCII character, and directly after it a quote.
 use Rattle.std.proofs.Common.{◌≡◌, ℕ, ◌+◌, ◌-◌, ◌≤◌, ◌<◌, ◌==◌, Bool, true, false, List, [], ◌∷◌, length, drop, codes}
-use Rattle.std.proofs.Common.{refl, sym, ap, ◌∙◌, arith, subst, slice_index}
-use Rattle.std.specs.{Int.{from_bool}, Str.{chars, encode_utf8_all, IsUtf8, IsCharBoundary}}
+use Rattle.std.proofs.Common.{refl, arith, slice_index}
+use Rattle.std.specs.{Int.{from_bool}, Str.{chars, IsUtf8, IsCharBoundary}}
 use Rattle.std.proofs.lemmas.{Bool.{eqb-true, lt-leb}, Str.{encodes-chars, IsCharBoundary-from_drop}}
 use Rattle.std.proofs.{Math.Bool.{or-true}, lemmas.Grind.{common_steps}}
 use Rattle.unicode_ident.proofs.IdentLemmas.{is_xid_start-ascii}
@@ -30,8 +30,8 @@ lone : (b : ℕ) (left : List ℕ) → IsUtf8 (b ∷ 39 ∷ left) → b < 128 �
 lone b left is small other =
     let inner : IsUtf8 (39 ∷ left) = IsUtf8-ascii b (39 ∷ left) is small in
     let last : IsUtf8 left = IsUtf8-ascii 39 left inner (omega arith) in
-    let reads : chars (b ∷ 39 ∷ left) ≡ b ∷ 39 ∷ chars left = chars-ascii b (39 ∷ left) is small
-    ∙ ap (λ cs. b ∷ cs) (chars-ascii 39 left inner (omega arith)) in
+    let reads : chars (b ∷ 39 ∷ left) ≡ b ∷ 39 ∷ chars left =
+    cc (chars-ascii b (39 ∷ left) is small, chars-ascii 39 left inner (omega arith)) in
     record {
       utf8 = last;
       character = rw reads refl;
@@ -44,26 +44,26 @@ lone b left is small other =
 escaped : (e : ℕ) (left : List ℕ) → IsUtf8 (92 ∷ e ∷ 39 ∷ left) → e < 128 → ShortChar (92 ∷ e ∷ 39 ∷ left) left
 unfolding past
 escaped e left is small =
-    let text : List ℕ = 92 ∷ e ∷ 39 ∷ left in
     let one : IsUtf8 (e ∷ 39 ∷ left) = IsUtf8-ascii 92 (e ∷ 39 ∷ left) is (omega arith) in
     let two : IsUtf8 (39 ∷ left) = IsUtf8-ascii e (39 ∷ left) one small in
     let last : IsUtf8 left = IsUtf8-ascii 39 left two (omega arith) in
     let reads : chars (92 ∷ e ∷ 39 ∷ left) ≡ 92 ∷ e ∷ 39 ∷ chars left =
-    chars-ascii 92 (e ∷ 39 ∷ left) is (omega arith) ∙ ap (λ cs. 92 ∷ cs)
-    (chars-ascii e (39 ∷ left) one small ∙ ap (λ cs. e ∷ cs) (chars-ascii 39 left two (omega arith))) in
+    cc (
+      chars-ascii 92 (e ∷ 39 ∷ left) is (omega arith),
+      chars-ascii e (39 ∷ left) one small,
+      chars-ascii 39 left two (omega arith),
+    ) in
     record {
       utf8 = last;
       character = rw (reads, backslash-no_name) (or-true (begins (codes "'") (e ∷ 39 ∷ chars left)));
-      read = ap (λ xs. (true, xs)) (sym (encodes-chars left last)) ∙ sym
-          (ap (λ cs. let r : Bool × ℕ = single_quoted_string cs in (r.0, encode_utf8_all (drop r.1 cs))) reads);
+      read = rw (reads, encodes-chars left last) refl;
     }
 
 module _ (text bytes : List ℕ) (offset : ℕ) (is : IsUtf8 text) (same : bytes ≡ text) (some : 3 ≤ length bytes)
     (offset_is : offset ≡ 1 + from_bool (slice_index bytes 0 == 92)) (small : slice_index bytes (offset - 1) < 128)
     (quote : slice_index bytes offset ≡ 39) where
   pub short_char : ShortChar text (drop (offset + 1) text)
-  short_char = subst (λ s. ShortChar s (drop (offset + 1) s)) same
-      (by_text bytes (subst IsUtf8 (sym same) is) some offset_is small quote)
+  short_char = rw same at (by_text bytes (rw same is) some offset_is small quote)
     where
       by_text : (s : List ℕ) → IsUtf8 s → 3 ≤ length s → offset ≡ 1 + from_bool (slice_index s 0 == 92)
           → slice_index s (offset - 1) < 128 → slice_index s offset ≡ 39 → ShortChar s (drop (offset + 1) s)
@@ -72,22 +72,14 @@ module _ (text bytes : List ℕ) (offset : ℕ) (is : IsUtf8 text) (same : bytes
       by_text (b ∷ c ∷ []) u l p m q = absurd (omega arith)
       by_text (b ∷ c ∷ d ∷ ds) u l p m q = by_either (b == 92)
           (λ e.
-          let at : offset ≡ 2 = p ∙ ap (λ (t : Bool). 1 + from_bool t) e in
+          let at : offset ≡ 2 = rw e at p in
           let slash : b ≡ 92 = eqb-true b 92 e in
-          let first : c < 128 = subst (λ n. slice_index (b ∷ c ∷ d ∷ ds) (n - 1) < 128) at m in
-          let closes : d ≡ 39 = subst (λ n. slice_index (b ∷ c ∷ d ∷ ds) n ≡ 39) at q in
-          subst (λ n. ShortChar (b ∷ c ∷ d ∷ ds) (drop (n + 1) (b ∷ c ∷ d ∷ ds))) (sym at)
-          (subst (λ x. ShortChar (x ∷ c ∷ d ∷ ds) ds) (sym slash)
-          (subst (λ x. ShortChar (92 ∷ c ∷ x ∷ ds) ds) (sym closes)
-          (escaped c ds (subst (λ x. IsUtf8 (92 ∷ c ∷ x ∷ ds)) closes
-          (subst (λ x. IsUtf8 (x ∷ c ∷ d ∷ ds)) slash u)) first))))
+          let closes : d ≡ 39 = rw at at q in
+          rw (at, slash, closes) (escaped c ds (rw (slash, closes) at u) (rw at at m)))
           (λ e.
-          let at : offset ≡ 1 = p ∙ ap (λ (t : Bool). 1 + from_bool t) e in
-          let first : b < 128 = subst (λ n. slice_index (b ∷ c ∷ d ∷ ds) (n - 1) < 128) at m in
-          let closes : c ≡ 39 = subst (λ n. slice_index (b ∷ c ∷ d ∷ ds) n ≡ 39) at q in
-          subst (λ n. ShortChar (b ∷ c ∷ d ∷ ds) (drop (n + 1) (b ∷ c ∷ d ∷ ds))) (sym at)
-          (subst (λ x. ShortChar (b ∷ x ∷ d ∷ ds) (d ∷ ds)) (sym closes)
-          (lone b (d ∷ ds) (subst (λ x. IsUtf8 (b ∷ x ∷ d ∷ ds)) closes u) first e)))
+          let at : offset ≡ 1 = rw e at p in
+          let closes : c ≡ 39 = rw at at q in
+          rw (at, closes) (lone b (d ∷ ds) (rw closes at u) (rw at at m) e))
 
   pub short_cut : offset + 1 ≤ length text → IsCharBoundary text (offset + 1)
   short_cut le = IsCharBoundary-from_drop text (offset + 1) le short_char.utf8

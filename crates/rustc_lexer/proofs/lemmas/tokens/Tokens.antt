@@ -1,13 +1,13 @@
 -- Reading the tokens of a whole text, one at a time.
-use Rattle.std.proofs.Common.{◌≡◌, ℕ, ◌+◌, ◌<◌, ◌≤◌, subst, List, [], length, length-drop, drop, drop-drop, arith, refl}
-use Rattle.std.proofs.Common.{sym, ap, ◌∙◌, Some, IsCharBoundary}
+use Rattle.std.proofs.Common.{◌≡◌, ℕ, ◌+◌, ◌<◌, ◌≤◌, List, [], length, length-drop, drop, drop-drop, arith, refl}
+use Rattle.std.proofs.Common.{sym, Some, IsCharBoundary}
 use Rattle.std.specs.{Prelude.{⊤}, Iterator.{at_most, MakesProgress}}
 use Rattle.std.proofs.lemmas.{Bool.{ne_eqb}, Str.{IsCharBoundary-from_take, IsUtf8-drop}, List.{drop_all}}
 use Rattle.std.proofs.lemmas.Grind.{common_steps}
 use Rattle.rustc_lexer.specs.{Edition, FrontmatterAllowed, Token, No}
-use Rattle.rustc_lexer.specs.Tokens.{tokens_of, tokens_left, RestartsAtBounds, TakesToken}
+use Rattle.rustc_lexer.specs.Tokens.{tokens_left, RestartsAtBounds, TakesToken}
 use Rattle.rustc_lexer.specs.laws.Tokens.{token_at-cuts, tokens-cons, tokens-nil}
-use Rattle.rustc_lexer.specs.{LanguageText.{Mode, part, mode_after, mode_in}, laws.Edition.{edition_grammar}}
+use Rattle.rustc_lexer.specs.{LanguageText.{Mode, mode_after, mode_in}, laws.Edition.{edition_grammar}}
 use Rattle.rustc_lexer.specs.{model.Edition.{first_token_in}, State.{State}, model.Taking.{token_at}}
 use Rattle.rustc_lexer.specs.laws.Cuts.{at_bound}
 use Rattle.rustc_lexer.specs.laws.State.{state, past_token, past_token-is, advance-some, token_past-zero}
@@ -31,7 +31,6 @@ takes_first s t token none is some e f =
       f,
       e,
       token_at-cuts s.mode s.rest is some,
-      (f ∙ ap (past_token s.rest s.mode) e),
       tokens-cons,
       IsCharBoundary-from_take,
     )
@@ -39,17 +38,14 @@ takes_first s t token none is some e f =
 -- The same for the rest of a text from an offset on.
 module _ (mode : Mode) (text : List ℕ) (at : ℕ) (s : State) (view : state 0 (drop at text) mode ≡ s) where
   pub none_left : length text ≤ at → tokens_left s ≡ []
-  none_left all = subst (λ (x : State). tokens_left x ≡ []) view
-      (ap (tokens_of mode) (drop_all at text all) ∙ tokens-nil mode)
+  none_left all = rw (← view, drop_all at text all) (tokens-nil mode)
 
   pub takes_next : (past : ℕ) (next : Mode) (token : Token) → IsText text → IsCharBoundary text at → at < length text
       → token ≡ token_at mode (drop at text) → past ≡ at + token.len → next ≡ mode_after mode token.kind
       → TakesToken s token (state 0 (drop past text) next)
   takes_next past next token is bound some e o m =
-      let cut : drop past text ≡ drop token.len (drop at text) =
-      ap (λ n. drop n text) o ∙ sym (drop-drop token.len at text) in
-      subst (λ (x : State). TakesToken x token (state 0 (drop past text) next)) view
-      (takes_first (state 0 (drop at text) mode) (state 0 (drop past text) next) token refl
+      let cut : drop past text ≡ drop token.len (drop at text) = cc (drop-drop token.len at text) in
+      rw (← view) (takes_first (state 0 (drop at text) mode) (state 0 (drop past text) next) token refl
       record { utf8 = IsUtf8-drop text at is.utf8 bound; fits = omega (arith, length-drop at text, is.fits) }
       (omega (arith, length-drop at text)) e (past_token-is (drop at text) (drop past text) mode next token cut m))
 
@@ -60,10 +56,7 @@ pub takes_part : (allowed : FrontmatterAllowed) (edition : Edition) (text : List
     → token ≡ first_token_in edition (drop at text) → past ≡ at + token.len
     → TakesToken s token (state 0 (drop past text) (mode_in allowed edition))
 takes_part allowed edition text at s never view past token is bound some e o =
-    let part_of : mode_in allowed edition ≡ part edition = ap (λ (a : FrontmatterAllowed). mode_in a edition) never in
-    takes_next (mode_in allowed edition) text at s view past (mode_in allowed edition) token is bound some
-    (e ∙ sym (ap (λ (m : Mode). token_at m (drop at text)) part_of)) o
-    (subst (λ (m : Mode). m ≡ mode_after m token.kind) (sym part_of) refl)
+    takes_next _ text at s view past (mode_in allowed edition) token is bound some (rw never e) o (rw never refl)
 
 -- An iterator that read a token is closer to its end.
 pub goes : (s t : State) (token : Token) → TakesToken s token t

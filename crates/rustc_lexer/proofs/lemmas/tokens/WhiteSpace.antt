@@ -1,6 +1,6 @@
 -- Whitespace outside ASCII, decided by its first byte.
-use Rattle.std.proofs.Common.{◌≡◌, ℕ, ◌||◌, Bool, true, false, true≢false, List, [], ◌∷◌, drop, get_or, refl, sym, ap}
-use Rattle.std.proofs.Common.{◌∙◌, arith}
+use Rattle.std.proofs.Common.{◌≡◌, ℕ, ◌||◌, Bool, true, false, List, [], ◌∷◌, drop, get_or, refl}
+use Rattle.std.proofs.Common.{arith}
 use Rattle.std.specs.{Char.{encode_utf8}, List.{prefix_len}, Str.{chars, encode_utf8_all, IsUtf8}}
 use Rattle.std.proofs.lemmas.{List.{get_or_append_left}, Str.{encodes-chars, length-encode, len_utf8_bounds}}
 use Rattle.rustc_lexer.specs.{model.ByteRuns.{is_space_byte}, Classes.{is_whitespace}}
@@ -35,7 +35,6 @@ space_stops_here text bytes end is read counted left f out =
     none_next [] e = refl
     none_next (c ∷ cs) e =
         let front : get_or left 0 0 ≡ get_or (encode_utf8 c) 0 0 =
-        ap (λ xs. get_or xs 0 0) (sym (encodes-chars left at.utf8) ∙ ap encode_utf8_all e)
-        ∙ get_or_append_left (encode_utf8 c) (encode_utf8_all cs) 0 0
-        (omega (arith, length-encode c, len_utf8_bounds c)) in
-        false_from_ne_true _ (λ f. true≢false (sym (ap leads front ∙ lead_of c f) ∙ none_leads left at.stops out))
+        cc (encodes-chars left at.utf8, get_or_append_left (encode_utf8 c) (encode_utf8_all cs) 0 0
+        (omega (arith, length-encode c, len_utf8_bounds c))) in
+        false_from_ne_true _ (λ f. cc (lead_of c f, none_leads left at.stops out))

@@ -1,4 +1,4 @@
-use Rattle.std.proofs.Common.{None, Some, ap, sym, ◌∙◌, arith, rules, get_or, List, ℕ, ◌-◌}
+use Rattle.std.proofs.Common.{None, Some, arith, rules}
 use Rattle.std.proofs.lemmas.{Grind.{common_steps}, Str.Pattern.{find_char}}
 use Rattle.rustc_lexer.proofs.lemmas.tokens.Shebang.{no_newline, with_return, without_return}
 use Rattle.rustc_lexer.proofs.shebang.line_len.Goals as goal
@@ -11,8 +11,7 @@ pub returns-then-as_bytes-newline-eq13-clause-line : goal.returns-then-as_bytes-
 returns-then-as_bytes-newline-eq13-clause-line c =
     let at = find_char 10 c.args.text.now (Some c.in-Some.newline) c.in-Some.ensures.cases (omega arith) in
     with_return c.args.text.now c.in-Some.newline at.0 at.1 at.2 (omega arith)
-    (ap (λ (xs : List ℕ). get_or xs (c.in-Some.newline - 1) 0) (sym c.as_bytes.ensures.value)
-    ∙ c.if-as_bytes-newline-eq13.true)
+    (rw c.as_bytes.ensures.value at c.if-as_bytes-newline-eq13.true)
 
 pub returns-else-newline-gt0-clause-line : goal.returns-else-newline-gt0-clause-line
 returns-else-newline-gt0-clause-line c =

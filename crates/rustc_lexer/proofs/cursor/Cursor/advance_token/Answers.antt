@@ -1,5 +1,4 @@
-use Rattle.std.proofs.Common.{refl, sym, ap, ◌∙◌, arith}
-use Rattle.rustc_lexer.specs.{Token, State.{State}, laws.State.{state}}
+use Rattle.std.proofs.Common.{refl, arith}
 use Rattle.rustc_lexer.proofs.lemmas.tokens.Advance.{advances, advances_alone, ends, none_left, still_cursor}
 use Rattle.rustc_lexer.proofs.lemmas.tokens.Advance.{suffix_within, whole_fits}
 use Rattle.rustc_lexer.proofs.cursor.Cursor.advance_token.Goals as goal
@@ -9,10 +8,10 @@ returns-in_default c =
     let steps = c.in_default.ensures.steps in
     let end = ends _ _ c.self.invariant _ c.self.view_is steps.0 in
     let left = none_left _ _ c.self.invariant _ c.self.view_is steps.0 in
-    let same = ap (λ (x : State). state c.self.inside.pending x.rest x.mode) steps.1 ∙ c.self.view_is in
+    let same = rw (← steps.1) at c.self.view_is in
     record {
-      token = sym (ap (λ (r : Token × State). r.0) end);
-      state = same ∙ sym (ap (λ (r : Token × State). r.1) end);
+      token = rw end refl;
+      state = rw end same;
       end = λ e. (left.0, left.1, refl, same);
       past = λ other. absurd (other refl);
     }

@@ -1,7 +1,5 @@
-use Rattle.std.proofs.Common.{arith, refl, sym, ap, subst, ◌∙◌}
-use Rattle.std.specs.Str.{IsUtf8}
+use Rattle.std.proofs.Common.{arith, refl, sym, ◌∙◌}
 use Rattle.std.proofs.lemmas.Str.{IsUtf8-drop}
-use Rattle.rustc_lexer.specs.{LanguageText.{mode_in}, model.{Taking.{token_at}, Quick.{BeginsWithNoHash}}}
 use Rattle.rustc_lexer.proofs.lemmas.tokens.Tokens.{goes, none_left, takes_next}
 use Rattle.rustc_lexer.proofs.lemmas.tokens.Classified.{left_is, still, takes_left, takes_classified}
 use Rattle.rustc_lexer.proofs.entry.TokensIterator.next.Goals as goal
@@ -20,13 +18,13 @@ returns-then-self-clause-steps c = let same =
 pub quick_token-requires-clause-utf8 : goal.quick_token-requires-clause-utf8
 quick_token-requires-clause-utf8 c =
     rw (left_is _ _ c.take.new.self.at c.as_bytes.ensures.value) (IsUtf8-drop c.self.inside.text.now c.take.new.self.at
-    (subst IsUtf8 c.as_bytes.ensures.value c.as_bytes.ensures.utf8) c.in_default.ensures.tells.bound)
+    (rw c.as_bytes.ensures.value at c.as_bytes.ensures.utf8) c.in_default.ensures.tells.bound)
 
 pub choose_in-chosen-requires-clause-no_hash : goal.choose_in-chosen-requires-clause-no_hash
 choose_in-chosen-requires-clause-no_hash c =
     let rest = left_is c.self.inside.text.now c.as_bytes.result.now c.take.new.self.at c.as_bytes.ensures.value
     ∙ sym c.as_str.ensures.rest in
-    subst BeginsWithNoHash rest c.in_default-quick_token.ensures
+    rw rest at c.in_default-quick_token.ensures
 
 pub returns-then-not-matches : goal.returns-then-not-matches
 returns-then-not-matches c =
@@ -59,11 +57,10 @@ returns c =
     let taken = takes_next _ c.self.inside.text.now c.take.new.self.at c.args.self.now
     (still _ _ _ _ _ _ c.self.view_is c.in_default.ensures) _ _ c.token_at-token.result
     record {
-      utf8 = subst IsUtf8 c.as_bytes.ensures.value c.as_bytes.ensures.utf8;
+      utf8 = rw c.as_bytes.ensures.value at c.as_bytes.ensures.utf8;
       fits = c.in_default.ensures.tells.fits;
     }
     c.in_default.ensures.tells.bound (omega arith)
-    (c.token_at-token.ensures.token ∙ ap (token_at (mode_in c.self.inside.frontmatter_allowed c.self.inside.edition))
-    c.as_str-2.ensures.rest) refl
+    (rw c.as_str-2.ensures.rest at c.token_at-token.ensures.token) refl
     (c.next_allowed-self-inside.ensures c.self.inside.edition) in
     record { steps = taken; goes = goes _ _ _ taken }

@@ -1,5 +1,5 @@
-use Rattle.std.proofs.{lemmas.Grind.{common_steps}, Common.{arith, rules, Bool, if◌then◌else◌, sym, ap, ◌∙◌}}
-use Rattle.rustc_lexer.specs.{TokenKind, Ident, UnknownPrefix, Tables.{is_emoji}, Classes.{ends_prefix}}
+use Rattle.std.proofs.{lemmas.Grind.{common_steps}, Common.{arith, rules, sym, ◌∙◌}}
+use Rattle.rustc_lexer.specs.{Tables.{is_emoji}, Classes.{ends_prefix}}
 use Rattle.rustc_lexer.proofs.lemmas.tokens.Identifiers.{ident_or_unknown_prefix-invalid, ident_or_unknown_prefix-valid}
 use Rattle.rustc_lexer.proofs.lemmas.tokens.Quick.{ident_or_unknown_prefix_ends}
 use Rattle.rustc_lexer.proofs.lexemes.ident.ident_or_unknown_prefix.Goals as goal
@@ -14,11 +14,9 @@ returns-then-next_is c = grind (arith, common_steps, rules, ident_or_unknown_pre
 
 pub returns-then-next_is-2 : goal.returns-then-next_is-2
 returns-then-next_is-2 c =
-    ap (λ (b : Bool). let k : TokenKind = if b then UnknownPrefix else Ident in
-    (k, c.eat_continue-rest.result.now))
-    (sym (sym (c.next_is-2.ensures ends_prefix (λ d b e. e)) ∙ c.if-next_is-2.true))
-    ∙ ident_or_unknown_prefix-valid _ _ c.utf8.tail (c.eat_continue-rest.ensures.past)
-    (sym (c.next_is.ensures is_emoji (λ d b e. e)) ∙ c.if-next_is.false)
+    rw (sym (c.next_is-2.ensures ends_prefix (λ d b e. e)) ∙ c.if-next_is-2.true) at
+    (ident_or_unknown_prefix-valid _ _ c.utf8.tail c.eat_continue-rest.ensures.past
+    (sym (c.next_is.ensures is_emoji (λ d b e. e)) ∙ c.if-next_is.false))
 
 pub returns-else-next_is-2 : goal.returns-else-next_is-2
 returns-else-next_is-2 c =

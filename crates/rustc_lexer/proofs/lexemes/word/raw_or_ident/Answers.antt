@@ -1,5 +1,5 @@
 use Rattle.std.proofs.{lemmas.Grind.{common_steps}, Common.{arith, rules}}
-use Rattle.std.proofs.Common.{◌≡◌, ◌∙◌, ◌&&◌, Bool, true, List, ℕ, ap, sym, codes, drop}
+use Rattle.std.proofs.Common.{◌≡◌, ◌∙◌, Bool, true, List, ℕ, sym, codes}
 use Rattle.std.specs.Str.{chars, IsUtf8}
 use Rattle.rustc_lexer.specs.model.{Ident.{ident_or_unknown_prefix}, Lexeme.{opens_raw, begins_raw}, Raw.{raw_literal}}
 use Rattle.rustc_lexer.specs.{model.Scan.{after, begins, next_is, past}, laws.Past.{chars-past}}
@@ -9,8 +9,7 @@ use Rattle.rustc_lexer.proofs.lexemes.word.raw_or_ident.Goals as goal
 -- An `r` before a hash or a quote starts a raw string.
 raw-is : (tail rest : List ℕ) (b : Bool) → IsUtf8 tail → begins (codes "r") (chars tail) ≡ true → rest ≡ past 1 tail
     → b ≡ next_is opens_raw (chars rest) → begins_raw (chars tail) ≡ b
-raw-is tail rest b is r e f = ap (λ (x : Bool). x && next_is opens_raw (drop 1 (chars tail))) r
-    ∙ (ap (next_is opens_raw) (sym (ap chars e ∙ chars-past 1 tail is)) ∙ sym f)
+raw-is tail rest b is r e f = rw (r, f, e, chars-past 1 tail is)
 
 pub returns-then-begins_raw : goal.returns-then-begins_raw
 returns-then-begins_raw c =

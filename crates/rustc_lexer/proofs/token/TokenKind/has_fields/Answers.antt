@@ -1,4 +1,4 @@
-use Rattle.std.proofs.{Common.{◌≡◌, ◌<◌, ◌/◌, ◌^◌, ℕ, nat_eq, bit_and, arith, ap, ◌∙◌}, lemmas.Grind.{common_steps}}
+use Rattle.std.proofs.{Common.{◌≡◌, ◌<◌, ◌/◌, ◌^◌, nat_eq, bit_and, arith}, lemmas.Grind.{common_steps}}
 use Rattle.rustc_lexer.specs.{TokenKind, declared.token.TheConstants.{WITH_FIELDS}, Kinds.{has_fields, kind_entry}}
 use Rattle.rustc_lexer.proofs.token.TokenKind.has_fields.Goals as goal
 
@@ -14,4 +14,4 @@ pub overflow_shr-result : goal.overflow_shr-result
 overflow_shr-result c = let e = c.number.ensures in let s = small c.args.self in omega (arith, e, s)
 
 pub returns : goal.returns
-returns c = ap (λ (n : ℕ). nat_eq (bit_and (WITH_FIELDS / 2 ^ n) 1) 1) c.number.ensures ∙ told c.args.self
+returns c = rw c.number.ensures (told c.args.self)

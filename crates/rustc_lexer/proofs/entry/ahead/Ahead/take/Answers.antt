@@ -1,7 +1,6 @@
-use Rattle.std.proofs.Common.{◌≡◌, ◌+◌, ℕ, List, length-drop, get_or, sym, ap, subst, ◌∙◌, arith, is_some}
-use Rattle.std.specs.ControlFlow.{continue_value}
+use Rattle.std.proofs.Common.{◌+◌, ℕ, List, length-drop, get_or, arith}
 use lib.Count.{count_trailing_zeros}
-use Rattle.rustc_lexer.specs.model.Ends.{IsLowest, StaysWithin, classified}
+use Rattle.rustc_lexer.specs.model.Ends.{IsLowest, StaysWithin}
 use Rattle.rustc_lexer.proofs.lemmas.tokens.Bits.{lowest_is}
 use Rattle.rustc_lexer.proofs.lemmas.tokens.RunEnds.{TellsNext, classified_after, classified_ahead, classified_bound}
 use Rattle.rustc_lexer.proofs.lemmas.tokens.RunEnds.{classified_first, classified_inside, classified_stays}
@@ -31,13 +30,11 @@ returns-then-is_some c =
     let ends : ℕ = c.ends_ahead-block.result.1 in
     let low : ℕ = count_trailing_zeros 64 ends in
     let lowest : IsLowest ends low = lowest_is ends (omega (arith, c.if-ends-ne0.true)) (omega arith) in
-    let is = c.branch-kind.ensures ∙ ap continue_value c.in_ok-kind.is in
-    let byte : get_or c.as_bytes.result.now (block + low) 0 ≡ get_or text (block + low) 0 =
-    ap (λ (xs : List ℕ). get_or xs (block + low) 0) c.as_bytes.ensures.value in
+    let is = rw c.in_ok-kind.is at c.branch-kind.ensures in
     let stays : StaysWithin c.in_ok-kind.kind (get_or c.as_bytes.result.now (block + low) 0) =
     elim c.then-is_some.branch [
       | then-is_some-via-then-is_some w ↦ classified_stays c.in_ok-kind.kind _
-          (ap is_some (sym c.classified_by-classified.ensures) ∙ sym w.if-is_some.ensures)
+          (cc (c.classified_by-classified.ensures, w.if-is_some.ensures))
       | then-is_some-via-else-is_some+then-not-may_continue w ↦ w.may_continue.ensures w.if-not-may_continue.true
     ] in
     let next : TellsNext text at block ends low c.in_ok-kind.kind = record {
@@ -48,27 +45,27 @@ returns-then-is_some c =
       tells = (known.next c.in_ok-kind.kind is).tells;
       known = c.ends_ahead-block.ensures.known;
       lowest = lowest;
-      stays = subst (StaysWithin c.in_ok-kind.kind) byte stays;
+      stays = rw c.as_bytes.ensures.value at stays;
     } in
-    let ahead = classified_ahead text at block ends low c.in_ok-kind.kind next c.past_lowest-self.result
+    let ahead = classified_ahead next c.past_lowest-self.result
     (λ k le. c.past_lowest-self.ensures.gone low k lowest le)
     (λ k l. c.past_lowest-self.ensures.others low k lowest l) in
-    let after = classified_after text at block ends low c.in_ok-kind.kind next in
+    let after = classified_after next in
     record {
       utf8 = c.utf8.text;
       classified = is;
-      some = let inside = classified_inside text at block ends low c.in_ok-kind.kind next in
+      some = let inside = classified_inside next in
           omega (arith, after, inside);
-      first = classified_first text at block ends low c.in_ok-kind.kind next;
+      first = classified_first next;
       offset = omega (arith, after);
       tells = record {
         fits = known.fits;
-        bound = classified_bound text at block ends low c.in_ok-kind.kind next;
+        bound = classified_bound next;
         behind = omega arith;
         small = omega arith;
         past = λ j after set. let r = ahead j set in (r.1, r.2);
         next = λ kind e. record {
-          tells = ap classified (sym byte) ∙ (sym c.classified_by-classified.ensures ∙ e);
+          tells = cc (c.as_bytes.ensures.value, c.classified_by-classified.ensures, e);
           ahead = ahead;
         };
       };

@@ -1,4 +1,4 @@
-use Rattle.std.proofs.Common.{◌≡◌, ◌+◌, ◌<◌, List, ℕ, length, drop, ap, ◌∙◌, arith}
+use Rattle.std.proofs.Common.{◌≡◌, ◌<◌, List, ℕ, length, drop, ap, ◌∙◌, arith}
 use Rattle.rustc_lexer.specs.{Token, Classes.{IsText}, Tokens.{tokens_by}}
 use Rattle.rustc_lexer.proofs.lemmas.tokens.Buffers.{begun_more, one_written, stands, next_token, next_offset}
 use Rattle.rustc_lexer.proofs.lemmas.tokens.Progress.{same_first, stepped}
@@ -27,8 +27,7 @@ places-preserved g c =
           (c.from_token.ensures ∙ ap g.R.FromToken.written token);
       begun = begun_more (tokens_by first text) c.places.written c.places.at c.args.end inv.offset
           (omega arith) inv.begun;
-      offset = ap (λ (t : Token). c.places.at + t.len) token
-          ∙ next_offset law text is c.places.written c.places.at inv.offset more;
+      offset = rw token (next_offset law text is c.places.written c.places.at inv.offset more);
       count = omega (arith, c.step-token.ensures.count, inv.count);
       grammar = c.step-token.ensures.grammar ∙ inv.grammar;
     }

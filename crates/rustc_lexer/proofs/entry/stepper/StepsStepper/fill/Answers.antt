@@ -1,5 +1,5 @@
 use Rattle.std.proofs.{lemmas.Grind.{common_steps}, Common.{rules}}
-use Rattle.std.proofs.Common.{◌≡◌, ◌-◌, ◌<◌, ◌≤◌, List, ℕ, drop, length, refl, sym, ap, subst, ◌∙◌, arith, length-drop}
+use Rattle.std.proofs.Common.{◌≡◌, ◌-◌, ◌<◌, ◌≤◌, List, ℕ, drop, length, refl, ap, ◌∙◌, arith, length-drop}
 use Rattle.rustc_lexer.specs.{Edition, Token, Classes.{IsText}, Tokens.{bound, tokens_by}}
 use Rattle.rustc_lexer.specs.{laws.Edition.{edition_grammar}, model.Edition.{first_token_in}, State.{State}}
 use Rattle.rustc_lexer.proofs.lemmas.tokens.Buffers.{filled_more, IsFilling, some_left, stands, written_to}
@@ -17,9 +17,8 @@ places-preserved-in-Some g c =
 pub places-preserved : goal.places-preserved
 places-preserved g c =
     let same : State = c.next_classified.new.self in
-    let here = subst
-    (λ (s : State). IsFilling g.R.FromToken.written c.args.self.now.edition c.args.text.now c.args.end
-    c.args.buffer.now c.places.buffer c.places.count s) (sym c.in_default.ensures) c.places.invariant in
+    let here : IsFilling g.R.FromToken.written c.args.self.now.edition c.args.text.now c.args.end c.args.buffer.now
+    c.places.buffer c.places.count same = rw c.in_default.ensures c.places.invariant in
     filled_more g.R.FromToken.written _ c.args.text.now c.args.end c.args.buffer.now c.places.buffer c.places.count same
     _ c.in-Some-next.token _ record { utf8 = c.utf8.text; fits = c.requires.fits } c.requires.inside here
     (omega (arith, ap (λ (s : State). length s.rest) c.in_default.ensures))
@@ -42,11 +41,9 @@ returns-clause-filled g c =
       | else-places-test w ↦ λ more. absurd (omega arith)
       | then-places-test+then-left-past_end+in_default+in_default-next w ↦
           let some = some_left edition (drop at text) offset.past w.next_classified.new.self
-          (ap (λ (s : State). s.mode) w.in_default.ensures ∙ inv.mode)
-          (ap (λ (s : State). s.rest) w.in_default.ensures ∙ inv.rest)
+          (rw w.in_default.ensures inv.mode) (rw w.in_default.ensures inv.rest)
           (omega (arith, left, length-drop at text, w.left.ensures, w.if-left-past_end.true)) in
-          let none = ap (λ (ts : List Token). length ts) w.in_default-next.ensures.steps.0 in
-          λ more. absurd (omega (arith, some, none))
+          λ more. absurd (omega (arith, some, ap length w.in_default-next.ensures.steps.0))
     ] in
     written_to g.R.FromToken.written c.args.end (tokens_by first text) c.args.buffer.now c.places.buffer count
     inv.written inv.begun done
