@@ -178,8 +178,11 @@ module _ (n before : ℕ) (text left tail next : List ℕ) (found : ℕ) (end : 
         let is_count = count in
         let some : (h == 0) ≡ false = ne_eqb h 0 (λ f. omega arith) in
         let first : quote_with h (chars text) ≡ Some (at.taken + k) =
-        rw (at.more h (omega arith), offset-at (chars left) (chars tail) quote (λ s. quote_hashes s == h)
-        (λ c s f. counts-fails h c s (omega arith) f) (eq-eqb h h refl)) refl in
+        rw (
+          at.more h (omega arith),
+          offset-at (chars left) (chars tail) quote (λ s. quote_hashes s == h)
+              (λ c s f. counts-fails h c s (omega arith) f) (eq-eqb h h refl),
+        ) refl in
         let same : suc (at.taken + k) ≡ at.taken + suc k = omega arith in
         let bytes : bytes_of (at.taken + suc k) (chars text) + length tail ≡ length text =
         rw tail_at (length-past (at.taken + suc k) text is) in
@@ -203,8 +206,11 @@ module _ (n before : ℕ) (text left tail next : List ℕ) (found : ℕ) (end : 
     closed_here read cut e f =
         let k : ℕ = run_len is_no_quote (chars left) in
         let closes_here : close n (chars text) ≡ Some (at.taken + k) =
-        rw (at.closes_at, offset-at (chars left) (chars tail) quote (closes n) (closes-fails n)
-        (le-leb n (hash_run (chars tail)) enough_hashes)) refl in
+        rw (
+          at.closes_at,
+          offset-at (chars left) (chars tail) quote (closes n) (closes-fails n)
+              (le-leb n (hash_run (chars tail)) enough_hashes),
+        ) refl in
         let same : (at.taken + suc k) + n ≡ suc (at.taken + k) + n = omega arith in
         let left_is : cut ≡ past (suc (at.taken + k) + n) text =
         cc (hash_cut tail tail_utf8 n enough_hashes, tail_at, past-past n (at.taken + suc k) text is) in

@@ -35,6 +35,9 @@ space_stops_here text bytes end is read counted left f out =
     none_next [] e = refl
     none_next (c ∷ cs) e =
         let front : get_or left 0 0 ≡ get_or (encode_utf8 c) 0 0 =
-        cc (encodes-chars left at.utf8, get_or_append_left (encode_utf8 c) (encode_utf8_all cs) 0 0
-        (omega (arith, length-encode c, len_utf8_bounds c))) in
+        cc (
+          encodes-chars left at.utf8,
+          get_or_append_left (encode_utf8 c) (encode_utf8_all cs) 0 0
+              (omega (arith, length-encode c, len_utf8_bounds c)),
+        ) in
         false_from_ne_true _ (λ f. cc (lead_of c f, none_leads left at.stops out))
