@@ -96,6 +96,42 @@ fn many_errors() {
     }
 }
 
+/// Errors after runs of simple characters: at the start of a literal, after an escape, and after another error.
+#[test]
+fn errors_after_simple_characters() {
+    for len in (0..70).chain([1000]) {
+        let run = "a".repeat(len);
+        let text = format!("{run}\\n{run}\\q{run}\r{run}");
+        let (escape, cr) = (2 * len + 2, 3 * len + 4);
+        let want = [
+            (escape..escape + 2, InvalidEscape),
+            (cr..cr + 1, BareCarriageReturn),
+        ];
+        for mode in [Mode::Str, Mode::ByteStr, Mode::CStr] {
+            assert_eq!(errors(&text, mode), want, "{mode:?} {len}");
+        }
+        for (stop, mode, error) in [
+            ("\r", Mode::RawStr, BareCarriageReturnInRawString),
+            ("\r", Mode::RawByteStr, BareCarriageReturnInRawString),
+            ("\r", Mode::RawCStr, BareCarriageReturnInRawString),
+            ("\0", Mode::RawCStr, NulInCStr),
+            ("é", Mode::RawByteStr, NonAsciiCharInByte),
+        ] {
+            let text = format!("{run}{stop}{run}");
+            let want = [(len..len + stop.len(), error)];
+            assert_eq!(errors(&text, mode), want, "{stop:?} {mode:?} {len}");
+        }
+        for (valid, mode) in [
+            ("\0", Mode::RawStr),
+            ("é", Mode::RawStr),
+            ("\x0e", Mode::RawCStr),
+            ("\x7f", Mode::RawByteStr),
+        ] {
+            assert_eq!(errors(&format!("{run}{valid}{run}"), mode), []);
+        }
+    }
+}
+
 /// Errors between single quotes, and the ends of their ranges.
 #[test]
 fn characters() {
