@@ -2,5 +2,6 @@
 #![tactic(auto)]
 
 pub mod comments;
+pub mod counting;
 pub mod joining;
 pub mod repaint;

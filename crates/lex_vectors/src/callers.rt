@@ -1,5 +1,6 @@
 //! The callers in `examples`, on hand-written texts.
 use examples::comments::skip_comments;
+use examples::counting::count_tokens;
 use examples::repaint::{edit_shown, repaint};
 use rustc_lexer::{LexedText, Relexed, fits};
 
@@ -11,6 +12,12 @@ fn comments(rt: HostRuntime) {
     for (text, wanted) in COMMENTS {
         assert!(rt; fits(text) && skip_comments(text) == *wanted, "at {text}");
     }
+}
+
+#[test]
+fn counted_tokens(rt: HostRuntime) {
+    let text = "---\n---\nfn a";
+    assert!(rt; fits(text) && count_tokens(text) == 5);
 }
 
 #[test]

@@ -33,7 +33,7 @@
 
 /// The proved source without its contracts, generated from `crates/rustc_lexer_highlight`.
 ///
-/// Only for packages that are generated in the same way, like `highlight` and the C library: these functions do not
+/// Only for packages that are generated in the same way, like the C library: these functions do not
 /// check their preconditions, and those callers are proved to meet them. The functions can change with the source.
 /// Other callers use the functions at the crate's root.
 // Only contracts use some of its imports and variables.

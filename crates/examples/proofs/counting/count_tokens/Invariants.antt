@@ -1,7 +1,7 @@
 use Rattle.std.proofs.Common.{◌≡◌, ◌+◌, ◌≤◌, length}
 use Rattle.rustc_lexer.specs.LanguageText.{newest, source}
 use Rattle.rustc_lexer.specs.Tokens.{tokens_of, tokens_left}
-use Rattle.count.proofs.count_tokens.Given as goal
+use Rattle.examples.proofs.counting.count_tokens.Given as goal
 
 abbrev pub invariant-loop : goal.invariant-loop
 invariant-loop l = record {
