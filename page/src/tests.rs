@@ -167,7 +167,7 @@ fn highlighting_of_lines() {
     assert_eq!(seen::parts_alike(&source, NEWEST), "");
 }
 
-/// The classes are those of docs/HIGHLIGHT.md: a document starts with a shebang line and a frontmatter.
+/// The classes are those of docs/RUST_LEX.md: a document starts with a shebang line and a frontmatter.
 #[test]
 fn highlighting_of_a_document() {
     let text = "#!/a\n---\nb\n---\nfn\n---";

@@ -1,0 +1,145 @@
+//! Checks files: malformed tokens, and errors and warnings in literals.
+
+use crate::inputs::Source;
+use crate::position::Position;
+use rustc_lexer::{Piece, TokenKind, tokenize_document};
+use rustc_lexer_highlight::{
+    Edition, EscapeErrorsInFile, TokenError, literal_contents, token_error,
+};
+use std::io::{self, Write};
+
+/// The form of the lines for errors and warnings.
+#[derive(Clone, Copy, Default)]
+pub enum MessageFormat {
+    /// `FILE:LINE:COLUMN: error: MESSAGE`
+    #[default]
+    Short,
+    /// Workflow commands of GitHub.
+    GitHub,
+}
+
+impl MessageFormat {
+    pub const NAMES: [(&str, MessageFormat); 2] = [
+        ("short", MessageFormat::Short),
+        ("github", MessageFormat::GitHub),
+    ];
+}
+
+/// The options of a check, and what it has found so far.
+pub struct Checker {
+    edition: Edition,
+    format: MessageFormat,
+    deny_warnings: bool,
+    files: usize,
+    errors: usize,
+    warnings: usize,
+}
+
+impl Checker {
+    pub fn new(edition: Edition, format: MessageFormat, deny_warnings: bool) -> Checker {
+        Checker {
+            edition,
+            format,
+            deny_warnings,
+            files: 0,
+            errors: 0,
+            warnings: 0,
+        }
+    }
+
+    /// Writes a line for each error and warning of a file.
+    pub fn check(&mut self, source: &Source, output: &mut impl Write) -> io::Result<()> {
+        self.files += 1;
+        let mut position = Position::start_of(&source.text);
+        for (offset, error) in errors_of(&source.text, self.edition) {
+            position.advance_to(offset);
+            let severity = if is_warning(error) && !self.deny_warnings {
+                self.warnings += 1;
+                "warning"
+            } else {
+                self.errors += 1;
+                "error"
+            };
+            let (name, line, column) = (&source.name, position.line, position.column);
+            match self.format {
+                MessageFormat::Short => {
+                    writeln!(output, "{name}:{line}:{column}: {severity}: {error}")?;
+                }
+                MessageFormat::GitHub => {
+                    let file = escape(name, "%\r\n:,");
+                    let message = escape(&error.to_string(), "%\r\n");
+                    let place = format!("file={file},line={line},col={column}");
+                    writeln!(output, "::{severity} {place}::{message}")?;
+                }
+            }
+        }
+        Ok(())
+    }
+
+    pub fn has_errors(&self) -> bool {
+        self.errors > 0
+    }
+
+    /// Returns the summary, such as `2 files checked: 1 error, 0 warnings`.
+    pub fn summary(&self, failures: usize) -> String {
+        let not_checked = match failures {
+            0 => String::new(),
+            _ => format!(", {failures} not checked"),
+        };
+        let (files, errors) = (count(self.files, "file"), count(self.errors, "error"));
+        let warnings = count(self.warnings, "warning");
+        format!("{files} checked{not_checked}: {errors}, {warnings}")
+    }
+}
+
+/// Returns a number and a noun, such as `1 file` or `2 files`.
+fn count(number: usize, noun: &str) -> String {
+    let plural = if number == 1 { "" } else { "s" };
+    format!("{number} {noun}{plural}")
+}
+
+/// Replaces the reserved characters of a workflow command by `%` and two hexadecimal digits.
+fn escape(text: &str, reserved: &str) -> String {
+    let mut escaped = String::new();
+    for c in text.chars() {
+        match reserved.contains(c) {
+            true => escaped.push_str(&format!("%{:02X}", u32::from(c))),
+            false => escaped.push(c),
+        }
+    }
+    escaped
+}
+
+/// Returns the errors and warnings of a file in order, each with its byte offset.
+///
+/// The offset is the start of the token. For an error in the contents of a literal, it is the start of the range of the
+/// error.
+fn errors_of(text: &str, edition: Edition) -> impl Iterator<Item = (usize, TokenError)> {
+    tokenize_document(text, edition)
+        .pieces()
+        .flat_map(move |piece| errors_of_piece(piece, edition))
+}
+
+/// Returns the error of a token, and the errors and warnings in the contents of a literal.
+fn errors_of_piece(
+    piece: Piece<'_>,
+    edition: Edition,
+) -> impl Iterator<Item = (usize, TokenError)> {
+    let (kind, text, start) = (piece.token.kind, piece.text, piece.range().start);
+    // Before 2021, `k#a` is an identifier, `#` and an identifier.
+    let is_valid = kind == TokenKind::ForcedKeywordIdent && edition < Edition::E2021;
+    let of_token = token_error(kind, text)
+        .filter(|_| !is_valid)
+        .map(|error| (start, error));
+    let inside = literal_contents(kind, text).map(move |(mode, range)| {
+        let start = start + range.start;
+        EscapeErrorsInFile::new(&text[range], mode)
+            .map(move |(range, error)| (start + range.start, TokenError::InLiteral(error)))
+    });
+    of_token.into_iter().chain(inside.into_iter().flatten())
+}
+
+/// Returns whether this is a warning. A file with warnings is valid.
+fn is_warning(error: TokenError) -> bool {
+    matches!(error, TokenError::InLiteral(error) if !error.is_fatal())
+}

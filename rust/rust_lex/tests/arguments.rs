@@ -1,0 +1,120 @@
+//! Arguments that are rejected, the help and the version.
+
+mod common;
+
+use common::{check_ended, empty_folder, rust_lex, text_of};
+use std::fs;
+
+/// Arguments, separated by spaces, and the message.
+#[rustfmt::skip]
+const REJECTED: [(&str, &str); 36] = [
+    ("", "no command: see 'rust-lex --help'"),
+    ("check", "no files: see 'rust-lex check --help'"),
+    ("check --edition 2021", "no files: see 'rust-lex check --help'"),
+    ("check --", "no files: see 'rust-lex check --help'"),
+    ("token", "unknown command 'token': see 'rust-lex --help'"),
+    ("one.rs", "unknown command 'one.rs': see 'rust-lex --help'"),
+    ("-x", "unknown option '-x': see 'rust-lex --help'"),
+    ("--edition 2021 check one.rs", "unknown option '--edition': see 'rust-lex --help'"),
+    ("check --version", "unknown option '--version': see 'rust-lex check --help'"),
+    ("check one.rs --editions", "unknown option '--editions': see 'rust-lex check --help'"),
+    ("check -x one.rs", "unknown option '-x': see 'rust-lex check --help'"),
+    ("check --- one.rs", "unknown option '---': see 'rust-lex check --help'"),
+    ("check --help=yes", "unknown option '--help=yes': see 'rust-lex check --help'"),
+    ("check --deny-warnings=no one.rs", "unknown option '--deny-warnings=no': see 'rust-lex check --help'"),
+    ("check --html one.rs", "unknown option '--html': see 'rust-lex check --help'"),
+    ("tokens --color auto", "unknown option '--color': see 'rust-lex tokens --help'"),
+    ("tokens --format short", "unknown option '--format': see 'rust-lex tokens --help'"),
+    ("highlight --format short", "unknown option '--format': see 'rust-lex highlight --help'"),
+    ("highlight --html=yes", "unknown option '--html=yes': see 'rust-lex highlight --help'"),
+    ("highlight --raw=", "unknown option '--raw=': see 'rust-lex highlight --help'"),
+    ("check one.rs --edition", "--edition needs a value: 2015, 2018, 2021 or 2024"),
+    ("check --edition 2022 one.rs", "invalid value '2022' for --edition: expected 2015, 2018, 2021 or 2024"),
+    ("tokens --edition=", "invalid value '' for --edition: expected 2015, 2018, 2021 or 2024"),
+    ("highlight --edition=2021=", "invalid value '2021=' for --edition: expected 2015, 2018, 2021 or 2024"),
+    ("check --edition one.rs", "invalid value 'one.rs' for --edition: expected 2015, 2018, 2021 or 2024"),
+    ("check --format json one.rs", "invalid value 'json' for --format: expected short or github"),
+    ("check -D errors one.rs", "invalid value 'errors' for -D: expected warnings"),
+    ("check one.rs -D", "-D needs a value: warnings"),
+    ("highlight --color Always", "invalid value 'Always' for --color: expected auto, always or never"),
+    ("check --edition 2021 --edition=2021 one.rs", "--edition repeats or contradicts an earlier option"),
+    ("check --format short --format short one.rs", "--format repeats or contradicts an earlier option"),
+    ("check -D warnings --deny-warnings one.rs", "--deny-warnings repeats or contradicts an earlier option"),
+    ("highlight --color=auto --color auto", "--color repeats or contradicts an earlier option"),
+    ("highlight --html --html", "--html repeats or contradicts an earlier option"),
+    ("highlight --raw --html", "--html repeats or contradicts an earlier option"),
+    ("highlight --html one.rs one.rs", "--html takes at most one file"),
+];
+
+#[test]
+fn rejected() {
+    let folder = empty_folder("rejected");
+    fs::write(folder.join("one.rs"), "0x").unwrap();
+    for (line, message) in REJECTED {
+        let words: Vec<&str> = line.split_whitespace().collect();
+        let ended = rust_lex(&folder, &words).output().unwrap();
+        check_ended(&ended, "", &format!("rust-lex: {message}\n"), 2, line);
+    }
+    let ended = rust_lex(&folder, &["check", "-\x1b"]).output().unwrap();
+    let message = "rust-lex: unknown option '-\\u{1b}': see 'rust-lex check --help'\n";
+    check_ended(&ended, "", message, 2, "an option with a control character");
+}
+
+#[test]
+fn help_and_version() {
+    let folder = empty_folder("help");
+    let version = concat!("rust-lex ", env!("CARGO_PKG_VERSION"), "\n");
+    for word in ["--version", "-V"] {
+        let ended = rust_lex(&folder, &[word]).output().unwrap();
+        check_ended(&ended, version, "", 0, word);
+    }
+    for (command, words) in [
+        (&[][..], "tokens check highlight --help --version status:"),
+        (&["tokens"], "--edition 2024 --help -- FILE"),
+        (
+            &["check"],
+            "--edition --format short github -D --deny-warnings --help -- FOLDER status:",
+        ),
+        (
+            &["highlight"],
+            "--html --raw --color auto always never --edition --help --",
+        ),
+    ] {
+        for option in ["--help", "-h"] {
+            let ended = rust_lex(&folder, &[command, &[option]].concat())
+                .output()
+                .unwrap();
+            let help = text_of(&ended.stdout).to_string();
+            check_ended(&ended, &help, "", 0, option);
+            assert!(help.contains("Usage: rust-lex "), "{help}");
+            let has_editions = help.contains("2015, 2018, 2021 or 2024 (default: 2024)");
+            assert_eq!(has_editions, !command.is_empty(), "{help}");
+            for word in words.split(' ') {
+                assert!(help.contains(word), "{word}");
+            }
+            assert!(
+                help.lines().all(|line| line.chars().count() <= 120),
+                "{help}"
+            );
+        }
+    }
+}
+
+/// A file whose name is not UTF-8 is checked like others.
+#[cfg(target_os = "linux")]
+#[test]
+fn names_without_utf8() {
+    use std::os::unix::ffi::OsStrExt;
+    let folder = empty_folder("names");
+    let name = std::ffi::OsStr::from_bytes(b"a\xff.rs");
+    fs::write(folder.join(name), "0x").unwrap();
+    let line = "a\u{fffd}.rs:1:1: error: number has no digits\n";
+    let ended = rust_lex(&folder, &["check"]).arg(name).output().unwrap();
+    check_ended(
+        &ended,
+        line,
+        "rust-lex: 1 file checked: 1 error, 0 warnings\n",
+        1,
+        "check",
+    );
+}

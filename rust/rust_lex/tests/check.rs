@@ -1,0 +1,460 @@
+//! `rust-lex check`: its output for files and folders, its messages and its exit status.
+
+mod common;
+
+use common::{check_ended, check_shell, empty_folder, run_with_input, rust_lex, text_of};
+use std::fs;
+use std::path::PathBuf;
+
+/// Returns the summary on standard error, for a number of files and the lines on standard output.
+fn summary(files: usize, lines: &str) -> String {
+    let count = |number, noun| format!("{number} {noun}{}", if number == 1 { "" } else { "s" });
+    let [errors, warnings] = [": error: ", ": warning: "].map(|it| lines.matches(it).count());
+    let (errors, warnings) = (count(errors, "error"), count(warnings, "warning"));
+    format!(
+        "rust-lex: {} checked: {errors}, {warnings}\n",
+        count(files, "file")
+    )
+}
+
+/// Checks the output and the exit status for a file `a.rs` with this text, in a folder with this name.
+fn check_text(name: &str, arguments: &[&str], text: &str, output: &str, status: i32) {
+    let folder = empty_folder(name);
+    fs::write(folder.join("a.rs"), text).unwrap();
+    let arguments = [&["check"], arguments, &["a.rs"]].concat();
+    let ended = rust_lex(&folder, &arguments).output().unwrap();
+    check_ended(&ended, output, &summary(1, output), status, text);
+}
+
+#[test]
+fn files() {
+    for (text, output, status) in [
+        ("", "", 0),
+        ("fn main() {}\n", "", 0),
+        // Syntax is not checked.
+        ("fn fn } 'a' 1.5\n", "", 0),
+        ("let x = 0x;", "a.rs:1:9: error: number has no digits\n", 1),
+        (
+            "/*\n*/ \"a",
+            "a.rs:2:4: error: unterminated string: missing closing quote\n",
+            1,
+        ),
+        (
+            "\t/* /* */\n",
+            "a.rs:1:2: error: unterminated block comment\n",
+            1,
+        ),
+        (
+            "¬\n  1e \u{1f642}é\n",
+            "a.rs:1:1: error: unexpected character: no token starts with it\n\
+             a.rs:2:3: error: exponent has no digits\n\
+             a.rs:2:6: error: invalid identifier: contains an emoji\n",
+            1,
+        ),
+        (
+            "\"é\u{1f642}\\q\\w\n\\u{}\" '' 'ab'",
+            "a.rs:1:4: error: unknown escape: write a backslash as `\\\\`\n\
+             a.rs:1:6: error: unknown escape: write a backslash as `\\\\`\n\
+             a.rs:2:1: error: empty escape: `\\u` needs one to six hexadecimal digits\n\
+             a.rs:2:8: error: empty literal: expected one character\n\
+             a.rs:2:11: error: too many characters: expected one between single quotes\n",
+            1,
+        ),
+        (
+            // The token has an error, and so do its contents.
+            "b\"\\u{41}\"_",
+            "a.rs:1:1: error: invalid literal suffix `_`\n\
+             a.rs:1:3: error: `\\u` in a byte or byte string: use `\\x`\n",
+            1,
+        ),
+    ] {
+        check_text("files", &[], text, output, status);
+    }
+}
+
+#[test]
+fn warnings() {
+    let lines = "a.rs:1:3: warning: skipped blank line: an escaped newline skips it too\n";
+    let space = "a.rs:1:3: warning: \
+        unskipped whitespace: an escaped newline skips only spaces, tabs and line endings\n";
+    let error = "a.rs:3:4: error: exponent has no digits\n";
+    for (text, output, status) in [
+        ("\"a\\\n\n b\"", lines.to_string(), 0),
+        ("\"a\\\n \u{a0}b\"", space.to_string(), 0),
+        ("\"a\\\n\n \u{a0}b\"", format!("{lines}{space}"), 0),
+        ("\"a\\\n\n b\"1e", format!("{lines}{error}"), 1),
+    ] {
+        check_text("warnings", &[], text, &output, status);
+    }
+}
+
+#[test]
+fn starts_of_files() {
+    let empty = "number has no digits\n";
+    let unclosed = "unclosed frontmatter: missing closing fence\n";
+    for (text, output) in [
+        ("\u{feff}0x", format!("a.rs:1:1: error: {empty}")),
+        ("\u{feff}\n0x", format!("a.rs:2:1: error: {empty}")),
+        (
+            "\u{feff}#!/bin/sh \"\n 0x",
+            format!("a.rs:2:2: error: {empty}"),
+        ),
+        (
+            "#!/bin/sh \"\n---\n\"\n---\n0x",
+            format!("a.rs:5:1: error: {empty}"),
+        ),
+        (
+            "\u{feff}---\n\"\n---\n0x",
+            format!("a.rs:4:1: error: {empty}"),
+        ),
+        ("#!/bin/sh\n\n---\n", format!("a.rs:3:1: error: {unclosed}")),
+        (
+            "\u{feff}\u{feff}",
+            "a.rs:1:1: error: unexpected character: no token starts with it\n".to_string(),
+        ),
+    ] {
+        check_text("starts_of_files", &[], text, &output, 1);
+    }
+}
+
+#[test]
+fn line_endings() {
+    let empty = "number has no digits\n";
+    for (text, output) in [
+        ("\r\n\r\n 0x", format!("a.rs:3:2: error: {empty}")),
+        // A bare carriage return is a character of its line.
+        ("\r0x", format!("a.rs:1:2: error: {empty}")),
+        ("\"\r\n\" 0x", format!("a.rs:2:3: error: {empty}")),
+        (
+            "\"a\r\nb\rc\" r\"\r\"",
+            "a.rs:2:2: error: bare CR in a literal: write it as `\\r`\n\
+             a.rs:2:8: error: bare CR in a raw string\n"
+                .to_string(),
+        ),
+    ] {
+        check_text("line_endings", &[], text, &output, 1);
+    }
+    let lines = "a.rs:1:3: warning: skipped blank line: an escaped newline skips it too\n";
+    check_text("line_endings", &[], "\"a\\\r\n\r\n b\"", lines, 0);
+    check_text("line_endings", &[], "/// a\r\n\"a\r\nb\"\r\n", "", 0);
+}
+
+#[test]
+fn editions() {
+    let prefix = "a.rs:1:1: error: unknown prefix before a quote or `#`\n";
+    let guarded = "a.rs:1:1: error: reserved syntax: guarded string\n";
+    for (arguments, text, output, status) in [
+        (&[][..], "z\"a\"", prefix, 1),
+        (&["--edition", "2021"], "z\"a\"", prefix, 1),
+        (&["--edition=2018"], "z\"a\"", "", 0),
+        (&["--edition", "2015"], "z\"a\"", "", 0),
+        // Before 2021, this is a name, `#` and a name.
+        (&["--edition=2018"], "k#a", "", 0),
+        (&["--edition=2021"], "k#a", prefix, 1),
+        (&[], "##", guarded, 1),
+        (&["--edition=2024"], "##", guarded, 1),
+        (&["--edition=2021"], "##", "", 0),
+    ] {
+        check_text("editions", arguments, text, output, status);
+    }
+}
+
+/// Returns a folder with this name and five files.
+fn folder_of_files(name: &str) -> PathBuf {
+    let folder = empty_folder(name);
+    fs::write(folder.join("one.rs"), "0x").unwrap();
+    fs::write(folder.join("valid.rs"), "0x1").unwrap();
+    fs::write(folder.join("-two.rs"), "0x").unwrap();
+    fs::write(folder.join("latin.rs"), b"// caf\xe9").unwrap();
+    fs::create_dir(folder.join("-")).unwrap();
+    folder
+}
+
+#[test]
+fn several_files() {
+    let folder = folder_of_files("several");
+    let one = "one.rs:1:1: error: number has no digits\n";
+    for (arguments, output, status) in [
+        (&["valid.rs", "valid.rs"][..], String::new(), 0),
+        (&["valid.rs", "one.rs"], one.to_string(), 1),
+        (
+            &["one.rs", "valid.rs", "./one.rs"],
+            format!("{one}./{one}"),
+            1,
+        ),
+        (
+            &["--", "valid.rs", "-two.rs"],
+            one.replace("one", "-two"),
+            1,
+        ),
+        // Options can follow files.
+        (&["one.rs", "--edition=2015"], one.to_string(), 1),
+        (
+            &["-", "one.rs"],
+            format!("<stdin>:1:2: error: number has no digits\n{one}"),
+            1,
+        ),
+    ] {
+        let words = [&["check"], arguments].concat();
+        let ended = run_with_input(&mut rust_lex(&folder, &words), b" 0x");
+        let files = arguments.iter().filter(|it| !it.starts_with("--")).count();
+        check_ended(
+            &ended,
+            &output,
+            &summary(files, &output),
+            status,
+            &words.concat(),
+        );
+    }
+}
+
+/// The other files are still checked.
+#[test]
+fn files_that_cannot_be_checked() {
+    let folder = folder_of_files("unreadable");
+    for (file, reason) in [
+        ("latin.rs", "invalid UTF-8 at byte offset 6\n"),
+        // The rest of these messages comes from the operating system.
+        ("missing.rs", ""),
+    ] {
+        let arguments = ["check", "one.rs", file, "./one.rs"];
+        let ended = rust_lex(&folder, &arguments).output().unwrap();
+        let errors = text_of(&ended.stderr);
+        assert!(
+            errors.starts_with(&format!("rust-lex: {file}: {reason}")),
+            "{errors}"
+        );
+        let summary = "\nrust-lex: 2 files checked, 1 not checked: 2 errors, 0 warnings\n";
+        assert!(errors.ends_with(summary), "{errors}");
+        assert_eq!(errors.lines().count(), 2, "{errors}");
+        let one = "one.rs:1:1: error: number has no digits\n";
+        assert_eq!(text_of(&ended.stdout), format!("{one}./{one}"));
+        assert_eq!(ended.status.code(), Some(2), "{file}");
+    }
+}
+
+/// A folder stands for the `*.rs` files in it and below, without hidden folders, `target` and symbolic links.
+#[test]
+fn folders() {
+    let folder = empty_folder("folders");
+    for name in [
+        ".git",
+        "b",
+        "b/.hidden",
+        "b/target",
+        "b/c",
+        "d.rs",
+        "target/e",
+    ] {
+        fs::create_dir_all(folder.join(name)).unwrap();
+    }
+    for name in [
+        "a.rs",
+        "b.rs",
+        "a.rt",
+        "b/x.rs",
+        "b/c/y.rs",
+        "d.rs/z.rs",
+        ".v.rs",
+        ".git/n.rs",
+        "b/.hidden/n.rs",
+        "b/target/n.rs",
+        "target/n.rs",
+        "target/e/w.rs",
+        "b/rs",
+        "b/.rs",
+    ] {
+        fs::write(folder.join(name), "0x").unwrap();
+    }
+    #[cfg(unix)]
+    for (target, link) in [("..", "b/up"), ("../a.rt", "b/link.rs")] {
+        std::os::unix::fs::symlink(target, folder.join(link)).unwrap();
+    }
+    for (arguments, files) in [
+        (
+            &["."][..],
+            &[
+                "./.v.rs",
+                "./a.rs",
+                "./b/c/y.rs",
+                "./b/x.rs",
+                "./b.rs",
+                "./d.rs/z.rs",
+            ][..],
+        ),
+        (&["b", "a.rt"], &["b/c/y.rs", "b/x.rs", "a.rt"]),
+        (&["d.rs", "b/c"], &["d.rs/z.rs", "b/c/y.rs"]),
+        // The arguments are not skipped.
+        (
+            &["target", "b/.hidden"],
+            &["target/e/w.rs", "target/n.rs", "b/.hidden/n.rs"],
+        ),
+    ] {
+        let line = |file| format!("{file}:1:1: error: number has no digits\n");
+        let lines: String = files.iter().map(line).collect();
+        let ended = rust_lex(&folder, &[&["check"], arguments].concat())
+            .output()
+            .unwrap();
+        check_ended(
+            &ended,
+            &lines,
+            &summary(files.len(), &lines),
+            1,
+            &arguments.concat(),
+        );
+    }
+    let empty = folder.join("empty");
+    fs::create_dir(&empty).unwrap();
+    let ended = rust_lex(&empty, &["check", "."]).output().unwrap();
+    check_ended(&ended, "", &summary(0, ""), 0, "an empty folder");
+}
+
+#[test]
+fn formats() {
+    let folder = empty_folder("formats");
+    let text = "0x \"\\q\"\n\"a\\\n\n b\"";
+    for name in ["a.rs", "b,:%.rs"] {
+        fs::write(folder.join(name), text).unwrap();
+    }
+    let lines = "a.rs:1:1: error: number has no digits\n\
+        a.rs:1:5: error: unknown escape: write a backslash as `\\\\`\n\
+        a.rs:2:3: warning: skipped blank line: an escaped newline skips it too\n";
+    let commands = "::error file=NAME,line=1,col=1::number has no digits\n\
+        ::error file=NAME,line=1,col=5::unknown escape: write a backslash as `\\\\`\n\
+        ::warning file=NAME,line=2,col=3::skipped blank line: an escaped newline skips it too\n";
+    for (arguments, output) in [
+        (&["--format", "short", "a.rs"][..], lines.to_string()),
+        (&["--format=short", "a.rs"], lines.to_string()),
+        (
+            &["--format", "github", "a.rs"],
+            commands.replace("NAME", "a.rs"),
+        ),
+        (
+            &["--format=github", "b,:%.rs"],
+            commands.replace("NAME", "b%2C%3A%25.rs"),
+        ),
+    ] {
+        let ended = rust_lex(&folder, &[&["check"], arguments].concat())
+            .output()
+            .unwrap();
+        check_ended(&ended, &output, &summary(1, lines), 1, &arguments.concat());
+    }
+}
+
+#[test]
+fn denied_warnings() {
+    let folder = empty_folder("denied");
+    fs::write(folder.join("a.rs"), "\"a\\\n\n b\"").unwrap();
+    let error = "a.rs:1:3: error: skipped blank line: an escaped newline skips it too\n";
+    for arguments in [
+        &["-D", "warnings"][..],
+        &["-Dwarnings"],
+        &["--deny-warnings"],
+    ] {
+        let words = [&["check"], arguments, &["a.rs"]].concat();
+        let ended = rust_lex(&folder, &words).output().unwrap();
+        check_ended(&ended, error, &summary(1, error), 1, &words.concat());
+    }
+}
+
+/// A file of 4 GiB is not read, and control characters in names are escaped.
+#[cfg(target_os = "linux")]
+#[test]
+fn special_files() {
+    let folder = empty_folder("special");
+    let long = fs::File::create(folder.join("long.rs")).unwrap();
+    long.set_len(1 << 32).unwrap();
+    fs::write(folder.join("a\x1b[31m.rs"), "0x").unwrap();
+    check_shell(
+        &folder,
+        &[
+            (
+                "ulimit -v 1000000; $P check long.rs",
+                "",
+                "rust-lex: long.rs: more than 4294967295 bytes\n\
+                 rust-lex: 0 files checked, 1 not checked: 0 errors, 0 warnings\n",
+                2,
+            ),
+            (
+                "rm long.rs; $P check .",
+                "./a\\u{1b}[31m.rs:1:1: error: number has no digits\n",
+                "rust-lex: 1 file checked: 1 error, 0 warnings\n",
+                1,
+            ),
+            (
+                "$P check \"$(printf 'b\\033\\n')\"",
+                "",
+                "rust-lex: b\\u{1b}: No such file or directory (os error 2)\n\
+                 rust-lex: 0 files checked, 1 not checked: 0 errors, 0 warnings\n",
+                2,
+            ),
+        ],
+    );
+}
+
+/// If the pipe is closed, the program ends quietly, with the exit status so far. Any other failed write is reported.
+#[cfg(target_os = "linux")]
+#[test]
+fn streams() {
+    let folder = folder_of_files("streams");
+    fs::write(folder.join("many.rs"), "0x ".repeat(10_000)).unwrap();
+    let full = "rust-lex: standard output: No space left on device (os error 28)\n";
+    let valid = "rust-lex: 1 file checked: 0 errors, 0 warnings\n";
+    let none = "rust-lex: 0 files checked, 1 not checked: 0 errors, 0 warnings\n";
+    check_shell(
+        &folder,
+        &[
+            // The reader of the pipe has ended by then.
+            (
+                "mkfifo f; : < f & exec 3> f; wait; rm f; $P check many.rs >&3",
+                "",
+                "",
+                0,
+            ),
+            (
+                "mkfifo f; : < f & exec 3> f; wait; rm f; $P check latin.rs many.rs 2>&- >&3",
+                "",
+                "",
+                2,
+            ),
+            (
+                "mkfifo f; : < f & exec 3> f; wait; rm f; $P check --help >&3",
+                "",
+                "",
+                0,
+            ),
+            ("$P check many.rs > /dev/full", "", full, 2),
+            ("$P check --help > /dev/full", "", full, 2),
+            ("$P check valid.rs > /dev/full", "", valid, 0),
+            (
+                "$P check one.rs >&-",
+                "",
+                "rust-lex: standard output: the stream is closed\n",
+                2,
+            ),
+            ("$P check missing.rs 2> /dev/full", "", "", 2),
+            (
+                "$P check - < /",
+                "",
+                &format!("rust-lex: <stdin>: Is a directory (os error 21)\n{none}"),
+                2,
+            ),
+            (
+                "$P check - <&-",
+                "",
+                &format!("rust-lex: <stdin>: the stream is closed\n{none}"),
+                2,
+            ),
+            // Messages are in order with the lines of the files before and after.
+            (
+                "$P check one.rs latin.rs one.rs 2>&1",
+                "one.rs:1:1: error: number has no digits\n\
+                 rust-lex: latin.rs: invalid UTF-8 at byte offset 6\n\
+                 one.rs:1:1: error: number has no digits\n\
+                 rust-lex: 2 files checked, 1 not checked: 2 errors, 0 warnings\n",
+                "",
+                2,
+            ),
+        ],
+    );
+}

@@ -1,0 +1,203 @@
+//! `rust-lex highlight`: colours, the web page, and its choice of colours. The tests of `rustc_lexer_highlight` cover the
+//! markup.
+
+mod common;
+
+use common::{check_ended, check_shell, empty_folder, run_with_input, rust_lex, text_of};
+use std::fs;
+
+#[test]
+fn formats() {
+    let folder = empty_folder("highlighted");
+    for (arguments, text, output) in [
+        (&[][..], "fn a", "fn a"),
+        (&["-"], "fn a", "fn a"),
+        (&["--color", "always"], "fn a", "\x1b[35mfn\x1b[0m a"),
+        (&["--color=always"], "fn a", "\x1b[35mfn\x1b[0m a"),
+        (&["--color", "auto"], "fn a", "fn a"),
+        (&["--color=never"], "fn a", "fn a"),
+        (&[], "// \x1b[0m\0", "// \u{241b}[0m\u{2400}"),
+        (&["--raw"], "// \x1b[0m", "// \x1b[0m"),
+        (&["--color=always", "--raw"], "fn a", "fn a"),
+        (
+            &["--edition", "2024"],
+            "##a",
+            "## [<- reserved syntax: guarded string]a",
+        ),
+        (&["--edition=2021"], "##a", "##a"),
+        (
+            &["--color=always", "--edition=2018"],
+            "#\"a\"",
+            "#\x1b[32m\"a\"\x1b[0m",
+        ),
+        (
+            &["--color=always"],
+            "\u{feff}#!/bin/x\r\n---\r\n---\r\nfn b\r\n",
+            "\u{feff}\x1b[90m#!/bin/x\x1b[0m\r\n\x1b[36m---\r\n---\r\x1b[0m\n\x1b[35mfn\x1b[0m b\r\n",
+        ),
+    ] {
+        let words = [&["highlight"], arguments].concat();
+        let ended = run_with_input(&mut rust_lex(&folder, &words), text.as_bytes());
+        check_ended(&ended, output, "", 0, &words.concat());
+    }
+}
+
+/// The page opens a `pre` right before the text, and closes it right after.
+#[test]
+fn page() {
+    let folder = empty_folder("page");
+    for arguments in [
+        &["--html"][..],
+        &["--html", "--color=always"],
+        &["-", "--html"],
+    ] {
+        let words = [&["highlight"], arguments].concat();
+        let ended = run_with_input(&mut rust_lex(&folder, &words), b"fn <");
+        let page = text_of(&ended.stdout);
+        let end = "<body>\n<pre>\n<span class=\"keyword\">fn</span> &lt;</pre>\n</body>\n</html>\n";
+        assert!(
+            page.starts_with("<!DOCTYPE html>\n") && page.ends_with(end),
+            "{page}"
+        );
+        assert!(!page.contains("<script"));
+        for class in [
+            "comment", "doc", "keyword", "type", "text", "escape", "number", "lifetime",
+        ] {
+            assert!(
+                page.contains(&format!("\n.{class} {{")) || page.contains(&format!("\n.{class}, "))
+            );
+        }
+    }
+}
+
+#[test]
+fn several_files() {
+    let folder = empty_folder("several_highlighted");
+    fs::write(folder.join("t"), "fn a").unwrap();
+    fs::write(folder.join("u"), "\u{feff}#!x\n---\n---\nfn\n").unwrap();
+    fs::write(folder.join("latin"), b"a\xff").unwrap();
+    fs::write(folder.join("--raw"), "0x").unwrap();
+    let (missing, utf8) = (
+        "rust-lex: none: No such file or directory (os error 2)\n",
+        "rust-lex: latin: invalid UTF-8 at byte offset 1\n",
+    );
+    for (arguments, output, messages, status) in [
+        (&["t", "-", "t"][..], "fn abfn a", "", 0),
+        (&["u", "t"], "\u{feff}#!x\n---\n---\nfn\nfn a", "", 0),
+        (&["-", "-"], "b", "", 0),
+        (&["--", "--raw"], "0x [<- number has no digits]", "", 0),
+        (
+            &["t", "--", "--raw", "t"],
+            "fn a0x [<- number has no digits]fn a",
+            "",
+            0,
+        ),
+        // The other files are still printed.
+        (&["t", "none", "t"], "fn afn a", missing, 2),
+        (&["t", "latin", "t"], "fn afn a", utf8, 2),
+    ] {
+        let words = [&["highlight"], arguments].concat();
+        let ended = run_with_input(&mut rust_lex(&folder, &words), b"b");
+        check_ended(&ended, output, messages, status, &words.concat());
+    }
+}
+
+#[cfg(target_os = "linux")]
+#[test]
+fn terminals_and_streams() {
+    let folder = empty_folder("terminals");
+    fs::write(folder.join("t"), "fn a").unwrap();
+    let colours = "\x1b[35mfn\x1b[0m a";
+    check_shell(
+        &folder,
+        &[
+            // Colours are the default only if the output is a terminal.
+            (
+                r#"TERM=xterm script -qec "$P highlight t" /dev/null"#,
+                colours,
+                "",
+                0,
+            ),
+            (
+                r#"TERM=xterm NO_COLOR= script -qec "$P highlight t" /dev/null"#,
+                colours,
+                "",
+                0,
+            ),
+            (
+                r#"TERM=xterm NO_COLOR=1 script -qec "$P highlight t" /dev/null"#,
+                "fn a",
+                "",
+                0,
+            ),
+            (
+                r#"TERM=dumb script -qec "$P highlight t" /dev/null"#,
+                "fn a",
+                "",
+                0,
+            ),
+            (
+                r#"TERM=dumb script -qec "$P highlight --color=always t" /dev/null"#,
+                colours,
+                "",
+                0,
+            ),
+            (
+                r#"TERM=xterm script -qec "$P highlight --color=never t" /dev/null"#,
+                "fn a",
+                "",
+                0,
+            ),
+            (
+                r#"TERM=xterm script -qec "$P highlight t > o" /dev/null; cat o"#,
+                "fn a",
+                "",
+                0,
+            ),
+            ("NO_COLOR=1 $P highlight --color=always t", colours, "", 0),
+            (
+                "head -c 131073 /dev/zero | tr '\\0' x | $P highlight | wc -c",
+                "131073\n",
+                "",
+                0,
+            ),
+            (
+                "$P highlight / t",
+                "fn a",
+                "rust-lex: /: Is a directory (os error 21)\n",
+                2,
+            ),
+            (
+                "$P highlight <&-",
+                "",
+                "rust-lex: <stdin>: the stream is closed\n",
+                2,
+            ),
+            (
+                "$P highlight t >&-",
+                "",
+                "rust-lex: standard output: the stream is closed\n",
+                2,
+            ),
+            (
+                "$P highlight t > /dev/full",
+                "",
+                "rust-lex: standard output: No space left on device (os error 28)\n",
+                2,
+            ),
+            // The reader of the pipe has ended before the program starts.
+            (
+                "mkfifo f; : < f & exec 3> f; wait; rm f; $P highlight t none >&3 2>&-",
+                "",
+                "",
+                0,
+            ),
+            (
+                "(ulimit -v 40000; head -c 80000000 /dev/zero | $P highlight)",
+                "",
+                "rust-lex: <stdin>: out of memory\n",
+                2,
+            ),
+        ],
+    );
+}
