@@ -1,8 +1,7 @@
 //! The listing of tokens, as the program `lexdump` prints it.
 
 use crate::source::Source;
-use program_io::Watched;
-use lexdump_run::write_listing;
+use lexdump_run::{Watched, write_listing};
 use rattle_std::io;
 use std::ops::Range;
 

@@ -1,4 +1,5 @@
 pub mod JobLemmas
+pub mod KnownLemmas
 pub mod ListingLemmas
 pub mod OutcomeLemmas
 pub mod PlaceLemmas

@@ -3,10 +3,10 @@ use Rattle.std.proofs.Common.{◌≡◌, ℕ, ◌<◌, ◌^◌, List, [], length
 use Rattle.std.proofs.Common.{Result, Ok, Err}
 use Rattle.std.proofs.lemmas.Grind.{common_steps}
 use Rattle.std.specs.{Prelude.{IfSome, OnErr, OnOk}, Str.{IsUtf8}, Io.KnownBytes.{Appends}}
-use Rattle.program_io.specs.{Known.{AppendsFront}, Run.{IsInputFault}}
-use Rattle.program_io.proofs.KnownLemmas.{keeps_same}
+use Rattle.lexdump_run.specs.{Known.{AppendsFront}, Reading.{IsInputFault}}
+use Rattle.lexdump_run.proofs.KnownLemmas.{keeps_same}
 use Rattle.rustc_lexer.specs.Classes.{IsText}
-use Rattle.program_io.specs.declared.fault.Fault.{Fault}
+use Rattle.lexdump_run.specs.declared.fault.Fault.{Fault}
 use Rattle.lexdump_run.specs.{declared.{job.Job.{Job}, output.BlockWriter.{BlockWriter}}, Outcome.{Ends}}
 use Rattle.lexdump_run.specs.Pushed.{held, Lists, Pushes}
 use Rattle.lexdump_run.proofs.PushLemmas.{pushes_both}

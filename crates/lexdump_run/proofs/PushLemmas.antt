@@ -3,8 +3,8 @@ use Rattle.std.proofs.Common.{◌≡◌, ℕ, List, [], ◌++◌, refl, sym, ◌
 use Rattle.std.proofs.Common.{Result, Ok, Err, arith}
 use Rattle.std.proofs.lemmas.Grind.{common_steps}
 use Rattle.std.specs.{Prelude.{OnOk}, Result.{IsErrAnd}, Io.KnownBytes.{Appends}}
-use Rattle.program_io.proofs.KnownLemmas.{appends-none, appends-more, front_first, front_more}
-use Rattle.program_io.specs.{Known.{Went}, declared.fault.Fault.{Fault}}
+use Rattle.lexdump_run.proofs.KnownLemmas.{appends-none, appends-more, front_first, front_more}
+use Rattle.lexdump_run.specs.{Known.{Went}, declared.fault.Fault.{Fault}}
 use Rattle.lexdump_run.specs.{declared.output.BlockWriter.{BlockWriter}, Pushed.{held, Pushes}}
 
 -- If a block holds no bytes and further bytes are written directly, it still holds none.

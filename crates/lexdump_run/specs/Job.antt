@@ -7,8 +7,8 @@ use Rattle.rustc_lexer.specs.declared.edition.Edition.{Edition}
 use Rattle.rustc_lexer.specs.declared.relex.edit.Edit.{Edit as TextEdit}
 use Rattle.rustc_lexer.specs.LanguageCalls.{edition_of}
 use Rattle.rustc_lexer.specs.LanguageText.{newest}
-use Rattle.program_io.specs.declared.fault.Fault.{Fault}
-use Rattle.program_io.specs.declared.fault.Fault.TheVariants.{Arguments, Memory}
+use Rattle.lexdump_run.specs.declared.fault.Fault.{Fault}
+use Rattle.lexdump_run.specs.declared.fault.Fault.TheVariants.{Arguments, Memory}
 use Rattle.lexdump_run.specs.declared.job.Job.{Job}
 use Rattle.lexdump_run.specs.declared.job.Job.TheVariants.{Plain, Front, Shebang, Edit}
 

@@ -1,6 +1,10 @@
 pub mod Fault
 pub mod Job
+pub mod Known
 pub mod Listing
 pub mod Outcome
 pub mod Program
 pub mod Pushed
+pub mod Reading
+pub mod Watch
+pub mod Words

@@ -2,7 +2,7 @@
 use Rattle.std.specs.Prelude.{ℕ, ◌<◌, ◌≤◌, ◌^◌, ◌≡◌, List, [], length, take, Option, Result, Ok, Err}
 use Rattle.std.specs.Str.{IsUtf8}
 use Rattle.std.specs.Io.KnownBytes.{Keeps, Appends}
-use Rattle.program_io.specs.Known.{AppendsFront}
+use Rattle.lexdump_run.specs.Known.{AppendsFront}
 use Rattle.rustc_lexer.specs.declared.relex.edit.Edit.{Edit as TextEdit}
 use Rattle.rustc_lexer.specs.declared.relex.edit_list.EditStop.{EditStop}
 use Rattle.rustc_lexer.specs.declared.relex.edit_list.EditStop.TheVariants.{Range as RangeStop, TooLong as TooLongStop}
@@ -11,8 +11,8 @@ use Rattle.rustc_lexer.specs.Classes.{IsText}
 use Rattle.rustc_lexer.specs.Edits.{apply_list, stop_at, AreEdits, IsStop}
 use Rattle.rustc_lexer.specs.LanguageText.{source, part, newest}
 use Rattle.rustc_lexer.specs.Tokens.{tokens_of}
-use Rattle.program_io.specs.declared.fault.Fault.{Fault}
-use Rattle.program_io.specs.declared.fault.Fault.TheVariants.{NotUtf8, TooLong, EditRange, EditTooLong, Memory, Read, Write}
+use Rattle.lexdump_run.specs.declared.fault.Fault.{Fault}
+use Rattle.lexdump_run.specs.declared.fault.Fault.TheVariants.{NotUtf8, TooLong, EditRange, EditTooLong, Memory, Read, Write}
 use Rattle.lexdump_run.specs.declared.job.Job.{Job}
 use Rattle.lexdump_run.specs.declared.job.Job.TheVariants.{Plain, Front, Shebang, Edit}
 use Rattle.lexdump_run.specs.Listing.{listing, shebang_line}

@@ -1,9 +1,8 @@
 -- The effect of writing bytes with a writer that can hold some back.
 use Rattle.std.specs.Prelude.{ℕ, ◌≡◌, ◌||◌, List, ◌++◌, take, Option, Result, Ok, Err, is_err, IfErr, OnErr, OnOk}
-use Rattle.program_io.specs.Known.{AppendsFront, Went}
-use Rattle.program_io.specs.Watch.{has_failed}
-use Rattle.program_io.specs.declared.fault.Fault.{Fault}
-use Rattle.program_io.specs.declared.fault.Fault.TheVariants.{Write}
+use Rattle.lexdump_run.specs.Known.{AppendsFront, Went}
+use Rattle.lexdump_run.specs.declared.fault.Fault.{Fault}
+use Rattle.lexdump_run.specs.declared.fault.Fault.TheVariants.{Write}
 use Rattle.lexdump_run.specs.declared.job.Job.{Job}
 use Rattle.lexdump_run.specs.declared.output.BlockWriter.{BlockWriter}
 use Rattle.lexdump_run.specs.Outcome.{edits_of, IsPrinted, IsRefused}
@@ -17,7 +16,7 @@ held writer = take writer.len writer.bytes
 pub record Pushes {W : Type 0} (contents : W → Option (List ℕ)) (old new : BlockWriter W)
     (bytes : List ℕ) (result : Result (Unit {0}) Fault) : Type 0 where
   pub same_output : new.output.ghost_name ≡ old.output.ghost_name
-  pub failed : has_failed new.output.now ≡ (has_failed old.output.now || is_err result)
+  pub failed : new.output.now.failed ≡ (old.output.now.failed || is_err result)
   pub only : IfErr result (λ fault. fault ≡ Write)
   pub ok : OnOk result (Went (contents old.output.now.inner) (contents new.output.now.inner)
       (held old ++ bytes) (held new))

@@ -3,7 +3,7 @@ ghost use Rattle.std.specs.Prelude.{◌≡◌, ◌<◌, ◌↔◌, IfErr, IfOk, 
 ghost use Rattle.std.specs.Option.{option_map};
 ghost use Rattle.lexdump_run.specs.Job.{command_of, edit_job, first_replacement, job_in, job_of, place_of, replacement, replacements_of, IsJobFault};
 
-use program_io::Fault;
+use crate::fault::Fault;
 use rustc_lexer::{Edit, Edition};
 use std::alloc::{AllocError, Global};
 use std::str::FromStr;

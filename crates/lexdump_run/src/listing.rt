@@ -1,8 +1,7 @@
 //! The listing: one line per token, with its start, its length, its kind and the kind's fields.
 ghost use Rattle.std.specs.Prelude.{◌≡◌, ◌+◌, ◌^◌, ◌<◌, Ok, false, true, is_err, length, IfErr, IfOk, OnErr, OnOk};
 ghost use Rattle.std.specs.Io.KnownBytes.{Appends};
-ghost use Rattle.program_io.specs.Known.{AppendsFront};
-ghost use Rattle.program_io.specs.Watch.{has_failed};
+ghost use Rattle.lexdump_run.specs.Known.{AppendsFront};
 ghost use Rattle.lexdump_run.specs.Listing.{base_text, bool_text, field, fields_text, hashes_text, line_text, listing, listing_from, literal_fields, literal_text, place_text, shebang_line, style_text};
 ghost use Rattle.lexdump_run.specs.Pushed.{Pushes};
 ghost use Rattle.lexdump_run.specs.Fault.{stop_fault};
@@ -13,9 +12,10 @@ ghost use Rattle.rustc_lexer.specs.LanguageText.{mode_in, part};
 ghost use Rattle.rustc_lexer.specs.Answers.{shebang};
 ghost use Rattle.rustc_lexer.specs.Tokens.{bound, tokens_of};
 
+use crate::fault::Fault;
 use crate::output::BlockWriter;
+use crate::watched::Watched;
 use itoa::{Buffer, write_digits};
-use program_io::{Fault, Watched};
 use rustc_lexer::{
     Base, DocStyle, Edit, EditStop, Edition, FrontmatterAllowed, LexedText, LiteralKind, Stepper,
     Steps, Token, TokenKind, strip_shebang, tokenize_as,
@@ -36,10 +36,10 @@ pub fn write_listing<W: Write>(
     start: u32,
     tokens: &[Token],
 ) -> Result<(), Fault>
-    requires writes { has_failed output.old ≡ false }
+    requires writes { output.old.failed ≡ false }
     requires fits { start + bound tokens.now (length tokens.now) < 2 ^ 32 }
     ensures write { IfErr result (λ fault. fault ≡ Fault.Write) }
-    ensures failed { has_failed output.new ≡ is_err result }
+    ensures failed { output.new.failed ≡ is_err result }
     ensures flushed { IfOk result (λ _. output.new.flushed ≡ true) }
     ensures whole { OnOk result (Appends (W.contents output.old.inner)
         (W.contents output.new.inner) (listing_from start tokens.now)) }
@@ -96,7 +96,7 @@ fn push_lines<W: Write>(
 
 /// Prints the length of the shebang line of a text.
 #[tactic(auto, using(crate::proofs::PushLemmas::pushes))]
-pub fn tell_shebang<W: Write>(lines: &mut BlockWriter<'_, W>, text: &str) -> Result<(), Fault>
+pub fn push_shebang<W: Write>(lines: &mut BlockWriter<'_, W>, text: &str) -> Result<(), Fault>
     requires { Fits text.now }
     ensures { Pushes W.contents lines.old lines.new (shebang_line (shebang text.now)) result }
 {

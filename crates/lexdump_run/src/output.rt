@@ -3,8 +3,10 @@ ghost use Rattle.std.specs.Prelude.{◌≡◌, ◌+◌, ◌≤◌, [], Ok, true,
 ghost use Rattle.std.specs.Fmt.{decimal};
 ghost use Rattle.std.specs.List.{flat_map};
 
+use crate::fault::Fault;
+use crate::watched::Watched;
+use crate::writing::{write_all, write_bytes};
 use itoa::Buffer;
-use program_io::{Fault, Watched, write_all, write_bytes};
 use std::io::Write;
 
 /// The size of a block in bytes.

@@ -1,15 +1,16 @@
 //! A whole run, from a reader to a writer.
 ghost use Rattle.std.specs.Prelude.{◌≡◌, false, IfSome};
-ghost use Rattle.program_io.specs.Run.{Leaves};
-ghost use Rattle.program_io.specs.Watch.{has_failed};
+ghost use Rattle.lexdump_run.specs.Program.{Leaves};
 ghost use Rattle.rustc_lexer.specs.Classes.{Fits};
 ghost use Rattle.lexdump_run.specs.Outcome.{Ends};
 ghost use Rattle.lexdump_run.specs.Pushed.{Lists};
 
+use crate::fault::Fault;
 use crate::job::Job;
-use crate::listing::{edited, list_pieces, list_tokens, tell_shebang};
+use crate::listing::{edited, list_pieces, list_tokens, push_shebang};
 use crate::output::BlockWriter;
-use program_io::{Fault, Watched, read_text};
+use crate::reading::read_text;
+use crate::watched::Watched;
 use rustc_lexer::{Edition, FrontmatterAllowed};
 use std::alloc::Global;
 use std::io::{Read, Write};
@@ -37,8 +38,8 @@ pub fn run<R: Read, W: Write>(
     input: &mut Watched<R>,
     output: &mut Watched<W>,
 ) -> Result<(), Fault>
-    requires reads { has_failed input.old ≡ false }
-    requires writes { has_failed output.old ≡ false }
+    requires reads { input.old.failed ≡ false }
+    requires writes { output.old.failed ≡ false }
     ensures ends { IfSome (R.remaining input.old.inner) (λ bytes.
         Ends job.now bytes (W.contents output.old.inner) (W.contents output.new.inner) result) }
     ensures leaves { Leaves input.new output.new (W.contents output.old.inner)
@@ -66,7 +67,7 @@ fn print<W: Write>(
             let newest = Edition::NEWEST;
             list_tokens(lines, text, FrontmatterAllowed::Yes, newest)
         }
-        Job::Shebang => tell_shebang(lines, text),
+        Job::Shebang => push_shebang(lines, text),
         Job::Edit { edition, edits } => {
             let lexed = edited(alloc, text, *edition, edits.as_slice())?;
             list_pieces(lines, &lexed)

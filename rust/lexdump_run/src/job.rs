@@ -4,7 +4,7 @@ use rattle_std::prelude::String;
 
 use rattle_std::prelude::Vec;
 
-use program_io::Fault;
+use crate::fault::Fault;
 use rattle_std::alloc::{AllocError, Global};
 use rattle_std::str::FromStr;
 use rustc_lexer::generated::{Edit, Edition};

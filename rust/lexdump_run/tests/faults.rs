@@ -1,11 +1,10 @@
 //! The errors of a run, for rejected input and for streams that fail, and the messages of the program.
 
-#[path = "../../program_io/tests/failing/mod.rs"]
 mod failing;
 
 use failing::{BYTES, Program, Script, Turn, WHOLE, words_of};
 use lexdump_run::program::program;
-use lexdump_run::{Fault, Job, read_job, run, status};
+use lexdump_run::{Fault, Job, read_job, report, run, status};
 use rattle_std::alloc::Global;
 use rattle_std::io::ErrorKind;
 use rustc_lexer::Edition::E2024;
@@ -77,6 +76,45 @@ fn errors_of_failing_streams() {
     }
 }
 
+/// Each fault with its status and message.
+#[rustfmt::skip]
+const FAULTS: [(Fault, u8, &str); 10] = [
+    (Fault::Arguments, 2, "lexdump: bad arguments\n"),
+    (Fault::NotUtf8, 3, "lexdump: input is not UTF-8\n"),
+    (Fault::TooLong, 4, "lexdump: input too long\n"),
+    (Fault::EditRange { at: 0 }, 5, "lexdump: edit 0: bad range\n"),
+    (Fault::EditRange { at: 21 }, 5, "lexdump: edit 21: bad range\n"),
+    (Fault::EditTooLong { at: 0 }, 5, "lexdump: edit 0: text too long\n"),
+    (Fault::EditTooLong { at: 107 }, 5, "lexdump: edit 107: text too long\n"),
+    (Fault::Memory, 6, "lexdump: no memory\n"),
+    (Fault::Read, 7, "lexdump: read failed\n"),
+    (Fault::Write, 7, "lexdump: write failed\n"),
+];
+
+/// The message is flushed, and the status is the same if it cannot be written. A successful run has no message.
+#[test]
+fn statuses_and_messages() {
+    let reported = |outcome, script: Script| {
+        let mut errors = script.writer();
+        let answer = report(&outcome, &mut errors);
+        let errors = errors.into_inner();
+        (answer, errors.bytes, errors.flushes)
+    };
+    for (fault, wanted, line) in FAULTS {
+        assert_eq!(status(&fault), wanted, "{fault:?}");
+        let whole = (wanted, line.as_bytes().to_vec(), 1);
+        assert_eq!(reported(Err(fault), BYTES), whole, "{fault:?}");
+        for turn in [Turn::Fails(ErrorKind::Other), Turn::MovesNothing] {
+            for call in [1, 9, line.len() - 1] {
+                let cut = (wanted, line.as_bytes()[..call].to_vec(), 0);
+                let script = BYTES.but_at(call, turn);
+                assert_eq!(reported(Err(fault), script), cut, "{fault:?}");
+            }
+        }
+    }
+    assert_eq!(reported(Ok(()), BYTES), (0, vec![], 0));
+}
+
 /// Arguments, which start with the program's name, if there are any; the output for `ab`, the message and the status.
 #[rustfmt::skip]
 const PROGRAMS: [(Option<&str>, &str, &str, u8); 7] = [
@@ -103,7 +141,7 @@ fn programs() {
     }
 }
 
-/// Each call of a stream fails in turn. A closed output is a failure.
+/// Each call of a stream fails in turn.
 #[test]
 fn program_with_failing_streams() {
     Program {
@@ -113,7 +151,6 @@ fn program_with_failing_streams() {
         },
         text: TEXT,
         output: LISTING,
-        closed: 7,
     }
     .check();
 }

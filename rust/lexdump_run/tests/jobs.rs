@@ -1,6 +1,5 @@
 //! The job that the arguments describe.
 
-#[path = "../../program_io/tests/failing/mod.rs"]
 mod failing;
 
 use Wanted::{Edits, Front, Plain, Shebang};

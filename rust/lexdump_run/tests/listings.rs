@@ -1,6 +1,5 @@
 //! The listings of texts, with one byte for each read and write, and in blocks.
 
-#[path = "../../program_io/tests/failing/mod.rs"]
 mod failing;
 
 use failing::{BYTES, Script, Turn, WHOLE, Writer, words_of};

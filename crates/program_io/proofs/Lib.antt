@@ -1,2 +1,0 @@
-pub mod KnownLemmas
-pub mod RunLemmas
