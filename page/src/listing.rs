@@ -1,8 +1,8 @@
 //! The listing of tokens, as the program `lexdump` prints it.
 
 use crate::source::Source;
+use lexdump_run::rattle_std::io;
 use lexdump_run::{Watched, write_listing};
-use rattle_std::io;
 use std::ops::Range;
 
 /// A writer that collects the bytes of a listing.

@@ -3,11 +3,11 @@
 
 use lexdump_run::Watched;
 use lexdump_run::program::program;
-use rattle_std::env;
-use rattle_std::process::ExitCode;
+use lexdump_run::rattle_std::env;
+use lexdump_run::rattle_std::process::ExitCode;
 
 fn main() -> ExitCode {
-    let rt = rattle_std::rt::start();
+    let rt = lexdump_run::rattle_std::rt::start();
     let args = env::args(&rt).ok();
     let mut input = Watched::new(rt.stdin());
     let mut output = Watched::new(rt.stdout());

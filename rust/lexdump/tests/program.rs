@@ -1,5 +1,5 @@
 //! The program as a process, with standard streams that are closed or full. The listings and the forms of arguments are
-//! tested in `lexdump_run`.
+//! tested in the other files.
 #![cfg(target_os = "linux")]
 
 mod processes;

@@ -1,8 +1,8 @@
 //! Standard input and output, unbuffered. If a stream is closed, reads and writes fail; the streams of `std` read nothing
 //! then, and discard the output.
 
-use rattle_std::io::{Read as _, Write as _};
-use rattle_std::rt;
+use lexdump_run::rattle_std::io::{Read as _, Write as _};
+use lexdump_run::rattle_std::rt;
 use std::io::{self, ErrorKind, Read, Write};
 
 /// A standard stream.

@@ -1,5 +1,6 @@
 //! Lists the tokens of files, in the format of `lexdump`.
 
+use lexdump_run::rattle_std;
 use lexdump_run::{Watched, write_listing};
 use rustc_lexer::{Edition, Token, tokenize_document};
 use std::io::{self, Write};

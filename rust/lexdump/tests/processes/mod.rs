@@ -1,4 +1,4 @@
-//! Runs a program as a process, here and in the package `highlight`. With PROGRAMS=FOLDER the program is
+//! Runs a program as a process. With PROGRAMS=FOLDER the program is
 //! FOLDER/NAME/out/NAME, which `rt ci` builds.
 
 use std::env;
