@@ -1,5 +1,5 @@
 -- Numbers and names of token kinds, classes of kinds, and the messages of errors in raw strings.
-use Rattle.std.specs.Prelude.{ℕ, Bool, true, false, List, None, codes, ◌++◌, decimal}
+use Rattle.std.specs.Prelude.{ℕ, Bool, true, false, List, Some, None, codes, ◌++◌, decimal, nat_eq, if◌then◌else◌}
 use Rattle.rustc_lexer.specs.{LiteralKind, RawStrError, InvalidStarter, NoTerminator, TooManyDelimiters, TokenKind, Int, Float, Char, Byte, Str, ByteStr, CStr, RawStr, RawByteStr, RawCStr, LineComment, BlockComment, Whitespace, Frontmatter, Ident, InvalidIdent, RawIdent, ForcedKeywordIdent, UnknownPrefix, UnknownPrefixLifetime, RawLifetime, GuardedStrPrefix, Literal, Lifetime, Semi, Comma, Dot, OpenParen, CloseParen, OpenBrace, CloseBrace, OpenBracket, CloseBracket, At, Pound, Tilde, Question, Colon, Dollar, Eq, Bang, Lt, Gt, Minus, And, Or, Plus, Star, Slash, Caret, Percent, Unknown, Eof}
 
 -- Returns the number of a kind, for use in other languages, and the name of its variant. A number never changes: a new
@@ -95,9 +95,16 @@ literal_entry (RawCStr n_hashes) = (10, codes "RawCStr")
 
 -- Returns the message of an error in a raw string.
 abbrev pub raw_str_text : RawStrError → List ℕ
-raw_str_text (InvalidStarter bad_char) = codes "no hash or quote opens the raw string"
-raw_str_text (NoTerminator expected found offset) =
-    codes "no quote with " ++ (decimal expected ++ codes " hashes closes the raw string")
+raw_str_text (InvalidStarter bad_char) = codes "invalid raw string: missing opening quote"
+raw_str_text (NoTerminator expected found None) =
+    if nat_eq expected 0 then codes "unterminated raw string: missing closing quote"
+    else codes "unterminated raw string: expected a closing quote and "
+    ++ (decimal expected ++ codes " `#`")
+raw_str_text (NoTerminator expected found (Some end)) =
+    codes "unterminated raw string: expected "
+    ++ (decimal expected
+    ++ (codes " `#` after the closing quote, found "
+    ++ (decimal found ++ (codes " at byte " ++ decimal end))))
 raw_str_text (TooManyDelimiters found) =
-    codes "the raw string has "
-    ++ (decimal found ++ codes " hashes on each side, and 255 are the most")
+    codes "raw string with "
+    ++ (decimal found ++ codes " `#` on each side: at most 255 are allowed")

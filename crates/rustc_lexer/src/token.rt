@@ -488,14 +488,26 @@ impl fmt::Display for RawStrError {
     fn fmt<W: fmt::Write>(&self, f: &mut fmt::Formatter<W>) -> fmt::Result {
         match self {
             RawStrError::InvalidStarter { .. } => {
-                f.write_str("no hash or quote opens the raw string")
+                f.write_str("invalid raw string: missing opening quote")
             }
-            RawStrError::NoTerminator { expected, .. } => {
-                write!(f, "no quote with {expected} hashes closes the raw string")
+            RawStrError::NoTerminator {
+                expected,
+                found,
+                possible_terminator_offset: Some(end),
+            } => write!(
+                f,
+                "unterminated raw string: expected {expected} `#` after the closing quote, found {found} at byte {end}"
+            ),
+            RawStrError::NoTerminator { expected, .. } if *expected == 0 => {
+                f.write_str("unterminated raw string: missing closing quote")
             }
+            RawStrError::NoTerminator { expected, .. } => write!(
+                f,
+                "unterminated raw string: expected a closing quote and {expected} `#`"
+            ),
             RawStrError::TooManyDelimiters { found } => write!(
                 f,
-                "the raw string has {found} hashes on each side, and 255 are the most"
+                "raw string with {found} `#` on each side: at most 255 are allowed"
             ),
         }
     }

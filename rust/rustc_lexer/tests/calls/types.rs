@@ -5,6 +5,7 @@ use RawStrError::{InvalidStarter, NoTerminator, TooManyDelimiters};
 use rustc_lexer::{
     Base, Cursor, DocStyle, Edition, FrontmatterAllowed, GuardedStr, LiteralKind, RawStrError,
     Steps, Token, TokenKind, TokenStart, Tokens, UnknownEdition, incremental, tokenize,
+    validate_raw_str,
 };
 
 /// Asserts that each value is less than those after it and equal only to itself.
@@ -87,21 +88,32 @@ fn years() {
 
 #[test]
 fn error_messages() {
-    for (error, said) in [
+    let hashes = "#".repeat(256);
+    let many = format!("r{hashes}\"a\"{hashes}");
+    for (text, said) in [
+        ("r~", "invalid raw string: missing opening quote"),
+        ("r#~", "invalid raw string: missing opening quote"),
+        ("r##~", "invalid raw string: missing opening quote"),
+        ("r\"a", "unterminated raw string: missing closing quote"),
         (
-            InvalidStarter { bad_char: '~' },
-            "no hash or quote opens the raw string",
+            "r#\"a",
+            "unterminated raw string: expected a closing quote and 1 `#`",
         ),
         (
-            no_terminator(12, 3, Some(20)),
-            "no quote with 12 hashes closes the raw string",
+            "r##\"a",
+            "unterminated raw string: expected a closing quote and 2 `#`",
         ),
         (
-            TooManyDelimiters { found: 256 },
-            "the raw string has 256 hashes on each side, and 255 are the most",
+            "r##\"a\"#",
+            "unterminated raw string: expected 2 `#` after the closing quote, found 1 at byte 6",
+        ),
+        (
+            many.as_str(),
+            "raw string with 256 `#` on each side: at most 255 are allowed",
         ),
     ] {
-        assert_eq!(error.to_string(), said);
+        let error = validate_raw_str(text, 1).unwrap_err();
+        assert_eq!(error.to_string(), said, "{text}");
     }
     let said = UnknownEdition.to_string();
     assert_eq!(said, "no edition of Rust has this year");
