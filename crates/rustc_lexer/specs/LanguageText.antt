@@ -8,7 +8,7 @@ use Rattle.std.specs.Prelude.{◌≡◌, ◌<◌, ◌≤◌, ℕ, true, false, L
 use Rattle.std.specs.Str.{byte}
 use Rattle.rustc_lexer.specs.{Edition, FrontmatterAllowed, Token, TokenKind, E2015, E2018, E2021, E2024, Yes, No, Ident}
 use Rattle.rustc_lexer.specs.{UnknownPrefix, Lifetime, UnknownPrefixLifetime, Pound, RawLifetime, GuardedStrPrefix}
-use Rattle.rustc_lexer.specs.{Whitespace, Frontmatter, Eof}
+use Rattle.rustc_lexer.specs.{Whitespace, Frontmatter}
 use Rattle.rustc_lexer.specs.Classes.{Chars, begins_ident_after, is_whitespace, next_is, bytes, is_bad_name}
 use Rattle.rustc_lexer.specs.FrontmatterGrammar.{IsOpeningBefore, OpensNone, endings, IsBodyBefore}
 use Rattle.rustc_lexer.specs.Language.{IsTokenBefore}
@@ -81,12 +81,11 @@ abbrev pub is_source : Mode → Bool
 is_source (source edition) = true
 is_source (part edition) = false
 
--- Returns the mode of the text after a token of this kind. After whitespace or `Eof`, source is still lexed as source.
--- After any other token, the rest is lexed as a fragment.
+-- Returns the mode of the text after a token of this kind. After whitespace, source is still lexed as source. After any
+-- other token, the rest is lexed as a fragment.
 abbrev pub mode_after : Mode → TokenKind → Mode
 mode_after (part edition) kind = part edition
 mode_after (source edition) Whitespace = source edition
-mode_after (source edition) Eof = source edition
 mode_after (source edition) kind = part edition
 
 -- ---- the tokens of a text

@@ -265,7 +265,7 @@ fn next_allowed(allowed: FrontmatterAllowed, kind: TokenKind) -> FrontmatterAllo
         → mode_in result edition ≡ mode_after (mode_in allowed edition) kind }
 {
     match kind {
-        TokenKind::Whitespace | TokenKind::Eof => allowed,
+        TokenKind::Whitespace => allowed,
         _ => FrontmatterAllowed::No,
     }
 }

@@ -186,7 +186,7 @@ impl<'a> Iterator for Tokens<'a> {
 #[inline(always)]
 fn next_allowed(allowed: FrontmatterAllowed, kind: TokenKind) -> FrontmatterAllowed {
     match kind {
-        TokenKind::Whitespace | TokenKind::Eof => allowed,
+        TokenKind::Whitespace => allowed,
         _ => FrontmatterAllowed::No,
     }
 }

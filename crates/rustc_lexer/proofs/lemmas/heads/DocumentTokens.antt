@@ -9,7 +9,7 @@ use Rattle.std.proofs.{lemmas.Bool.{and_parts, eqb-true, not-true}, Math.Seq.{ge
 use Rattle.std.proofs.lemmas.Str.{IsCharBoundary-from_rest, IsUtf8-drop}
 use Rattle.std.proofs.lemmas.Str.{length-le-encodes, IsCharBoundary-before_ascii, IsCharBoundary-end}
 use Rattle.std.proofs.lemmas.Str.{IsCharBoundary-start}
-use Rattle.rustc_lexer.specs.{Edition, Token, TokenKind, Eof, Whitespace, Classes.{is_whitespace, IsText, bytes}}
+use Rattle.rustc_lexer.specs.{Edition, Token, TokenKind, Whitespace, Classes.{is_whitespace, IsText, bytes}}
 use Rattle.rustc_lexer.specs.{Document.{byte_order_mark_len, tokens_start}, model.Document.{front_tokens}}
 use Rattle.rustc_lexer.specs.Answers.{shebang}
 use Rattle.rustc_lexer.specs.Language as the
@@ -33,7 +33,6 @@ use Rattle.rustc_lexer.proofs.lemmas.tokens.Shebang.{mark_boundary}
 
 abbrev stays : TokenKind → Bool
 stays Whitespace = true
-stays Eof = true
 stays kind = false
 
 solid-after : (edition : Edition) (kind : TokenKind) → stays kind ≡ false → mode_after (source edition) kind ≡
