@@ -15,7 +15,7 @@ use crate::classes::is_id_start;
 use crate::lexemes::ident::{eat_hash_ident, is_word_continue};
 use crate::lexemes::literal::{eat_literal_suffix, literal};
 use crate::lexemes::quoted::{QuotedPrefix, quoted_literal};
-use crate::scan::{eat_continue, eat_while, split_first, strip};
+use crate::scan::{begins_with, eat_continue, eat_while, split_first, strip};
 use crate::token::{LiteralKind, TokenKind};
 
 /// Lexes a token that starts with a single quote. Returns its kind, and the text after it. `tail` is the text after the
@@ -66,7 +66,7 @@ fn past_short_char(tail: &str) -> Option<&str>
 fn is_character(first: char, rest: &str) -> bool
     ensures { result ≡ spec.is_character first (chars rest.now) }
 {
-    strip(rest, b'\'').is_some() || !is_name_start(first)
+    begins_with(rest, b'\'') || !is_name_start(first)
 }
 
 /// Returns whether the name of a lifetime can start with the character, valid or not. Digits and emoji can.
@@ -117,7 +117,7 @@ fn lifetime_kind(first: char, holds_emoji: bool, rest: &str) -> TokenKind
         then UnknownPrefixLifetime
         else Lifetime (is_ascii_digit first || is_emoji first || holds_emoji)) }
 {
-    if strip(rest, b'#').is_some() && !first.is_ascii_digit() {
+    if begins_with(rest, b'#') && !first.is_ascii_digit() {
         TokenKind::UnknownPrefixLifetime
     } else {
         TokenKind::Lifetime {

@@ -6,7 +6,7 @@ ghost use Rattle.rustc_lexer.specs.model.Scan.{past, scanned};
 
 use crate::lexemes::body::BodyEnd;
 use crate::lexemes::literal::{eat_literal_suffix, literal};
-use crate::scan::{eat_until_either, split_first, strip};
+use crate::scan::{begins_with, eat_until_either, split_first, strip};
 use crate::token::{LiteralKind, TokenKind};
 
 /// Returns the end of a string in double quotes. `body` is the text after the opening quote. An unterminated string
@@ -100,7 +100,7 @@ fn stops_open(c: char, tail: &str) -> bool
     requires { ¬ (c ≡ 39) }
     ensures { result ≡ spec.at_single_stop (c ∷ chars tail.now) }
 {
-    c == '/' || (c == '\n' && strip(tail, b'\'').is_none())
+    c == '/' || (c == '\n' && !begins_with(tail, b'\''))
 }
 
 /// The prefix of a literal in quotes, up to and including the opening quote.

@@ -8,7 +8,7 @@ ghost use Rattle.rustc_lexer.specs.model.Scan.{next_is, scanned};
 use crate::lexemes::ident::{eat_hash_ident, ident_or_unknown_prefix};
 use crate::lexemes::quoted::{QuotedPrefix, quoted_literal};
 use crate::lexemes::raw::{RawPrefix, raw_literal};
-use crate::scan::strip;
+use crate::scan::{begins_with, strip};
 use crate::token::TokenKind;
 
 /// Lexes a token that starts with `first`. Returns its kind, and the text after it. `tail` is the text after `first`.
@@ -47,7 +47,7 @@ fn letter_r(tail: &str) -> (TokenKind, &str)
 fn begins_raw(rest: &str) -> bool
     ensures { result ≡ next_is spec.opens_raw (chars rest.now) }
 {
-    strip(rest, b'"').is_some() || strip(rest, b'#').is_some()
+    begins_with(rest, b'"') || begins_with(rest, b'#')
 }
 
 /// Lexes a token that starts with `k`: a forced keyword, or an identifier.
@@ -67,9 +67,9 @@ fn letter_b(tail: &str) -> (TokenKind, &str)
     requires fits { length tail.now + 1 < 2 ^ 32 }
     ensures { (result.0, result.1.now) ≡ scanned spec.letter_b tail.now }
 {
-    if strip(tail, b'\'').is_some() {
+    if begins_with(tail, b'\'') {
         quoted_literal(QuotedPrefix::BSingle, tail)
-    } else if strip(tail, b'"').is_some() {
+    } else if begins_with(tail, b'"') {
         quoted_literal(QuotedPrefix::BDouble, tail)
     } else {
         raw_or_ident(RawPrefix::Br, tail)
@@ -82,7 +82,7 @@ fn letter_c(tail: &str) -> (TokenKind, &str)
     requires fits { length tail.now + 1 < 2 ^ 32 }
     ensures { (result.0, result.1.now) ≡ scanned spec.letter_c tail.now }
 {
-    if strip(tail, b'"').is_some() {
+    if begins_with(tail, b'"') {
         quoted_literal(QuotedPrefix::CDouble, tail)
     } else {
         raw_or_ident(RawPrefix::Cr, tail)

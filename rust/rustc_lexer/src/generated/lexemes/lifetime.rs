@@ -6,7 +6,7 @@ use crate::generated::classes::is_id_start;
 use crate::generated::lexemes::ident::{eat_hash_ident, is_word_continue};
 use crate::generated::lexemes::literal::{eat_literal_suffix, literal};
 use crate::generated::lexemes::quoted::{QuotedPrefix, quoted_literal};
-use crate::generated::scan::{eat_continue, eat_while, split_first, strip};
+use crate::generated::scan::{begins_with, eat_continue, eat_while, split_first, strip};
 use crate::generated::token::{LiteralKind, TokenKind};
 
 /// Lexes a token that starts with a single quote. Returns its kind, and the text after it. `tail` is the text after the
@@ -47,7 +47,7 @@ fn past_short_char(tail: &str) -> Option<&str> {
 
 /// Returns whether a quote, `first` and `rest` start a character literal and not a lifetime.
 fn is_character(first: char, rest: &str) -> bool {
-    strip(rest, b'\'').is_some() || !is_name_start(first)
+    begins_with(rest, b'\'') || !is_name_start(first)
 }
 
 /// Returns whether the name of a lifetime can start with the character, valid or not. Digits and emoji can.
@@ -86,7 +86,7 @@ fn plain_lifetime(first: char, rest: &str) -> (TokenKind, &str) {
 /// Returns the kind of a name that no quote follows. `first` is its first character, and `rest` is the text after it.
 #[inline(always)]
 fn lifetime_kind(first: char, holds_emoji: bool, rest: &str) -> TokenKind {
-    if strip(rest, b'#').is_some() && !first.is_ascii_digit() {
+    if begins_with(rest, b'#') && !first.is_ascii_digit() {
         TokenKind::UnknownPrefixLifetime
     } else {
         TokenKind::Lifetime {

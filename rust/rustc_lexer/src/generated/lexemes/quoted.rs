@@ -3,7 +3,7 @@
 
 use crate::generated::lexemes::body::BodyEnd;
 use crate::generated::lexemes::literal::{eat_literal_suffix, literal};
-use crate::generated::scan::{eat_until_either, split_first, strip};
+use crate::generated::scan::{begins_with, eat_until_either, split_first, strip};
 use crate::generated::token::{LiteralKind, TokenKind};
 
 /// Returns the end of a string in double quotes. `body` is the text after the opening quote. An unterminated string
@@ -81,7 +81,7 @@ fn strip_lone(body: &str) -> Option<&str> {
 
 /// Returns whether `c`, which is not a quote, ends an unterminated text in single quotes. `tail` is the text after `c`.
 fn stops_open(c: char, tail: &str) -> bool {
-    c == '/' || (c == '\n' && strip(tail, b'\'').is_none())
+    c == '/' || (c == '\n' && !begins_with(tail, b'\''))
 }
 
 /// The prefix of a literal in quotes, up to and including the opening quote.

@@ -4,7 +4,7 @@
 use crate::generated::lexemes::ident::{eat_hash_ident, ident_or_unknown_prefix};
 use crate::generated::lexemes::quoted::{QuotedPrefix, quoted_literal};
 use crate::generated::lexemes::raw::{RawPrefix, raw_literal};
-use crate::generated::scan::strip;
+use crate::generated::scan::{begins_with, strip};
 use crate::generated::token::TokenKind;
 
 /// Lexes a token that starts with `first`. Returns its kind, and the text after it. `tail` is the text after `first`.
@@ -35,7 +35,7 @@ fn letter_r(tail: &str) -> (TokenKind, &str) {
 /// Returns whether the text after a prefix continues as a raw string.
 #[inline(always)]
 fn begins_raw(rest: &str) -> bool {
-    strip(rest, b'"').is_some() || strip(rest, b'#').is_some()
+    begins_with(rest, b'"') || begins_with(rest, b'#')
 }
 
 /// Lexes a token that starts with `k`: a forced keyword, or an identifier.
@@ -50,9 +50,9 @@ fn letter_k(tail: &str) -> (TokenKind, &str) {
 /// Lexes a token that starts with `b`: a byte, a byte string, or an identifier.
 #[inline(always)]
 fn letter_b(tail: &str) -> (TokenKind, &str) {
-    if strip(tail, b'\'').is_some() {
+    if begins_with(tail, b'\'') {
         quoted_literal(QuotedPrefix::BSingle, tail)
-    } else if strip(tail, b'"').is_some() {
+    } else if begins_with(tail, b'"') {
         quoted_literal(QuotedPrefix::BDouble, tail)
     } else {
         raw_or_ident(RawPrefix::Br, tail)
@@ -62,7 +62,7 @@ fn letter_b(tail: &str) -> (TokenKind, &str) {
 /// Lexes a token that starts with `c`: a C string, or an identifier.
 #[inline(always)]
 fn letter_c(tail: &str) -> (TokenKind, &str) {
-    if strip(tail, b'"').is_some() {
+    if begins_with(tail, b'"') {
         quoted_literal(QuotedPrefix::CDouble, tail)
     } else {
         raw_or_ident(RawPrefix::Cr, tail)
