@@ -485,8 +485,8 @@ static void check_message(const char *text, const char *wanted) {
         size_t written = 99;
         uint8_t bytes[258];
         memset(bytes, 0xAA, sizeof bytes);
-        CHECK(rustc_lexer_token_error_message((const uint8_t *)text, token.len, &token, bytes, buffer_len, &written) ==
-              status);
+        CHECK(rustc_lexer_token_error_message((const uint8_t *)text, token.len, &token, 2024, bytes, buffer_len,
+                                              &written) == status);
         CHECK(written == (status == RUSTC_LEXER_OK ? len : 0) && bytes[buffer_len] == 0xAA);
         CHECK(status != RUSTC_LEXER_OK || memcmp(bytes, wanted, len) == 0);
     }
@@ -510,17 +510,22 @@ static void check_messages(void) {
 
     /* a buffer with spare room, an empty text and null */
     memset(bytes, 0xAA, sizeof bytes);
-    CHECK(rustc_lexer_token_error_message(text, 2, &number, bytes, sizeof bytes, &written) == RUSTC_LEXER_OK);
+    CHECK(rustc_lexer_token_error_message(text, 2, &number, 2015, bytes, sizeof bytes, &written) == RUSTC_LEXER_OK);
     CHECK(written == 20 && memcmp(bytes, "number has no digits\xaa", 21) == 0);
-    CHECK(rustc_lexer_token_error_message(NULL, 0, &number, NULL, 0, &written) == RUSTC_LEXER_SMALL_BUFFER);
+    CHECK(rustc_lexer_token_error_message(NULL, 0, &number, 2024, NULL, 0, &written) == RUSTC_LEXER_SMALL_BUFFER);
     CHECK(written == 0);
-    CHECK(rustc_lexer_token_error_message(NULL, 0, &unknown, NULL, 0, &written) == RUSTC_LEXER_OK && written == 0);
+    CHECK(rustc_lexer_token_error_message(NULL, 0, &unknown, 2024, NULL, 0, &written) == RUSTC_LEXER_OK);
+    CHECK(written == 0);
 
-    /* if the text is invalid, the buffer is unchanged */
+    /* if the text or the year is invalid, the buffer is unchanged */
     memset(bytes, 0xAA, sizeof bytes);
     written = 99;
-    CHECK(rustc_lexer_token_error_message((const uint8_t *)"\xff", 1, &number, bytes, sizeof bytes, &written) ==
+    CHECK(rustc_lexer_token_error_message((const uint8_t *)"\xff", 1, &number, 2024, bytes, sizeof bytes, &written) ==
           RUSTC_LEXER_NOT_UTF8);
+    CHECK(written == 0 && bytes[0] == 0xAA);
+    written = 99;
+    CHECK(rustc_lexer_token_error_message(text, 2, &number, 2020, bytes, sizeof bytes, &written) ==
+          RUSTC_LEXER_BAD_EDITION);
     CHECK(written == 0 && bytes[0] == 0xAA);
 }
 
@@ -568,7 +573,9 @@ static void check_order(void) {
         {rustc_lexer_relex(good, 1, NULL, 0, &edit, 0, &begin, buffer, 1, &count), RUSTC_LEXER_BAD_EDITION,
          RUSTC_LEXER_BAD_EDIT},
         {rustc_lexer_body_edit(bad, 1, &edit, &head, &made, &is), RUSTC_LEXER_NOT_UTF8, RUSTC_LEXER_BAD_EDIT},
-        {rustc_lexer_token_error_message(bad, 1, &unknown, NULL, 0, &count), RUSTC_LEXER_NOT_UTF8,
+        {rustc_lexer_token_error_message(bad, 1, &unknown, 0, NULL, 0, &count), RUSTC_LEXER_NOT_UTF8,
+         RUSTC_LEXER_BAD_EDITION},
+        {rustc_lexer_token_error_message(good, 1, &unknown, 0, NULL, 0, &count), RUSTC_LEXER_BAD_EDITION,
          RUSTC_LEXER_SMALL_BUFFER},
         {rustc_lexer_write_highlighted(bad, 1, 1, 0, 1, NULL, 0, &count), RUSTC_LEXER_NOT_UTF8,
          RUSTC_LEXER_BAD_EDITION},
@@ -632,7 +639,7 @@ static void check_token(const char *text, size_t len, uint32_t class_wanted, uin
     CHECK(token.len == len);
     CHECK(rustc_lexer_class(bytes, len, &token, 2024, &number) == RUSTC_LEXER_OK && number == class_wanted);
     number = 99;
-    CHECK(rustc_lexer_token_error(bytes, len, &token, &number) == RUSTC_LEXER_OK && number == error_wanted);
+    CHECK(rustc_lexer_token_error(bytes, len, &token, 2024, &number) == RUSTC_LEXER_OK && number == error_wanted);
 }
 
 static void check_classes(void) {
@@ -714,18 +721,30 @@ static void check_classes(void) {
     uint32_t number = 9;
     CHECK(rustc_lexer_class((const uint8_t *)"\xff", 1, &token, 2024, &number) == RUSTC_LEXER_NOT_UTF8 && number == 0);
     number = 9;
-    CHECK(rustc_lexer_token_error((const uint8_t *)"\xff", 1, &token, &number) == RUSTC_LEXER_NOT_UTF8 && number == 0);
+    CHECK(rustc_lexer_token_error((const uint8_t *)"\xff", 1, &token, 0, &number) == RUSTC_LEXER_NOT_UTF8);
+    CHECK(number == 0);
     CHECK(rustc_lexer_class(NULL, 0, &token, 2024, &number) == RUSTC_LEXER_OK && number == RUSTC_LEXER_CLASS_PLAIN);
-    CHECK(rustc_lexer_token_error(NULL, 0, &token, &number) == RUSTC_LEXER_OK && number == 0);
+    CHECK(rustc_lexer_token_error(NULL, 0, &token, 2024, &number) == RUSTC_LEXER_OK && number == 0);
 
-    /* a keyword of later editions, and invalid years */
+    /* a keyword and an error of later editions, and invalid years */
     const uint8_t *word = (const uint8_t *)"dyn";
+    struct rustc_lexer_token forced = {.kind = RUSTC_LEXER_FORCED_KEYWORD_IDENT, .len = 3};
     for (uint32_t year = 2013; year < 2030; year++) {
         bool is_edition = year == 2015 || year == 2018 || year == 2021 || year == 2024;
         uint32_t wanted = year == 2015 ? RUSTC_LEXER_CLASS_PLAIN : is_edition ? RUSTC_LEXER_CLASS_KEYWORD : 0;
         number = 9;
         uint32_t status = rustc_lexer_class(word, 3, &token, year, &number);
         CHECK(status == (is_edition ? RUSTC_LEXER_OK : RUSTC_LEXER_BAD_EDITION) && number == wanted);
+
+        size_t written = 99;
+        uint8_t message[256];
+        wanted = is_edition && year >= 2021 ? RUSTC_LEXER_TOKEN_ERROR_UNKNOWN_PREFIX : 0;
+        number = 9;
+        CHECK(rustc_lexer_token_error((const uint8_t *)"k#a", 3, &forced, year, &number) == status);
+        CHECK(number == wanted);
+        CHECK(rustc_lexer_token_error_message((const uint8_t *)"k#a", 3, &forced, year, message, sizeof message,
+                                              &written) == status);
+        CHECK((written > 0) == (wanted > 0));
     }
 }
 

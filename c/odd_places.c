@@ -264,9 +264,9 @@ static void check_classes(const uint8_t *text, size_t len, enum placement placem
         size_t written;
         memcpy(token.bytes, &first, sizeof first);
         CHECK(rustc_lexer_class(text, first.len, token.bytes, 2024, number.bytes) == RUSTC_LEXER_OK);
-        CHECK(rustc_lexer_token_error(text, first.len, token.bytes, number.bytes) == RUSTC_LEXER_OK);
+        CHECK(rustc_lexer_token_error(text, first.len, token.bytes, 2024, number.bytes) == RUSTC_LEXER_OK);
         memcpy(&error, number.bytes, sizeof error);
-        CHECK(rustc_lexer_token_error_message(text, first.len, token.bytes, message.bytes, 256, &written) ==
+        CHECK(rustc_lexer_token_error_message(text, first.len, token.bytes, 2024, message.bytes, 256, &written) ==
               RUSTC_LEXER_OK);
         CHECK((written > 0) == (error > 0));
         for (size_t j = 0; j < 4; j++)

@@ -327,7 +327,7 @@ enum {
     RUSTC_LEXER_TOKEN_ERROR_FRONTMATTER_CLOSE_MISMATCH = 6, /* the closing fence has another number of dashes */
     RUSTC_LEXER_TOKEN_ERROR_EXTRA_AFTER_FRONTMATTER_CLOSE = 7, /* other characters after a closing fence */
     RUSTC_LEXER_TOKEN_ERROR_INVALID_NAME = 8, /* a name contains an emoji */
-    RUSTC_LEXER_TOKEN_ERROR_UNKNOWN_PREFIX = 9, /* unknown prefix of a literal, or k#a */
+    RUSTC_LEXER_TOKEN_ERROR_UNKNOWN_PREFIX = 9, /* unknown prefix of a literal, or k#a since 2021 */
     RUSTC_LEXER_TOKEN_ERROR_UNKNOWN_LIFETIME_PREFIX = 10, /* unknown prefix of a lifetime */
     RUSTC_LEXER_TOKEN_ERROR_GUARDED_STRING = 11, /* #" or ##, which are reserved */
     RUSTC_LEXER_TOKEN_ERROR_INVALID_LIFETIME = 12, /* a lifetime starts with a digit or contains an emoji */
@@ -562,13 +562,15 @@ uint32_t rustc_lexer_class(const uint8_t *text, size_t len, const struct rustc_l
                            uint32_t *number);
 
 /* Writes the error of a token, RUSTC_LEXER_TOKEN_ERROR_.., into `number`, or 0 if there is none. `text` is the text of
- * the token. For errors between the quotes of a terminated literal, call rustc_lexer_literal_errors.
+ * the token. The edition is a year, as in rustc_lexer_tokens_in: k#a has an error since 2021. For errors between the
+ * quotes of a terminated literal, call rustc_lexer_literal_errors.
  *
  * CR LF is a newline. So is a CR that ends a doc comment or a closing fence at the end of a text, which rustc
- * rejects. For '\ before CR LF, the error is an unterminated character, where rustc reports an unknown escape. Before
- * 2021, k#a is not an error in rustc. */
+ * rejects. For '\ before CR LF, the error is an unterminated character, where rustc reports an unknown escape. C
+ * strings are read in every edition, although rustc reads the c or cr in c", cr" and cr# as an identifier before
+ * 2021. */
 uint32_t rustc_lexer_token_error(const uint8_t *text, size_t len, const struct rustc_lexer_token *token,
-                                 uint32_t *number);
+                                 uint32_t edition, uint32_t *number);
 
 /* Writes the message of a token's error into the buffer, such as "number has no digits", and the number of its bytes
  * into `written`, which is 0 if there is no error. The arguments are those of rustc_lexer_token_error. The message is
@@ -578,7 +580,7 @@ uint32_t rustc_lexer_token_error(const uint8_t *text, size_t len, const struct r
  * If the status is RUSTC_LEXER_SMALL_BUFFER, the contents of the buffer are unspecified: call again with a larger
  * one. If it is any other status except 0, the buffer is unchanged. In both cases `written` is 0. */
 uint32_t rustc_lexer_token_error_message(const uint8_t *text, size_t len, const struct rustc_lexer_token *token,
-                                         uint8_t *buffer, size_t buffer_len, size_t *written);
+                                         uint32_t edition, uint8_t *buffer, size_t buffer_len, size_t *written);
 
 /* Writes the first `count` tokens of the text, or all if it has fewer, with highlighting into the buffer, and the
  * number of bytes into `written`. The highlighting shows the class of each token, a message if it is malformed, and

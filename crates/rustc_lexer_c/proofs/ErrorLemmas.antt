@@ -1,7 +1,7 @@
 -- Each token has the class and the error of the kind that `kind_of` returns for its numbers.
 use Rattle.std.proofs.Common.{◌≡◌, List, ℕ, arith}
 use Rattle.std.proofs.lemmas.Grind.{common_steps}
-use Rattle.rustc_lexer.specs.declared.{edition.{Edition.{Edition, TheVariants.{E2024}}}, token.Token.{Token}}
+use Rattle.rustc_lexer.specs.declared.{edition.{Edition.{Edition}}, token.Token.{Token}}
 use Rattle.rustc_lexer.specs.declared.token.LiteralKind.{LiteralKind, TheVariants.{Int, Float}}
 use Rattle.rustc_lexer.specs.declared.token.TokenKind.{TokenKind, TheVariants.{Literal}}
 use Rattle.rustc_lexer.specs.Kinds.{kind_entry, literal_entry}
@@ -13,7 +13,7 @@ abbrev AreKept : TokenKind → ℕ → List ℕ → Edition → Type 0
 AreKept kind len text edition =
     let numbers : CToken = token_numbers record { kind = kind; len = len } in
     (class_of (kind_of numbers) text edition ≡ class_of kind text edition)
-    × (token_error (kind_of numbers) text ≡ token_error kind text)
+    × (token_error (kind_of numbers) text edition ≡ token_error kind text edition)
 
 literal_kept : (kind : LiteralKind) (suffix_start len : ℕ) (text : List ℕ) (edition : Edition)
     → AreKept (Literal kind suffix_start) len text edition
@@ -31,6 +31,6 @@ pub same_class : (it : Token) (token : CToken) (text : List ℕ) (edition : Edit
     → class_of (kind_of token) text edition ≡ class_of it.kind text edition
 same_class it token text edition same = rw (← same) (are_kept it.kind it.len text edition).0
 
-pub same_error : (it : Token) (token : CToken) (text : List ℕ) → token_numbers it ≡ token
-    → token_error (kind_of token) text ≡ token_error it.kind text
-same_error it token text same = rw (← same) (are_kept it.kind it.len text E2024).1
+pub same_error : (it : Token) (token : CToken) (text : List ℕ) (edition : Edition) → token_numbers it ≡ token
+    → token_error (kind_of token) text edition ≡ token_error it.kind text edition
+same_error it token text edition same = rw (← same) (are_kept it.kind it.len text edition).1

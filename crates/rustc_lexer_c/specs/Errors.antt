@@ -5,6 +5,7 @@ use Rattle.std.specs.Prelude.{Option, Some, None}
 use Rattle.std.specs.Str.{IsUtf8}
 use Rattle.rustc_lexer.specs.Classes.{IsText}
 use Rattle.rustc_lexer.specs.declared.edition.Edition.{Edition}
+use Rattle.rustc_lexer.specs.LanguageCalls.{edition_of_year}
 use Rattle.rustc_lexer.specs.declared.token.Base.{Base}
 use Rattle.rustc_lexer.specs.declared.token.Base.TheVariants.{Binary, Octal, Decimal, Hexadecimal}
 use Rattle.rustc_lexer.specs.declared.token.DocStyle.TheVariants.{Outer}
@@ -19,9 +20,9 @@ use Rattle.rustc_lexer.specs.declared.token.TokenKind.TheVariants.{UnknownPrefix
 use Rattle.rustc_lexer.specs.declared.token.TokenKind.TheVariants.{Literal, Lifetime, Unknown}
 use Rattle.rustc_lexer_highlight.specs.Class.{class_number, class_of}
 use Rattle.rustc_lexer_highlight.specs.declared.errors.TokenError.{TokenError}
-use Rattle.rustc_lexer_highlight.specs.TokenError.{error_number, message}
+use Rattle.rustc_lexer_highlight.specs.TokenError.{error_number, message, token_error}
 use Rattle.rustc_lexer_c.specs.declared.token.CToken.{CToken}
-use Rattle.rustc_lexer_c.specs.declared.status.Refusal.TheVariants.{NotUtf8, SmallBuffer, TooLong}
+use Rattle.rustc_lexer_c.specs.declared.status.Refusal.TheVariants.{BadEdition, NotUtf8, SmallBuffer, TooLong}
 use Rattle.rustc_lexer_c.specs.Status.{OK, refusal_number}
 
 -- Returns the number of an error, or 0 if there is none.
@@ -34,12 +35,13 @@ abbrev pub message_of : Option TokenError → List ℕ
 message_of None = []
 message_of (Some error) = message error
 
--- Holds if a call with a text and a buffer can return this status: OK or SmallBuffer for a valid text, and otherwise the
--- reason why it is invalid.
-pub record IsMessageStatus (bytes : List ℕ) (status : ℕ) : Type 0 where
-  pub ok : IsText bytes → (status ≡ OK) ⊎ (status ≡ refusal_number SmallBuffer)
+-- Holds if a call with a text, a year and a buffer of any length returns this status.
+pub record IsMessageStatus (bytes : List ℕ) (year status : ℕ) : Type 0 where
+  pub ok : IsText bytes → (edition : Edition) → edition_of_year year ≡ Some edition
+      → (status ≡ OK) ⊎ (status ≡ refusal_number SmallBuffer)
   pub not_utf8 : length bytes < 2 ^ 32 → ¬ (IsUtf8 bytes) → status ≡ refusal_number NotUtf8
   pub too_long : 2 ^ 32 ≤ length bytes → status ≡ refusal_number TooLong
+  pub bad_edition : IsText bytes → edition_of_year year ≡ None → status ≡ refusal_number BadEdition
 
 abbrev pub is_set : ℕ → Bool
 is_set number = not (nat_eq number 0)
@@ -89,3 +91,8 @@ kind_of token =
 abbrev pub class_in : CToken → List ℕ → Option Edition → ℕ
 class_in token text None = 0
 class_in token text (Some edition) = class_number (class_of (kind_of token) text edition)
+
+-- Returns the number of the token's error in an edition, or 0 if it has none or there is no edition.
+abbrev pub error_in : CToken → List ℕ → Option Edition → ℕ
+error_in token text None = 0
+error_in token text (Some edition) = number_of (token_error (kind_of token) text edition)

@@ -1,5 +1,5 @@
 //! The class and the error of a token, and the message of the error.
-ghost use Rattle.std.specs.Prelude.{◌≡◌, ◌≢◌, None, OnOk};
+ghost use Rattle.std.specs.Prelude.{◌≡◌, ◌≢◌, Some, None, OnOk};
 ghost use Rattle.std.specs.Fmt.{WritesInCalls};
 ghost use Rattle.rustc_lexer.specs.declared.edition.Edition.{Edition};
 ghost use Rattle.rustc_lexer.specs.declared.token.Token.{Token};
@@ -47,23 +47,36 @@ pub extern "C" fn rustc_lexer_class(
     }
 }
 
-/// Writes the number of a token's error, or 0 if it has none. The token is passed as its numbers and its text.
+/// Writes the number of a token's error in the edition of a year, or 0 if it has none. The token is passed as its
+/// numbers and its text.
 #[tactic(auto, using(crate::proofs::ErrorLemmas::same_error))]
 #[unsafe(no_mangle)]
-pub extern "C" fn rustc_lexer_token_error(text: &[u8], token: &CToken, number: &mut u32) -> u32
-    ensures error { Writes text.now (Unit {0}) 0
-        (spec.number_of (token_error (spec.kind_of token.now) text.now)) 0 number.new result }
-    ensures same { (it : Token) → token_numbers it ≡ token.now
-        → token_error (spec.kind_of token.now) text.now ≡ token_error it.kind text.now }
+pub extern "C" fn rustc_lexer_token_error(
+    text: &[u8],
+    token: &CToken,
+    edition: u32,
+    number: &mut u32,
+) -> u32
+    ensures error { Writes text.now (edition_of_year edition ≢ None) (refusal_number BadEdition)
+        (spec.error_in token.now text.now (edition_of_year edition)) 0 number.new result }
+    ensures same { (it : Token) (year : Edition) → token_numbers it ≡ token.now
+        → token_error (spec.kind_of token.now) text.now year ≡ token_error it.kind text.now year }
 {
-    match text_of(text) {
-        Ok(text) => done(number_of(token_error(kind_of(token), text)), number),
-        Err(refusal) => refuse(refusal, 0, number),
+    let text = match text_of(text) {
+        Ok(text) => text,
+        Err(refusal) => return refuse(refusal, 0, number),
+    };
+    match edition_of(edition) {
+        Some(edition) => done(
+            number_of(token_error(kind_of(token), text, edition)),
+            number,
+        ),
+        None => refuse(Refusal::BadEdition, 0, number),
     }
 }
 
-/// Writes the message of a token's error to the start of the buffer, or nothing if the token has no error. Writes the
-/// number of bytes into `written`. The token is passed as its numbers and its text.
+/// Writes the message of a token's error in the edition of a year to the start of the buffer, or nothing if the token
+/// has no error. Writes the number of bytes into `written`. The token is passed as its numbers and its text.
 ///
 /// If the buffer is too small, `written` is 0, and the contents of the buffer are unspecified.
 #[tactic(auto, using(crate::proofs::ErrorLemmas::same_error, crate::proofs::OutputLemmas::written_front, std::proofs::lemmas::Grind::common_steps))]
@@ -71,24 +84,28 @@ pub extern "C" fn rustc_lexer_token_error(text: &[u8], token: &CToken, number: &
 pub extern "C" fn rustc_lexer_token_error_message(
     text: &[u8],
     token: &CToken,
+    edition: u32,
     buffer: &mut [u8],
     written: &mut usize,
 ) -> u32
-    ensures status { spec.IsMessageStatus text.now result }
-    ensures message { result ≡ OK
-        → IsFront (spec.message_of (token_error (spec.kind_of token.now) text.now))
+    ensures status { spec.IsMessageStatus text.now edition result }
+    ensures message { result ≡ OK → (year : Edition) → edition_of_year edition ≡ Some year
+        → IsFront (spec.message_of (token_error (spec.kind_of token.now) text.now year))
         buffer.old buffer.new written.new }
     ensures refused { result ≢ OK → written.new ≡ 0 }
     ensures unchanged { result ≢ OK → result ≢ refusal_number SmallBuffer → buffer.new ≡ buffer.old }
-    ensures same { (it : Token) → token_numbers it ≡ token.now
-        → token_error (spec.kind_of token.now) text.now ≡ token_error it.kind text.now }
+    ensures same { (it : Token) (year : Edition) → token_numbers it ≡ token.now
+        → token_error (spec.kind_of token.now) text.now year ≡ token_error it.kind text.now year }
 {
     *written = 0;
     let text = match text_of(text) {
         Ok(text) => text,
         Err(refusal) => return refusal.number(),
     };
-    let error = token_error(kind_of(token), text);
+    let Some(edition) = edition_of(edition) else {
+        return Refusal::BadEdition.number();
+    };
+    let error = token_error(kind_of(token), text, edition);
     let mut output = Buffer::new(buffer);
     let Ok(()) = write_message(error, &mut output) else {
         return Refusal::SmallBuffer.number();

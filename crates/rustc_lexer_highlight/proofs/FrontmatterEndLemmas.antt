@@ -15,7 +15,8 @@ use Rattle.memchr.specs.Find.{IsLastByte, is_byte}
 use Rattle.rustc_lexer.specs.Classes.{AreAll, Chars, NextIsNot, NextNotIn, begins, is_among, is_horizontal_whitespace}
 use Rattle.rustc_lexer.specs.Classes.{is_id_start, is_info, is_inline, is_whitespace, next_is}
 use Rattle.rustc_lexer.specs.FrontmatterGrammar.{IsBodyBefore, IsLabelBefore, IsOpeningBefore, endings, fence}
-use Rattle.rustc_lexer.specs.{declared.token.TokenKind.{TokenKind, TheVariants.{Frontmatter}}, laws.Choice.{by_either}}
+use Rattle.rustc_lexer.specs.{declared.edition.{Edition.{Edition}}, laws.Choice.{by_either}}
+use Rattle.rustc_lexer.specs.declared.token.TokenKind.{TokenKind, TheVariants.{Frontmatter}}
 use Rattle.rustc_lexer.specs.laws.{Choice.{by_test}, Fences.{begins-dashes, begins-enough}}
 use Rattle.rustc_lexer.specs.laws.{LanguageFrontmatter.{fence-length, run-fence}, LanguageRuns.{among, other_than}}
 use Rattle.rustc_lexer.specs.laws.LanguageRuns.{run-stops, run_len-here, start-word_start, word_start-no_space}
@@ -415,18 +416,19 @@ label-past body next (the.named u c v w before start info info_stops after stop)
 
 -- ---- the error of the token
 
-opening-told : {n : ℕ} {bad_label : Bool} {opening body next : Chars} (text : List ℕ)
+opening-told : {n : ℕ} {bad_label : Bool} {opening body next : Chars} (text : List ℕ) (edition : Edition)
     → IsOpeningBefore (body ++ next) n bad_label opening
     → (told : Told n next body)
     → chars text ≡ opening ++ body → encode_utf8_all (opening ++ body) ≡ text
-    → kind_error (Frontmatter (next_is is_whitespace opening) bad_label) text
+    → kind_error (Frontmatter (next_is is_whitespace opening) bad_label) text edition
     ≡ (if next_is is_whitespace opening then Some WhitespaceBeforeFrontmatter else front_error
     (bad_label && not (begins (codes "\r\n") body)) told.end)
-opening-told text (the.opening n (c ∷ space) label spaces no_line many is stop) told reads whole =
+opening-told text edition (the.opening n (c ∷ space) label spaces no_line many is stop) told reads whole =
     rw (and_parts (is_whitespace c) (list_all is_whitespace space) spaces).0 refl
-opening-told text (the.opening zero [] label spaces no_line many is stop) told reads whole = absurd (omega arith)
-opening-told {body = body} {next = next} text (the.opening (suc n) [] label spaces no_line many is stop) told reads
-    whole =
+opening-told text edition (the.opening zero [] label spaces no_line many is stop) told reads whole =
+    absurd (omega arith)
+opening-told {body = body} {next = next} text edition (the.opening (suc n) [] label spaces no_line many is stop) told
+    reads whole =
     let front : Chars = fence (suc n) ++ label in
     let split : front ++ body ≡ fence (suc n) ++ (label ++ body) = append_assoc (fence (suc n)) label body in
     let stops = front-stops (is_among (codes "-")) (label ++ body) next
@@ -441,16 +443,17 @@ opening-told {body = body} {next = next} text (the.opening (suc n) [] label spac
     (inline-append (fence (suc n)) label (fence-all is_inline refl (suc n)) (label-inline is)) in
     rw (ends, name, label-past body next is) refl
 
-pub tells : (kind : TokenKind) (text : List ℕ) → IsUtf8 text → TellsFrontmatter kind text (token_error kind text)
-tells kind text utf8 n bad_label opening body next opens is_body whole kind_is =
+pub tells : (kind : TokenKind) (text : List ℕ) (edition : Edition) → IsUtf8 text
+    → TellsFrontmatter kind text (token_error kind text edition)
+tells kind text edition utf8 n bad_label opening body next opens is_body whole kind_is =
     let told = told-body n (many opens) is_body in
     let back = ap encode_utf8_all (sym whole) ∙ encodes-chars text utf8 in
     record {
       end = told.end;
       is = told.is;
-      told = ap (λ (k : TokenKind). token_error k text) kind_is
+      told = ap (λ (k : TokenKind). token_error k text edition) kind_is
           ∙ ap (λ (error : Option TokenError). option_or error (frontmatter_error text))
-          (opening-told text opens told whole back);
+          (opening-told text edition opens told whole back);
       exact = (λ e. open-is n (subst (IsEndError n next body) e told.is), told.free);
     }
   where

@@ -1,10 +1,8 @@
 -- The output for a whole text: its shebang line and its tokens, highlighted.
 use Rattle.std.specs.Prelude.{ℕ, List, [], ◌∷◌, ◌++◌, take, drop, Option, Some, None}
 use Rattle.rustc_lexer.specs.declared.edition.Edition.{Edition}
-use Rattle.rustc_lexer.specs.declared.edition.Edition.TheVariants.{E2015, E2018}
 use Rattle.rustc_lexer.specs.declared.token.Token.{Token}
 use Rattle.rustc_lexer.specs.declared.token.TokenKind.{TokenKind}
-use Rattle.rustc_lexer.specs.declared.token.TokenKind.TheVariants.{ForcedKeywordIdent}
 use Rattle.rustc_lexer.specs.Document.{document_tokens, byte_order_mark_len, tokens_start}
 use Rattle.rustc_lexer_highlight.specs.declared.class.Class.{Class}
 use Rattle.rustc_lexer_highlight.specs.declared.class.Class.TheVariants.{Comment, Plain}
@@ -28,17 +26,10 @@ parts_by (Some error) mode class text next = malformed_parts error class text ne
 parts_by None (Some mode) class text next = literal_parts mode text
 parts_by None None class text next = Own class text ∷ []
 
--- Returns the error of a token in an edition. Before 2021, `k#a` is an identifier, `#` and an identifier, and has no
--- error.
-abbrev pub error_in : Edition → TokenKind → List ℕ → Option TokenError
-error_in E2015 ForcedKeywordIdent text = None
-error_in E2018 ForcedKeywordIdent text = None
-error_in edition kind text = token_error kind text
-
 -- Returns the parts of a token in an edition, before the text `next`.
 abbrev pub token_parts : Edition → TokenKind → List ℕ → List ℕ → List Part
 token_parts edition kind text next =
-    parts_by (error_in edition kind text) (closed_mode kind) (class_of kind text edition) text next
+    parts_by (token_error kind text edition) (closed_mode kind) (class_of kind text edition) text next
 
 abbrev pub parts : Edition → List ℕ → List Token → List Part
 parts edition text [] = []

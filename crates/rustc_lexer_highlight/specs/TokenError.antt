@@ -3,6 +3,8 @@ use Rattle.std.specs.Prelude.{ℕ, ◌-◌, ◌==◌, Bool, true, false, ◌&&�
 use Rattle.std.specs.Prelude.{codes, decimal, drop, Option, Some, None, Result, Ok, Err}
 use Rattle.std.specs.Option.{option_or}
 use Rattle.std.specs.Str.{byte, chars}
+use Rattle.rustc_lexer.specs.declared.edition.Edition.{Edition}
+use Rattle.rustc_lexer.specs.declared.edition.Edition.TheVariants.{E2015, E2018}
 use Rattle.rustc_lexer.specs.declared.token.LiteralKind.{LiteralKind}
 use Rattle.rustc_lexer.specs.declared.token.LiteralKind.TheVariants.{Int, Float, Char, Byte, Str, ByteStr, CStr, RawStr}
 use Rattle.rustc_lexer.specs.declared.token.LiteralKind.TheVariants.{RawByteStr, RawCStr}
@@ -101,26 +103,28 @@ front_error has_more (Some error) = Some error
 front_error true None = Some InvalidInfostring
 front_error false None = None
 
--- Returns the error that the kind of a token implies. For frontmatters and raw strings, the text decides which error it
--- is.
-abbrev pub kind_error : TokenKind → List ℕ → Option TokenError
-kind_error (BlockComment doc_style false) text = Some UnterminatedBlockComment
-kind_error (Frontmatter true invalid_infostring) text = Some WhitespaceBeforeFrontmatter
-kind_error (Frontmatter false invalid_infostring) text =
+-- Returns the error that the kind of a token implies in an edition. For frontmatters and raw strings, the text decides
+-- which error it is. Before 2021, `k#a` is an identifier, `#` and an identifier, and has no error.
+abbrev pub kind_error : TokenKind → List ℕ → Edition → Option TokenError
+kind_error (BlockComment doc_style false) text edition = Some UnterminatedBlockComment
+kind_error (Frontmatter true invalid_infostring) text edition = Some WhitespaceBeforeFrontmatter
+kind_error (Frontmatter false invalid_infostring) text edition =
     front_error (invalid_infostring && not (has_crlf (chars text))) (end_error text)
-kind_error InvalidIdent text = Some InvalidName
-kind_error UnknownPrefixToken text = Some UnknownPrefix
-kind_error ForcedKeywordIdent text = Some UnknownPrefix
-kind_error UnknownPrefixLifetime text = Some UnknownLifetimePrefix
-kind_error GuardedStrPrefix text = Some GuardedString
-kind_error (Lifetime true) text = Some InvalidLifetime
-kind_error Unknown text = Some UnknownCharacter
-kind_error (Literal kind suffix_start) text = literal_error kind text
-kind_error kind text = None
+kind_error InvalidIdent text edition = Some InvalidName
+kind_error UnknownPrefixToken text edition = Some UnknownPrefix
+kind_error ForcedKeywordIdent text E2015 = None
+kind_error ForcedKeywordIdent text E2018 = None
+kind_error ForcedKeywordIdent text edition = Some UnknownPrefix
+kind_error UnknownPrefixLifetime text edition = Some UnknownLifetimePrefix
+kind_error GuardedStrPrefix text edition = Some GuardedString
+kind_error (Lifetime true) text edition = Some InvalidLifetime
+kind_error Unknown text edition = Some UnknownCharacter
+kind_error (Literal kind suffix_start) text edition = literal_error kind text
+kind_error kind text edition = None
 
--- Returns the error of a token. An error that its kind implies comes before an error in its text.
-abbrev pub token_error : TokenKind → List ℕ → Option TokenError
-token_error kind text = option_or (kind_error kind text) (text_error kind text)
+-- Returns the error of a token in an edition. An error that its kind implies comes before an error in its text.
+abbrev pub token_error : TokenKind → List ℕ → Edition → Option TokenError
+token_error kind text edition = option_or (kind_error kind text edition) (text_error kind text)
 
 -- Returns the number of an error in the C ABI. It never changes: a new error gets a new number.
 abbrev pub error_number : TokenError → ℕ

@@ -13,7 +13,7 @@ use crate::frontmatter::{end_error, has_crlf};
 use crate::text_error::{
     comment_error, frontmatter_text_error, literal_text_error, raw_name_error,
 };
-use rustc_lexer::{LiteralKind, RawStrError, TokenKind, starts_raw, validate_raw_str};
+use rustc_lexer::{Edition, LiteralKind, RawStrError, TokenKind, starts_raw, validate_raw_str};
 use rustc_literal_escaper::EscapeError;
 use std::error::Error;
 use std::fmt;
@@ -42,7 +42,7 @@ pub enum TokenError {
     ExtraAfterFrontmatterClose,
     /// An identifier contains an emoji.
     InvalidName,
-    /// An identifier directly before a quote or `#` is not a known prefix. This includes `k` in `k#a`.
+    /// An identifier directly before a quote or `#` is not a known prefix. This includes `k` in `k#a` since 2021.
     UnknownPrefix,
     /// A lifetime directly before `#` is not a known prefix.
     UnknownLifetimePrefix,
@@ -132,16 +132,16 @@ impl TokenError {
     }
 }
 
-/// Returns the error of a token with this kind and text, or one of its errors if it has two. A CRLF counts as a
-/// newline, and so does a carriage return at the end of a doc comment or a frontmatter.
+/// Returns the error of a token with this kind and text in an edition, or one of its errors if it has two. A CRLF
+/// counts as a newline, and so does a carriage return at the end of a doc comment or a frontmatter.
 ///
-/// This function does not know the edition. It returns `UnknownPrefix` for `k#a`, which is an identifier, `#` and an
-/// identifier in editions before 2021.
+/// Before 2021, `k#a` has no error: it is an identifier, `#` and an identifier. C strings are read as in later
+/// editions, although rustc reads the `c` or `cr` in `c"`, `cr"` and `cr#` as an identifier before 2021.
 #[tactic(auto, using(crate::proofs::FrontmatterEndLemmas::tells))]
-pub fn token_error(kind: TokenKind, text: &str) -> Option<TokenError>
+pub fn token_error(kind: TokenKind, text: &str, edition: Edition) -> Option<TokenError>
     requires fits { Fits text.now }
-    ensures error { result ≡ token_error kind text.now }
-    ensures frontmatter { TellsFrontmatter kind text.now (token_error kind text.now) }
+    ensures error { result ≡ token_error kind text.now edition }
+    ensures frontmatter { TellsFrontmatter kind text.now (token_error kind text.now edition) }
 {
     // Most tokens match the last arm. The calls are not inlined, so that this arm needs no stack frame.
     match kind {
@@ -164,7 +164,11 @@ pub fn token_error(kind: TokenKind, text: &str) -> Option<TokenError>
             literal_error(kind, suffix_start as usize, text)
         }
         TokenKind::InvalidIdent => Some(TokenError::InvalidName),
-        TokenKind::UnknownPrefix | TokenKind::ForcedKeywordIdent => Some(TokenError::UnknownPrefix),
+        TokenKind::UnknownPrefix => Some(TokenError::UnknownPrefix),
+        TokenKind::ForcedKeywordIdent => match edition {
+            Edition::E2015 | Edition::E2018 => None,
+            _ => Some(TokenError::UnknownPrefix),
+        },
         TokenKind::UnknownPrefixLifetime => Some(TokenError::UnknownLifetimePrefix),
         TokenKind::GuardedStrPrefix => Some(TokenError::GuardedString),
         TokenKind::Lifetime {

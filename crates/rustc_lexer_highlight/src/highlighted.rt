@@ -5,16 +5,16 @@ ghost use Rattle.rustc_lexer.specs.Classes.{Fits};
 ghost use Rattle.rustc_lexer.specs.LanguageText.{part};
 ghost use Rattle.rustc_lexer.specs.Tokens.{tokens_of};
 ghost use Rattle.rustc_lexer_highlight.specs.Escape.{unescaped, untagged};
-ghost use Rattle.rustc_lexer_highlight.specs.Highlighted.{document_parts, error_in, highlighted, marked_tokens};
+ghost use Rattle.rustc_lexer_highlight.specs.Highlighted.{document_parts, highlighted, marked_tokens};
 ghost use Rattle.rustc_lexer_highlight.specs.Highlighted.{start_parts, token_parts};
 ghost use Rattle.rustc_lexer_highlight.specs.Part.{with_markup, without_markup};
 
 use crate::class::{Class, class_of};
-use crate::errors::{TokenError, token_error};
+use crate::errors::token_error;
 use crate::format::Format;
 use crate::literal::{mode_of, write_literal};
 use crate::part::{TokenInText, write_in_class, write_malformed};
-use rustc_lexer::{Edition, TokenKind, byte_order_mark_len, tokenize_document, tokenize_in};
+use rustc_lexer::{Edition, byte_order_mark_len, tokenize_document, tokenize_in};
 use std::fmt;
 
 /// Writes a document with its tokens highlighted, and with a message at each token that has an error.
@@ -114,27 +114,11 @@ fn write_token<W: fmt::Write>(
 {
     let TokenInText { kind, text, .. } = token;
     let class = class_of(kind, text, edition);
-    if let Some(error) = error_in(kind, text, edition) {
+    if let Some(error) = token_error(kind, text, edition) {
         return write_malformed(format, error, class, token, output);
     }
     match mode_of(kind) {
         None => write_in_class(format, class, text, output),
         Some(mode) => write_literal(format, mode, text, output),
-    }
-}
-
-/// Returns the error of a token in an edition, or `None` if it has none. Before 2021, `k#a` is an identifier, `#` and
-/// an identifier, without an error.
-#[inline]
-fn error_in(kind: TokenKind, text: &str, edition: Edition) -> Option<TokenError>
-    requires fits { Fits text.now }
-    ensures { result ≡ error_in edition kind text.now }
-{
-    match token_error(kind, text) {
-        Some(error) => match (kind, edition) {
-            (TokenKind::ForcedKeywordIdent, Edition::E2015 | Edition::E2018) => None,
-            _ => Some(error),
-        },
-        None => None,
     }
 }

@@ -133,9 +133,9 @@ calls! {
     }
     errors {
         fn rustc_lexer_class(text: &[u8], token: &CToken, edition: u32, number: &mut u32) -> u32;
-        fn rustc_lexer_token_error(text: &[u8], token: &CToken, number: &mut u32) -> u32;
+        fn rustc_lexer_token_error(text: &[u8], token: &CToken, edition: u32, number: &mut u32) -> u32;
         fn rustc_lexer_token_error_message(
-            text: &[u8], token: &CToken, buffer: &mut [u8], written: &mut usize
+            text: &[u8], token: &CToken, edition: u32, buffer: &mut [u8], written: &mut usize
         ) -> u32;
     }
     highlighted {

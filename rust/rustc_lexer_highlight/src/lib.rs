@@ -68,10 +68,13 @@ fn fitting(text: &str) -> &str {
     text
 }
 
-/// Returns the error of a token with this kind and text, or `None` if it has none.
+/// Returns the error of a token with this kind and text in an edition, or `None` if it has none.
 ///
 /// If a token has two errors, one of them is returned. The kind alone does not show whether a token is valid: for
 /// example, an error at the end of a frontmatter is found only in its text.
+///
+/// Before 2021, `k#a` has no error: it is an identifier, `#` and an identifier. C strings are read as in later
+/// editions, although rustc reads the `c` or `cr` in `c"`, `cr"` and `cr#` as an identifier before 2021.
 ///
 /// # Examples
 ///
@@ -80,12 +83,17 @@ fn fitting(text: &str) -> &str {
 ///
 /// let text = "---\nname\n";
 /// let token = rustc_lexer::tokenize_document(text, Edition::E2024).next().unwrap();
-/// let error = token_error(token.kind, text).unwrap();
+/// let error = token_error(token.kind, text, Edition::E2024).unwrap();
 /// assert_eq!(error, TokenError::UnclosedFrontmatter);
 /// assert_eq!(
 ///     error.to_string(),
 ///     "unclosed frontmatter: missing closing fence"
 /// );
+///
+/// use rustc_lexer::TokenKind;
+/// let kind = TokenKind::ForcedKeywordIdent;
+/// assert_eq!(token_error(kind, "k#a", Edition::E2018), None);
+/// assert_eq!(token_error(kind, "k#a", Edition::E2021), Some(TokenError::UnknownPrefix));
 /// ```
 ///
 /// # Panics
@@ -93,8 +101,8 @@ fn fitting(text: &str) -> &str {
 /// Panics if the text has more than `u32::MAX` bytes.
 #[must_use]
 #[track_caller]
-pub fn token_error(kind: TokenKind, text: &str) -> Option<TokenError> {
-    generated::token_error(kind, fitting(text))
+pub fn token_error(kind: TokenKind, text: &str, edition: Edition) -> Option<TokenError> {
+    generated::token_error(kind, fitting(text), edition)
 }
 
 /// Writes a document in an edition with its tokens highlighted, and with a message at each malformed token.

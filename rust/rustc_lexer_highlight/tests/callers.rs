@@ -14,7 +14,7 @@ fn texts_that_are_too_long() {
     let (html, newest) = (Format::Html, Edition::NEWEST);
     let long = too_long();
     let mut output = String::new();
-    panics_here!(token_error(TokenKind::Ident, &long));
+    panics_here!(token_error(TokenKind::Ident, &long, Edition::E2024));
     panics_here!(write_highlighted(html, newest, &long, &mut output));
     for count in [0, 1] {
         panics_here!(write_first_tokens(html, newest, count, &long, &mut output));
@@ -28,7 +28,7 @@ fn messages() {
     let long = too_long();
     let mut output = String::new();
     let messages = [
-        panic_message(|| token_error(TokenKind::Unknown, &long)),
+        panic_message(|| token_error(TokenKind::Unknown, &long, Edition::E2024)),
         panic_message(|| write_highlighted(html, newest, &long, &mut output)),
         panic_message(|| write_first_tokens(html, newest, 0, &long, &mut output)),
         panic_message(|| write_first_tokens(html, newest, 1, &long, &mut output)),

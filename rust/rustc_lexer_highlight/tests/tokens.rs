@@ -209,7 +209,7 @@ fn errors_of_frontmatters() {
                 matches!(token.kind, TokenKind::Frontmatter { .. }),
                 "{text}"
             );
-            let found = token_error(token.kind, &text[..token.len as usize]);
+            let found = token_error(token.kind, &text[..token.len as usize], edition);
             assert_eq!(found, wanted, "{text}");
         }
     }
@@ -221,7 +221,7 @@ fn errors_with_details() {
     let kind = LiteralKind::RawStr { n_hashes: None };
     let suffix_start = 0;
     let token = TokenKind::Literal { kind, suffix_start };
-    let error = |text| token_error(token, text);
+    let error = |text| token_error(token, text, Edition::E2024);
     assert_eq!(
         error("r##\"abc\"#"),
         Some(TokenError::TooFewHashes {
@@ -235,12 +235,28 @@ fn errors_with_details() {
         Some(TokenError::UnterminatedRawString { expected: 1 })
     );
     assert_eq!(
-        token_error(TokenKind::Unknown, "\u{ac}"),
+        token_error(TokenKind::Unknown, "\u{ac}", Edition::E2024),
         Some(TokenError::UnknownCharacter)
     );
-    assert_eq!(
-        token_error(TokenKind::ForcedKeywordIdent, "k#a"),
-        Some(TokenError::UnknownPrefix)
-    );
-    assert_eq!(token_error(TokenKind::Ident, "a"), None);
+    assert_eq!(token_error(TokenKind::Ident, "a", Edition::E2024), None);
+}
+
+/// Only `k#a` has an error that depends on the edition. `z"` and `#"` are other tokens in the earlier editions.
+#[test]
+fn errors_by_edition() {
+    use Edition::{E2015, E2018, E2021, E2024};
+    let forced = TokenKind::ForcedKeywordIdent;
+    for (edition, wanted) in [
+        (E2015, None),
+        (E2018, None),
+        (E2021, Some(TokenError::UnknownPrefix)),
+        (E2024, Some(TokenError::UnknownPrefix)),
+    ] {
+        let found = token_error(forced, "k#a", edition);
+        assert_eq!(found, wanted, "k#a in {edition:?}");
+    }
+    for &edition in Edition::ALL {
+        let found = token_error(TokenKind::UnknownPrefix, "z", edition);
+        assert_eq!(found, Some(TokenError::UnknownPrefix), "z in {edition:?}");
+    }
 }

@@ -24,21 +24,30 @@ pub fn rustc_lexer_class(text: &[u8], token: &CToken, edition: u32, number: &mut
     }
 }
 
-/// Writes the number of a token's error, or 0 if it has none. The token is passed as its numbers and its text.
-pub fn rustc_lexer_token_error(text: &[u8], token: &CToken, number: &mut u32) -> u32 {
-    match text_of(text) {
-        Ok(text) => done(number_of(token_error(kind_of(token), text)), number),
-        Err(refusal) => refuse(refusal, 0, number),
+/// Writes the number of a token's error in the edition of a year, or 0 if it has none. The token is passed as its
+/// numbers and its text.
+pub fn rustc_lexer_token_error(text: &[u8], token: &CToken, edition: u32, number: &mut u32) -> u32 {
+    let text = match text_of(text) {
+        Ok(text) => text,
+        Err(refusal) => return refuse(refusal, 0, number),
+    };
+    match edition_of(edition) {
+        Some(edition) => done(
+            number_of(token_error(kind_of(token), text, edition)),
+            number,
+        ),
+        None => refuse(Refusal::BadEdition, 0, number),
     }
 }
 
-/// Writes the message of a token's error to the start of the buffer, or nothing if the token has no error. Writes the
-/// number of bytes into `written`. The token is passed as its numbers and its text.
+/// Writes the message of a token's error in the edition of a year to the start of the buffer, or nothing if the token
+/// has no error. Writes the number of bytes into `written`. The token is passed as its numbers and its text.
 ///
 /// If the buffer is too small, `written` is 0, and the contents of the buffer are unspecified.
 pub fn rustc_lexer_token_error_message(
     text: &[u8],
     token: &CToken,
+    edition: u32,
     buffer: &mut [u8],
     written: &mut usize,
 ) -> u32 {
@@ -47,7 +56,10 @@ pub fn rustc_lexer_token_error_message(
         Ok(text) => text,
         Err(refusal) => return refusal.number(),
     };
-    let error = token_error(kind_of(token), text);
+    let Some(edition) = edition_of(edition) else {
+        return Refusal::BadEdition.number();
+    };
+    let error = token_error(kind_of(token), text, edition);
     let mut output = Buffer::new(buffer);
     let Ok(()) = write_message(error, &mut output) else {
         return Refusal::SmallBuffer.number();

@@ -7,7 +7,9 @@ use crate::generated::text_error::{
 };
 use core::error::Error;
 use core::fmt;
-use rustc_lexer::generated::{LiteralKind, RawStrError, TokenKind, starts_raw, validate_raw_str};
+use rustc_lexer::generated::{
+    Edition, LiteralKind, RawStrError, TokenKind, starts_raw, validate_raw_str,
+};
 use rustc_literal_escaper::generated::EscapeError;
 
 /// An error in a token. Its `Display` writes a message.
@@ -35,7 +37,7 @@ pub enum TokenError {
     ExtraAfterFrontmatterClose,
     /// An identifier contains an emoji.
     InvalidName,
-    /// An identifier directly before a quote or `#` is not a known prefix. This includes `k` in `k#a`.
+    /// An identifier directly before a quote or `#` is not a known prefix. This includes `k` in `k#a` since 2021.
     UnknownPrefix,
     /// A lifetime directly before `#` is not a known prefix.
     UnknownLifetimePrefix,
@@ -124,12 +126,12 @@ impl TokenError {
     }
 }
 
-/// Returns the error of a token with this kind and text, or one of its errors if it has two. A CRLF counts as a
-/// newline, and so does a carriage return at the end of a doc comment or a frontmatter.
+/// Returns the error of a token with this kind and text in an edition, or one of its errors if it has two. A CRLF
+/// counts as a newline, and so does a carriage return at the end of a doc comment or a frontmatter.
 ///
-/// This function does not know the edition. It returns `UnknownPrefix` for `k#a`, which is an identifier, `#` and an
-/// identifier in editions before 2021.
-pub fn token_error(kind: TokenKind, text: &str) -> Option<TokenError> {
+/// Before 2021, `k#a` has no error: it is an identifier, `#` and an identifier. C strings are read as in later
+/// editions, although rustc reads the `c` or `cr` in `c"`, `cr"` and `cr#` as an identifier before 2021.
+pub fn token_error(kind: TokenKind, text: &str, edition: Edition) -> Option<TokenError> {
     // Most tokens match the last arm. The calls are not inlined, so that this arm needs no stack frame.
     match kind {
         TokenKind::LineComment { doc_style } => comment_error(doc_style, text),
@@ -149,7 +151,11 @@ pub fn token_error(kind: TokenKind, text: &str) -> Option<TokenError> {
             literal_error(kind, suffix_start as usize, text)
         }
         TokenKind::InvalidIdent => Some(TokenError::InvalidName),
-        TokenKind::UnknownPrefix | TokenKind::ForcedKeywordIdent => Some(TokenError::UnknownPrefix),
+        TokenKind::UnknownPrefix => Some(TokenError::UnknownPrefix),
+        TokenKind::ForcedKeywordIdent => match edition {
+            Edition::E2015 | Edition::E2018 => None,
+            _ => Some(TokenError::UnknownPrefix),
+        },
         TokenKind::UnknownPrefixLifetime => Some(TokenError::UnknownLifetimePrefix),
         TokenKind::GuardedStrPrefix => Some(TokenError::GuardedString),
         TokenKind::Lifetime {

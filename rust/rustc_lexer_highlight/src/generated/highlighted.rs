@@ -2,14 +2,12 @@
 //! Writes a text with its shebang line and its tokens highlighted, for a terminal or for the inside of an HTML page.
 
 use crate::generated::class::{Class, class_of};
-use crate::generated::errors::{TokenError, token_error};
+use crate::generated::errors::token_error;
 use crate::generated::format::Format;
 use crate::generated::literal::{mode_of, write_literal};
 use crate::generated::part::{TokenInText, write_in_class, write_malformed};
 use core::fmt;
-use rustc_lexer::generated::{
-    Edition, TokenKind, byte_order_mark_len, tokenize_document, tokenize_in,
-};
+use rustc_lexer::generated::{Edition, byte_order_mark_len, tokenize_document, tokenize_in};
 
 /// Writes a document with its tokens highlighted, and with a message at each token that has an error.
 ///
@@ -87,24 +85,11 @@ fn write_token<W: fmt::Write>(
 ) -> fmt::Result {
     let TokenInText { kind, text, .. } = token;
     let class = class_of(kind, text, edition);
-    if let Some(error) = error_in(kind, text, edition) {
+    if let Some(error) = token_error(kind, text, edition) {
         return write_malformed(format, error, class, token, output);
     }
     match mode_of(kind) {
         None => write_in_class(format, class, text, output),
         Some(mode) => write_literal(format, mode, text, output),
-    }
-}
-
-/// Returns the error of a token in an edition, or `None` if it has none. Before 2021, `k#a` is an identifier, `#` and
-/// an identifier, without an error.
-#[inline]
-fn error_in(kind: TokenKind, text: &str, edition: Edition) -> Option<TokenError> {
-    match token_error(kind, text) {
-        Some(error) => match (kind, edition) {
-            (TokenKind::ForcedKeywordIdent, Edition::E2015 | Edition::E2018) => None,
-            _ => Some(error),
-        },
-        None => None,
     }
 }
