@@ -40,24 +40,6 @@ use Rattle.rustc_lexer_highlight.specs.declared.errors.TokenError.TheVariants.{B
 use Rattle.rustc_lexer_highlight.specs.declared.errors.TokenError.TheVariants.{BareCarriageReturnInFrontmatter}
 use Rattle.rustc_lexer_highlight.specs.declared.errors.TokenError.TheVariants.{TooManyDashes}
 use Rattle.rustc_lexer_highlight.specs.declared.errors.TokenError.TheVariants.{TextDirectionCodepoint}
-use Rattle.rustc_lexer_highlight.specs.declared.errors.TheConstants.{UNTERMINATED_BLOCK_COMMENT}
-use Rattle.rustc_lexer_highlight.specs.declared.errors.TheConstants.{WHITESPACE_BEFORE_FRONTMATTER}
-use Rattle.rustc_lexer_highlight.specs.declared.errors.TheConstants.{INVALID_INFOSTRING, UNCLOSED_FRONTMATTER}
-use Rattle.rustc_lexer_highlight.specs.declared.errors.TheConstants.{WHITESPACE_BEFORE_FRONTMATTER_CLOSE}
-use Rattle.rustc_lexer_highlight.specs.declared.errors.TheConstants.{EXTRA_AFTER_FRONTMATTER_CLOSE}
-use Rattle.rustc_lexer_highlight.specs.declared.errors.TheConstants.{INVALID_NAME, UNKNOWN_PREFIX}
-use Rattle.rustc_lexer_highlight.specs.declared.errors.TheConstants.{UNKNOWN_LIFETIME_PREFIX}
-use Rattle.rustc_lexer_highlight.specs.declared.errors.TheConstants.{GUARDED_STRING, INVALID_LIFETIME}
-use Rattle.rustc_lexer_highlight.specs.declared.errors.TheConstants.{UNKNOWN_CHARACTER, EMPTY_NUMBER}
-use Rattle.rustc_lexer_highlight.specs.declared.errors.TheConstants.{EMPTY_EXPONENT, UNTERMINATED_CHAR}
-use Rattle.rustc_lexer_highlight.specs.declared.errors.TheConstants.{UNTERMINATED_BYTE}
-use Rattle.rustc_lexer_highlight.specs.declared.errors.TheConstants.{UNTERMINATED_STRING, INVALID_RAW_STARTER}
-use Rattle.rustc_lexer_highlight.specs.declared.errors.TheConstants.{OPEN_PLAIN_RAW_STRING}
-use Rattle.rustc_lexer_highlight.specs.declared.errors.TheConstants.{INVALID_DIGIT, FLOAT_OF_BASE, RAW_KEYWORD}
-use Rattle.rustc_lexer_highlight.specs.declared.errors.TheConstants.{UNDERSCORE_SUFFIX}
-use Rattle.rustc_lexer_highlight.specs.declared.errors.TheConstants.{BARE_CARRIAGE_RETURN_IN_DOC_COMMENT}
-use Rattle.rustc_lexer_highlight.specs.declared.errors.TheConstants.{BARE_CARRIAGE_RETURN_IN_FRONTMATTER}
-use Rattle.rustc_lexer_highlight.specs.declared.errors.TheConstants.{TEXT_DIRECTION_CODEPOINT}
 use Rattle.rustc_lexer_highlight.specs.Frontmatter.{end_error, has_crlf}
 use Rattle.rustc_lexer_highlight.specs.TextError.{text_error}
 use Rattle.rustc_literal_escaper.specs.Numbers.{error_message}
@@ -162,36 +144,36 @@ error_number TextDirectionCodepoint = 31
 
 -- Returns the message of an error.
 unfoldable pub message : TokenError → List ℕ
-message UnterminatedBlockComment = UNTERMINATED_BLOCK_COMMENT.now
-message WhitespaceBeforeFrontmatter = WHITESPACE_BEFORE_FRONTMATTER.now
-message InvalidInfostring = INVALID_INFOSTRING.now
-message UnclosedFrontmatter = UNCLOSED_FRONTMATTER.now
-message WhitespaceBeforeFrontmatterClose = WHITESPACE_BEFORE_FRONTMATTER_CLOSE.now
-message ExtraAfterFrontmatterClose = EXTRA_AFTER_FRONTMATTER_CLOSE.now
-message InvalidName = INVALID_NAME.now
-message UnknownPrefix = UNKNOWN_PREFIX.now
-message UnknownLifetimePrefix = UNKNOWN_LIFETIME_PREFIX.now
-message GuardedString = GUARDED_STRING.now
-message InvalidLifetime = INVALID_LIFETIME.now
-message UnknownCharacter = UNKNOWN_CHARACTER.now
-message EmptyNumber = EMPTY_NUMBER.now
-message EmptyExponent = EMPTY_EXPONENT.now
-message UnterminatedChar = UNTERMINATED_CHAR.now
-message UnterminatedByte = UNTERMINATED_BYTE.now
-message UnterminatedString = UNTERMINATED_STRING.now
-message InvalidRawStarter = INVALID_RAW_STARTER.now
-message InvalidDigit = INVALID_DIGIT.now
-message FloatOfBase = FLOAT_OF_BASE.now
-message RawKeyword = RAW_KEYWORD.now
-message UnderscoreSuffix = UNDERSCORE_SUFFIX.now
-message BareCarriageReturnInDocComment = BARE_CARRIAGE_RETURN_IN_DOC_COMMENT.now
-message BareCarriageReturnInFrontmatter = BARE_CARRIAGE_RETURN_IN_FRONTMATTER.now
-message TextDirectionCodepoint = TEXT_DIRECTION_CODEPOINT.now
+message UnterminatedBlockComment = codes "unterminated block comment"
+message WhitespaceBeforeFrontmatter = codes "whitespace before the opening fence of a frontmatter"
+message InvalidInfostring = codes "invalid infostring: expected at most one name after the opening fence"
+message UnclosedFrontmatter = codes "unclosed frontmatter: missing closing fence"
+message WhitespaceBeforeFrontmatterClose = codes "whitespace before the closing fence of a frontmatter"
+message ExtraAfterFrontmatterClose = codes "unexpected text after the closing fence of a frontmatter"
+message InvalidName = codes "invalid identifier: contains an emoji"
+message UnknownPrefix = codes "unknown prefix before a quote or `#`"
+message UnknownLifetimePrefix = codes "unknown lifetime prefix before `#`"
+message GuardedString = codes "reserved syntax: guarded string"
+message InvalidLifetime = codes "invalid lifetime: starts with a digit or contains an emoji"
+message UnknownCharacter = codes "unexpected character: no token starts with it"
+message EmptyNumber = codes "number has no digits"
+message EmptyExponent = codes "exponent has no digits"
+message UnterminatedChar = codes "unterminated character literal: missing closing quote"
+message UnterminatedByte = codes "unterminated byte literal: missing closing quote"
+message UnterminatedString = codes "unterminated string: missing closing quote"
+message InvalidRawStarter = codes "invalid raw string: missing opening quote"
+message InvalidDigit = codes "invalid digit in a binary or octal number"
+message FloatOfBase = codes "invalid float: only a decimal number can have a point or an exponent"
+message RawKeyword = codes "invalid raw identifier or lifetime: this name cannot be raw"
+message UnderscoreSuffix = codes "invalid literal suffix `_`"
+message BareCarriageReturnInDocComment = codes "bare CR in a doc comment: a CR must be part of a CRLF"
+message BareCarriageReturnInFrontmatter = codes "bare CR in a frontmatter: a CR must be part of a CRLF"
+message TextDirectionCodepoint = codes "bidirectional control character: code may be displayed in a different order"
 message (FrontmatterCloseMismatch opening closing) =
     codes "frontmatter opens with "
     ++ (decimal opening ++ (codes " dashes but closes with " ++ decimal closing))
 message (UnterminatedRawString expected) =
-    if nat_eq expected 0 then OPEN_PLAIN_RAW_STRING.now
+    if nat_eq expected 0 then codes "unterminated raw string: missing closing quote"
     else codes "unterminated raw string: expected a closing quote and "
     ++ (decimal expected ++ codes " `#`")
 message (TooFewHashes expected found end) =

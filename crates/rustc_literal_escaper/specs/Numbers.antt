@@ -1,5 +1,5 @@
 -- The numbers of errors, for the C ABI and for tables, and their messages.
-use Rattle.std.specs.Prelude.{ℕ, ◌-◌, List, [], get_or, map}
+use Rattle.std.specs.Prelude.{ℕ, List, codes}
 use Rattle.rustc_literal_escaper.specs.declared.error.EscapeError.{EscapeError}
 use Rattle.rustc_literal_escaper.specs.declared.error.EscapeError.TheVariants.{ZeroChars, MoreThanOneChar, LoneSlash}
 use Rattle.rustc_literal_escaper.specs.declared.error.EscapeError.TheVariants.{InvalidEscape, BareCarriageReturn}
@@ -18,7 +18,6 @@ use Rattle.rustc_literal_escaper.specs.declared.error.EscapeError.TheVariants.{O
 use Rattle.rustc_literal_escaper.specs.declared.error.EscapeError.TheVariants.{UnicodeEscapeInByte, NonAsciiCharInByte}
 use Rattle.rustc_literal_escaper.specs.declared.error.EscapeError.TheVariants.{NulInCStr, UnskippedWhitespaceWarning}
 use Rattle.rustc_literal_escaper.specs.declared.error.EscapeError.TheVariants.{MultipleSkippedLinesWarning}
-use Rattle.rustc_literal_escaper.specs.declared.error.TheConstants.{ERRORS}
 
 -- Returns the number of an error. Numbers start at 1 and never change: a new error gets a new number.
 abbrev pub error_number : EscapeError → ℕ
@@ -48,4 +47,28 @@ error_number MultipleSkippedLinesWarning = 23
 
 -- Returns the message of an error.
 abbrev pub error_message : EscapeError → List ℕ
-error_message error = get_or (map (λ words. words.now) ERRORS) (error_number error - 1) []
+error_message ZeroChars = codes "empty literal: expected one character"
+error_message MoreThanOneChar = codes "too many characters: expected one between single quotes"
+error_message LoneSlash = codes "incomplete escape: missing character after the backslash"
+error_message InvalidEscape = codes "unknown escape: write a backslash as `\\\\`"
+error_message BareCarriageReturn = codes "bare CR in a literal: write it as `\\r`"
+error_message BareCarriageReturnInRawString = codes "bare CR in a raw string"
+error_message EscapeOnlyChar = codes "unescaped character: write it as an escape"
+error_message TooShortHexEscape = codes "incomplete escape: `\\x` needs two hexadecimal digits"
+error_message InvalidCharInHexEscape = codes "invalid character in an escape: `\\x` needs two hexadecimal digits"
+error_message OutOfRangeHexEscape = codes "escape out of range: the maximum is `\\x7f`"
+error_message NoBraceInUnicodeEscape = codes "invalid escape: expected `{` after `\\u`"
+error_message InvalidCharInUnicodeEscape =
+    codes "invalid character in an escape: expected a hexadecimal digit, `_` or `}`"
+error_message EmptyUnicodeEscape = codes "empty escape: `\\u` needs one to six hexadecimal digits"
+error_message UnclosedUnicodeEscape = codes "incomplete escape: missing `}`"
+error_message LeadingUnderscoreUnicodeEscape = codes "leading `_` in an escape: expected a hexadecimal digit"
+error_message OverlongUnicodeEscape = codes "too many digits in an escape: `\\u` allows at most six"
+error_message LoneSurrogateUnicodeEscape = codes "invalid code point: surrogates are not characters"
+error_message OutOfRangeUnicodeEscape = codes "escape out of range: the maximum is `\\u{10ffff}`"
+error_message UnicodeEscapeInByte = codes "`\\u` in a byte or byte string: use `\\x`"
+error_message NonAsciiCharInByte = codes "non-ASCII character in a byte or byte string"
+error_message NulInCStr = codes "NUL in a C string: it would end the string"
+error_message UnskippedWhitespaceWarning =
+    codes "unskipped whitespace: an escaped newline skips only spaces, tabs and line endings"
+error_message MultipleSkippedLinesWarning = codes "skipped blank line: an escaped newline skips it too"

@@ -86,39 +86,51 @@ impl EscapeError {
     }
 }
 
-/// The message of each error, in the order of `EscapeError`.
-const ERRORS: [&str; 23] = [
-    "empty literal: expected one character",
-    "too many characters: expected one between single quotes",
-    "incomplete escape: missing character after the backslash",
-    "unknown escape: write a backslash as `\\\\`",
-    "bare CR in a literal: write it as `\\r`",
-    "bare CR in a raw string",
-    "unescaped character: write it as an escape",
-    "incomplete escape: `\\x` needs two hexadecimal digits",
-    "invalid character in an escape: `\\x` needs two hexadecimal digits",
-    "escape out of range: the maximum is `\\x7f`",
-    "invalid escape: expected `{` after `\\u`",
-    "invalid character in an escape: expected a hexadecimal digit, `_` or `}`",
-    "empty escape: `\\u` needs one to six hexadecimal digits",
-    "incomplete escape: missing `}`",
-    "leading `_` in an escape: expected a hexadecimal digit",
-    "too many digits in an escape: `\\u` allows at most six",
-    "invalid code point: surrogates are not characters",
-    "escape out of range: the maximum is `\\u{10ffff}`",
-    "`\\u` in a byte or byte string: use `\\x`",
-    "non-ASCII character in a byte or byte string",
-    "NUL in a C string: it would end the string",
-    "unskipped whitespace: an escaped newline skips only spaces, tabs and line endings",
-    "skipped blank line: an escaped newline skips it too",
-];
-
 impl fmt::Display for EscapeError {
     ghost output = { λ error. Some (error_message error) };
 
     fn fmt<W: fmt::Write>(&self, f: &mut fmt::Formatter<W>) -> fmt::Result {
-        f.write_str(ERRORS[*self as usize])
+        f.write_str(message_of(*self))
     }
 }
 
 impl Error for EscapeError {}
+
+/// Returns the message of an error.
+fn message_of(error: EscapeError) -> &'static str
+    ensures { result.now ≡ error_message error }
+{
+    match error {
+        EscapeError::ZeroChars => "empty literal: expected one character",
+        EscapeError::MoreThanOneChar => "too many characters: expected one between single quotes",
+        EscapeError::LoneSlash => "incomplete escape: missing character after the backslash",
+        EscapeError::InvalidEscape => "unknown escape: write a backslash as `\\\\`",
+        EscapeError::BareCarriageReturn => "bare CR in a literal: write it as `\\r`",
+        EscapeError::BareCarriageReturnInRawString => "bare CR in a raw string",
+        EscapeError::EscapeOnlyChar => "unescaped character: write it as an escape",
+        EscapeError::TooShortHexEscape => "incomplete escape: `\\x` needs two hexadecimal digits",
+        EscapeError::InvalidCharInHexEscape =>
+            "invalid character in an escape: `\\x` needs two hexadecimal digits",
+        EscapeError::OutOfRangeHexEscape => "escape out of range: the maximum is `\\x7f`",
+        EscapeError::NoBraceInUnicodeEscape => "invalid escape: expected `{` after `\\u`",
+        EscapeError::InvalidCharInUnicodeEscape =>
+            "invalid character in an escape: expected a hexadecimal digit, `_` or `}`",
+        EscapeError::EmptyUnicodeEscape =>
+            "empty escape: `\\u` needs one to six hexadecimal digits",
+        EscapeError::UnclosedUnicodeEscape => "incomplete escape: missing `}`",
+        EscapeError::LeadingUnderscoreUnicodeEscape =>
+            "leading `_` in an escape: expected a hexadecimal digit",
+        EscapeError::OverlongUnicodeEscape =>
+            "too many digits in an escape: `\\u` allows at most six",
+        EscapeError::LoneSurrogateUnicodeEscape =>
+            "invalid code point: surrogates are not characters",
+        EscapeError::OutOfRangeUnicodeEscape => "escape out of range: the maximum is `\\u{10ffff}`",
+        EscapeError::UnicodeEscapeInByte => "`\\u` in a byte or byte string: use `\\x`",
+        EscapeError::NonAsciiCharInByte => "non-ASCII character in a byte or byte string",
+        EscapeError::NulInCStr => "NUL in a C string: it would end the string",
+        EscapeError::UnskippedWhitespaceWarning =>
+            "unskipped whitespace: an escaped newline skips only spaces, tabs and line endings",
+        EscapeError::MultipleSkippedLinesWarning =>
+            "skipped blank line: an escaped newline skips it too",
+    }
+}

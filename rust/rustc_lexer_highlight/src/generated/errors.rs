@@ -234,101 +234,69 @@ fn raw_error(text: &str, prefix_len: u32) -> Option<TokenError> {
     }
 }
 
-const UNTERMINATED_BLOCK_COMMENT: &str = "unterminated block comment";
-
-const WHITESPACE_BEFORE_FRONTMATTER: &str = "whitespace before the opening fence of a frontmatter";
-
-const INVALID_INFOSTRING: &str =
-    "invalid infostring: expected at most one name after the opening fence";
-
-const UNCLOSED_FRONTMATTER: &str = "unclosed frontmatter: missing closing fence";
-
-const WHITESPACE_BEFORE_FRONTMATTER_CLOSE: &str =
-    "whitespace before the closing fence of a frontmatter";
-
-const EXTRA_AFTER_FRONTMATTER_CLOSE: &str =
-    "unexpected text after the closing fence of a frontmatter";
-
-const INVALID_NAME: &str = "invalid identifier: contains an emoji";
-
-const UNKNOWN_PREFIX: &str = "unknown prefix before a quote or `#`";
-
-const UNKNOWN_LIFETIME_PREFIX: &str = "unknown lifetime prefix before `#`";
-
-const GUARDED_STRING: &str = "reserved syntax: guarded string";
-
-const INVALID_LIFETIME: &str = "invalid lifetime: starts with a digit or contains an emoji";
-
-const UNKNOWN_CHARACTER: &str = "unexpected character: no token starts with it";
-
-const EMPTY_NUMBER: &str = "number has no digits";
-
-const EMPTY_EXPONENT: &str = "exponent has no digits";
-
-const UNTERMINATED_CHAR: &str = "unterminated character literal: missing closing quote";
-
-const UNTERMINATED_BYTE: &str = "unterminated byte literal: missing closing quote";
-
-const UNTERMINATED_STRING: &str = "unterminated string: missing closing quote";
-
-const INVALID_RAW_STARTER: &str = "invalid raw string: missing opening quote";
-
-const OPEN_PLAIN_RAW_STRING: &str = "unterminated raw string: missing closing quote";
-
-const INVALID_DIGIT: &str = "invalid digit in a binary or octal number";
-
-const FLOAT_OF_BASE: &str = "invalid float: only a decimal number can have a point or an exponent";
-
-const RAW_KEYWORD: &str = "invalid raw identifier or lifetime: this name cannot be raw";
-
-const UNDERSCORE_SUFFIX: &str = "invalid literal suffix `_`";
-
-const BARE_CARRIAGE_RETURN_IN_DOC_COMMENT: &str =
-    "bare CR in a doc comment: a CR must be part of a CRLF";
-
-const BARE_CARRIAGE_RETURN_IN_FRONTMATTER: &str =
-    "bare CR in a frontmatter: a CR must be part of a CRLF";
-
-const TEXT_DIRECTION_CODEPOINT: &str =
-    "bidirectional control character: code may be displayed in a different order";
-
 impl fmt::Display for TokenError {
     fn fmt(&self, f: &mut fmt::Formatter) -> fmt::Result {
         match self {
-            TokenError::UnterminatedBlockComment => f.write_str(UNTERMINATED_BLOCK_COMMENT),
-            TokenError::WhitespaceBeforeFrontmatter => f.write_str(WHITESPACE_BEFORE_FRONTMATTER),
-            TokenError::InvalidInfostring => f.write_str(INVALID_INFOSTRING),
-            TokenError::UnclosedFrontmatter => f.write_str(UNCLOSED_FRONTMATTER),
-            TokenError::WhitespaceBeforeFrontmatterClose => {
-                f.write_str(WHITESPACE_BEFORE_FRONTMATTER_CLOSE)
+            TokenError::UnterminatedBlockComment => f.write_str("unterminated block comment"),
+            TokenError::WhitespaceBeforeFrontmatter => {
+                f.write_str("whitespace before the opening fence of a frontmatter")
             }
-            TokenError::ExtraAfterFrontmatterClose => f.write_str(EXTRA_AFTER_FRONTMATTER_CLOSE),
-            TokenError::InvalidName => f.write_str(INVALID_NAME),
-            TokenError::UnknownPrefix => f.write_str(UNKNOWN_PREFIX),
-            TokenError::UnknownLifetimePrefix => f.write_str(UNKNOWN_LIFETIME_PREFIX),
-            TokenError::GuardedString => f.write_str(GUARDED_STRING),
-            TokenError::InvalidLifetime => f.write_str(INVALID_LIFETIME),
-            TokenError::UnknownCharacter => f.write_str(UNKNOWN_CHARACTER),
-            TokenError::EmptyNumber => f.write_str(EMPTY_NUMBER),
-            TokenError::EmptyExponent => f.write_str(EMPTY_EXPONENT),
-            TokenError::UnterminatedChar => f.write_str(UNTERMINATED_CHAR),
-            TokenError::UnterminatedByte => f.write_str(UNTERMINATED_BYTE),
-            TokenError::UnterminatedString => f.write_str(UNTERMINATED_STRING),
-            TokenError::InvalidRawStarter => f.write_str(INVALID_RAW_STARTER),
+            TokenError::InvalidInfostring => {
+                f.write_str("invalid infostring: expected at most one name after the opening fence")
+            }
+            TokenError::UnclosedFrontmatter => {
+                f.write_str("unclosed frontmatter: missing closing fence")
+            }
+            TokenError::WhitespaceBeforeFrontmatterClose => {
+                f.write_str("whitespace before the closing fence of a frontmatter")
+            }
+            TokenError::ExtraAfterFrontmatterClose => {
+                f.write_str("unexpected text after the closing fence of a frontmatter")
+            }
+            TokenError::InvalidName => f.write_str("invalid identifier: contains an emoji"),
+            TokenError::UnknownPrefix => f.write_str("unknown prefix before a quote or `#`"),
+            TokenError::UnknownLifetimePrefix => f.write_str("unknown lifetime prefix before `#`"),
+            TokenError::GuardedString => f.write_str("reserved syntax: guarded string"),
+            TokenError::InvalidLifetime => {
+                f.write_str("invalid lifetime: starts with a digit or contains an emoji")
+            }
+            TokenError::UnknownCharacter => {
+                f.write_str("unexpected character: no token starts with it")
+            }
+            TokenError::EmptyNumber => f.write_str("number has no digits"),
+            TokenError::EmptyExponent => f.write_str("exponent has no digits"),
+            TokenError::UnterminatedChar => {
+                f.write_str("unterminated character literal: missing closing quote")
+            }
+            TokenError::UnterminatedByte => {
+                f.write_str("unterminated byte literal: missing closing quote")
+            }
+            TokenError::UnterminatedString => {
+                f.write_str("unterminated string: missing closing quote")
+            }
+            TokenError::InvalidRawStarter => {
+                f.write_str("invalid raw string: missing opening quote")
+            }
             TokenError::InLiteral(error) => error.fmt(f),
-            TokenError::InvalidDigit => f.write_str(INVALID_DIGIT),
-            TokenError::FloatOfBase => f.write_str(FLOAT_OF_BASE),
-            TokenError::RawKeyword => f.write_str(RAW_KEYWORD),
-            TokenError::UnderscoreSuffix => f.write_str(UNDERSCORE_SUFFIX),
+            TokenError::InvalidDigit => f.write_str("invalid digit in a binary or octal number"),
+            TokenError::FloatOfBase => {
+                f.write_str("invalid float: only a decimal number can have a point or an exponent")
+            }
+            TokenError::RawKeyword => {
+                f.write_str("invalid raw identifier or lifetime: this name cannot be raw")
+            }
+            TokenError::UnderscoreSuffix => f.write_str("invalid literal suffix `_`"),
             TokenError::BareCarriageReturnInDocComment => {
-                f.write_str(BARE_CARRIAGE_RETURN_IN_DOC_COMMENT)
+                f.write_str("bare CR in a doc comment: a CR must be part of a CRLF")
             }
             TokenError::BareCarriageReturnInFrontmatter => {
-                f.write_str(BARE_CARRIAGE_RETURN_IN_FRONTMATTER)
+                f.write_str("bare CR in a frontmatter: a CR must be part of a CRLF")
             }
-            TokenError::TextDirectionCodepoint => f.write_str(TEXT_DIRECTION_CODEPOINT),
+            TokenError::TextDirectionCodepoint => f.write_str(
+                "bidirectional control character: code may be displayed in a different order",
+            ),
             TokenError::UnterminatedRawString { expected } if *expected == 0 => {
-                f.write_str(OPEN_PLAIN_RAW_STRING)
+                f.write_str("unterminated raw string: missing closing quote")
             }
             TokenError::UnterminatedRawString { expected } => write!(
                 f,
