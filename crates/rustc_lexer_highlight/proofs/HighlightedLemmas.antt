@@ -1,5 +1,5 @@
 -- The text of a highlighted document, and the calls that write it.
-use Rattle.std.proofs.Common.{◌≡◌, ℕ, ◌-◌, List, [], ◌∷◌, length, take, drop, refl, ap}
+use Rattle.std.proofs.Common.{◌≡◌, ℕ, ◌-◌, List, [], ◌∷◌, ◌++◌, length, take, drop, refl, ap}
 use Rattle.std.proofs.Common.{◌∙◌, arith, take-add, Option, append-nil}
 use Rattle.std.specs.{Fmt.{WritesInCalls}, Prelude.{OnOk, Result}}
 use Rattle.std.specs.Str.{IsUtf8}
@@ -15,16 +15,25 @@ use Rattle.rustc_lexer_highlight.specs.declared.{format.{Format.{Format, TheVari
 use Rattle.rustc_lexer_highlight.specs.Escape.{unescaped, untagged}
 use Rattle.rustc_lexer_highlight.specs.Highlighted.{document_parts, highlighted, marked_tokens, parts, parts_by}
 use Rattle.rustc_lexer_highlight.specs.Highlighted.{start_parts, token_parts}
-use Rattle.rustc_lexer_highlight.specs.Part.{Own, own, with_markup, without_markup}
+use Rattle.rustc_lexer_highlight.specs.Part.{Own, before_return, own, return_part, with_markup, without_markup}
 use Rattle.rustc_lexer_highlight.proofs.{EscapeLemmas.{unescaped_escaped}, LiteralLemmas.{without_literal}}
-use Rattle.rustc_lexer_highlight.proofs.PartLemmas.{shows, without_malformed, writes_parts}
+use Rattle.rustc_lexer_highlight.proofs.PartLemmas.{shows, without_error, without_return, writes_parts}
+
+without_by : (error : Option TokenError) (mode : Option Mode) (class : Class) (text : List ℕ)
+    → without_markup (parts_by error mode class text) ≡ text
+without_by error mode class text = grind (arith, common_steps, without_error, without_literal, append-nil)
 
 without_token : (error : Option TokenError) (mode : Option Mode) (class : Class) (text next : List ℕ)
-    → without_markup (parts_by error mode class text next) ≡ text
-without_token error mode class text next = grind (arith, common_steps, without_malformed, without_literal, append-nil)
+    → without_markup (parts_by error mode class (before_return text next) ++ return_part text next) ≡ text
+without_token error mode class text next =
+    cc (
+      flat_map-append own (parts_by error mode class (before_return text next)) (return_part text next),
+      without_by error mode class (before_return text next),
+      without_return text next,
+    )
 
 -- Without markup, the parts are the text of the tokens.
-without_markup-parts : (edition : Edition) (text : List ℕ) (tokens : List Token)
+pub without_markup-parts : (edition : Edition) (text : List ℕ) (tokens : List Token)
     → without_markup (parts edition text tokens) ≡ take (bound tokens (length tokens)) text
 without_markup-parts edition text [] = refl
 without_markup-parts edition text (token ∷ tokens) =

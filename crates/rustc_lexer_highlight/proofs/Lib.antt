@@ -11,5 +11,6 @@ pub mod LiteralStretchLemmas
 pub mod MovedLemmas
 pub mod PartLemmas
 pub mod PlaceLemmas
+pub mod QuietLemmas
 pub mod ScreenLemmas
 pub mod TextErrorLemmas

@@ -10,7 +10,7 @@ use Rattle.rustc_lexer_highlight.specs.declared.{class.Class.{Class}, errors.Tok
 use Rattle.rustc_lexer_highlight.specs.{Escape.{escaped, escaped_byte, untagged, untagged_from}, TokenError.{message}}
 use Rattle.rustc_literal_escaper.specs.Numbers.{error_message}
 use Rattle.rustc_lexer_highlight.specs.Markup.{class_open, class_close, error_open, error_close}
-use Rattle.rustc_lexer_highlight.specs.Part.{Part, Own, Close, Return, error_parts, malformed_parts, first_line, is_cut_line_end, own, shown}
+use Rattle.rustc_lexer_highlight.specs.Part.{Part, Own, Close, before_return, error_parts, first_line, is_cut_line_end, own, return_part, shown}
 use Rattle.rustc_lexer_highlight.specs.Part.{with_markup, without_markup, written}
 use Rattle.rustc_lexer_highlight.proofs.{CallLemmas.{no_calls, one_call, writes_both}, EscapeLemmas.{untagged_escaped}}
 
@@ -29,10 +29,9 @@ module _ (text next : List ℕ) (ends : is_cut_line_end text next ≡ true) wher
       let past : suc (length text - 1) ≡ length text = omega (arith, may_cut_return.0) in
       grind (arith, common_steps, eqb-true, last, past, drop-length)
 
-pub without_malformed : (error : TokenError) (class : Class) (text next : List ℕ)
-    → without_markup (malformed_parts error class text next) ≡ text
-without_malformed error class text next =
-    grind (arith, common_steps, without_error, flat_map-append, cut_return, append-nil)
+-- The text before the carriage return of a cut CRLF, and that carriage return, are the text.
+pub without_return : (text next : List ℕ) → before_return text next ++ without_markup (return_part text next) ≡ text
+without_return text next = grind (arith, common_steps, cut_return, append-nil)
 
 -- ---- the markup of a page displays nothing
 
@@ -106,7 +105,7 @@ module _ {W : Type 0} (took : W → List ℕ → W → Type 0) where
   -- Writing the opening markup, the text and the closing markup writes a part.
   pub writes_in_class : (format : Format) (class : Class) (text : List ℕ) (w0 w1 w2 w3 : W) (before after : List ℕ)
       → (length text == 0) ≡ false → before ≡ class_open format class → after ≡ class_close format class
-      → took w0 before w1 → WritesInCalls took w1 (shown format class text) w2 → took w2 after w3
+      → took w0 before w1 → WritesInCalls took w1 (shown format text) w2 → took w2 after w3
       → WritesInCalls took w0 (with_markup format (Own class text ∷ [])) w3
   writes_in_class format class [] w0 w1 w2 w3 before after some opens closes a b d = absurd (true≢false some)
   writes_in_class format class (x ∷ xs) w0 w1 w2 w3 before after some opens closes a b d =
@@ -115,19 +114,6 @@ module _ {W : Type 0} (took : W → List ℕ → W → Type 0) where
       writes_both took w0 w3 w3 _ _ (
       writes_both took w0 w1 w3 _ _ (one_call took w0 w1 _ open_call) (
       writes_both took w1 w2 w3 _ _ b (one_call took w2 w3 _ close_call))) (no_calls took w3)
-
-  -- Writing a token with an error, and then the carriage return at its end, writes its parts.
-  pub writes_return : (format : Format) (error : TokenError) (class : Class) (text next line : List ℕ) (w0 w1 w2 : W)
-      → is_cut_line_end text next ≡ true → line ≡ take (length text - 1 - 0) text
-      → WritesInCalls took w0 (with_markup format (error_parts error class line)) w1
-      → WritesInCalls took w1 (written format Return) w2
-      → WritesInCalls took w0 (with_markup format (malformed_parts error class text next)) w2
-  writes_return format error class text next line w0 w1 w2 ends front a b =
-      let same : length text - 1 - 0 ≡ length text - 1 = omega arith in
-      let is_line : line ≡ take (length text - 1) text = rw same at front in
-      let whole = writes_parts format (error_parts error class line) (Return ∷ []) w0 w1 w2 a
-      (writes_both took w1 w2 w2 _ _ b (no_calls took w2)) in
-      rw (ends, ← is_line) whole
 
   -- Writing the first line with the markup of the error, and then the rest, writes a token with an error.
   pub writes_error : (format : Format) (error : TokenError) (class : Class) (text line rest : List ℕ) (n : ℕ)

@@ -1,5 +1,4 @@
--- The output for a terminal: the calls that write it, and that it contains no control characters other than tabs and
--- line endings.
+-- The output for a terminal, and the calls that write it.
 use Rattle.std.proofs.Common.{◌≡◌, ℕ, ◌+◌, ◌<◌, ◌≤◌, ◌==◌, Bool, true, false, ◌&&◌, ◌||◌, not, inl, inr, List, [], ◌∷◌}
 use Rattle.std.proofs.Common.{◌++◌, length, take, drop, get_or, refl, sym, ap, ◌∙◌, arith, length-append}
 use Rattle.std.proofs.{Common.{length-drop, take-append-drop, Some, None, IsCharBoundary}, lemmas.Bool.{cases_Bool}}
@@ -9,45 +8,23 @@ use Rattle.std.proofs.lemmas.Str.{chars-append, encodes-append, encodes-chars, l
 use Rattle.std.specs.{Char.{encode_utf8, is_control}, Fmt.{WritesInCalls}, List.{list_all, list_any}, Str.{IsUtf8}}
 use Rattle.std.specs.Str.{chars, encode_utf8_all}
 use Rattle.memchr.specs.Find.{IsFirstByte}
-use Rattle.rustc_lexer_highlight.specs.{declared.class.Class.{Class}, Screen.{at_line_end, is_layout, is_replaceable}}
-use Rattle.rustc_lexer_highlight.specs.Screen.{is_shown, may_begin_replaceable, seen, seen_char, symbol}
+use Rattle.rustc_lexer_highlight.specs.Screen.{is_replaceable, may_begin_replaceable, seen, seen_char}
 use Rattle.rustc_lexer_highlight.proofs.CallLemmas.{one_call, writes_both}
-
-far : (c : ℕ) → 160 ≤ c → is_shown c ≡ true
-far c high = grind (arith, common_steps, nat_tests)
-
-symbol_shown : (c : ℕ) → is_shown (symbol c) ≡ true
-symbol_shown c = grind (arith, common_steps, nat_tests, far)
-
--- The Booleans state whether a character is a control character, a tab, a newline or a carriage return, and whether it
--- is at the end of a line.
-kept : (k t n r e : Bool) → (k && not (t || n || (r && e))) ≡ false → (not k || t || n || r) ≡ true
-kept k t n r e w5 = grind (arith, common_steps)
-
-one_shown : (class : Class) (c : ℕ) (cs : List ℕ) → is_shown (seen_char class c cs) ≡ true
-one_shown class c cs = elim (cases_Bool (is_control c && not (is_layout class c cs))) [
-  | inl obeyed ↦ rw obeyed (symbol_shown c)
-  | inr other ↦ rw other (kept (is_control c) (c == 9) (c == 10) (c == 13) (at_line_end class cs) other)
-]
-
-pub all_shown : (class : Class) (cs : List ℕ) → list_all is_shown (seen class cs) ≡ true
-all_shown class [] = refl
-all_shown class (c ∷ cs) = rw (one_shown class c cs) (all_shown class cs)
 
 -- ---- a text without replaceable characters
 
-irreplaceable_char : (class : Class) (c : ℕ) (cs : List ℕ) → is_replaceable c ≡ false → seen_char class c cs ≡ c
-irreplaceable_char class c cs other = grind (arith, common_steps, nat_tests)
+irreplaceable_char : (c : ℕ) (cs : List ℕ) → is_replaceable c ≡ false → seen_char c cs ≡ c
+irreplaceable_char c cs other = grind (arith, common_steps, nat_tests)
 
 -- Such a text is unchanged.
-seen-append : (class : Class) (cs ds : List ℕ) → list_any is_replaceable cs ≡ false
-    → seen class (cs ++ ds) ≡ cs ++ seen class ds
-seen-append class [] ds none = refl
-seen-append class (c ∷ cs) ds none = grind (arith, common_steps, irreplaceable_char, seen-append class cs ds)
+seen-append : (cs ds : List ℕ) → list_any is_replaceable cs ≡ false
+    → seen (cs ++ ds) ≡ cs ++ seen ds
+seen-append [] ds none = refl
+seen-append (c ∷ cs) ds none = grind (arith, common_steps, irreplaceable_char, seen-append cs ds)
 
-seen_same : (class : Class) (cs : List ℕ) → list_any is_replaceable cs ≡ false → seen class cs ≡ cs
-seen_same class [] none = refl
-seen_same class (c ∷ cs) none = grind (arith, common_steps, irreplaceable_char, seen_same class cs)
+seen_same : (cs : List ℕ) → list_any is_replaceable cs ≡ false → seen cs ≡ cs
+seen_same [] none = refl
+seen_same (c ∷ cs) none = grind (arith, common_steps, irreplaceable_char, seen_same cs)
 
 low : (c : ℕ) → is_replaceable c ≡ true → c < 160
 low c is = grind (arith, common_steps, nat_tests)
@@ -132,25 +109,25 @@ none_replaceable bs text same utf8 none =
 module _ {W : Type 0} (took : W → List ℕ → W → Type 0) where
   -- Writing the text before a character, that character or its symbol, and then the rest writes the text, if no
   -- replaceable character is before it.
-  pub writes_stretch : (class : Class) (w0 w1 w2 w : W) (c shown : ℕ) (bs front rest : List ℕ) → IsUtf8 front
+  pub writes_stretch : (w0 w1 w2 w : W) (c shown : ℕ) (bs front rest : List ℕ) → IsUtf8 front
       → list_any is_replaceable (chars front) ≡ false
-      → chars bs ≡ chars front ++ (c ∷ chars rest) → shown ≡ seen_char class c (chars rest)
+      → chars bs ≡ chars front ++ (c ∷ chars rest) → shown ≡ seen_char c (chars rest)
       → took w0 front w1 → took w1 (encode_utf8 shown) w2
-      → WritesInCalls took w2 (encode_utf8_all (seen class (chars rest))) w
-      → WritesInCalls took w0 (encode_utf8_all (seen class (chars bs))) w
-  writes_stretch class w0 w1 w2 w c shown bs front rest utf8 none reads is a b more =
-      let split : encode_utf8_all (seen class (chars bs)) ≡
-      front ++ (encode_utf8 shown ++ encode_utf8_all (seen class (chars rest))) =
-      ap (λ (cs : List ℕ). encode_utf8_all (seen class cs)) reads
-      ∙ ap encode_utf8_all (seen-append class (chars front) (c ∷ chars rest) none)
-      ∙ encodes-append (chars front) (seen class (c ∷ chars rest))
+      → WritesInCalls took w2 (encode_utf8_all (seen (chars rest))) w
+      → WritesInCalls took w0 (encode_utf8_all (seen (chars bs))) w
+  writes_stretch w0 w1 w2 w c shown bs front rest utf8 none reads is a b more =
+      let split : encode_utf8_all (seen (chars bs)) ≡
+      front ++ (encode_utf8 shown ++ encode_utf8_all (seen (chars rest))) =
+      ap (λ (cs : List ℕ). encode_utf8_all (seen cs)) reads
+      ∙ ap encode_utf8_all (seen-append (chars front) (c ∷ chars rest) none)
+      ∙ encodes-append (chars front) (seen (c ∷ chars rest))
       ∙ rw (encodes-chars front utf8, is) refl in
       rw split (writes_both took w0 w1 w _ _ (one_call took w0 w1 front a)
       (writes_both took w1 w2 w _ _ (one_call took w1 w2 _ b) more))
 
-  pub writes_irreplaceable : (class : Class) (w v : W) (bs : List ℕ) → IsUtf8 bs → list_any is_replaceable (chars bs) ≡
-      false → took w bs v → WritesInCalls took w (encode_utf8_all (seen class (chars bs))) v
-  writes_irreplaceable class w v bs utf8 none call =
-      let same : encode_utf8_all (seen class (chars bs)) ≡ bs = ap encode_utf8_all (seen_same class (chars bs) none)
+  pub writes_irreplaceable : (w v : W) (bs : List ℕ) → IsUtf8 bs → list_any is_replaceable (chars bs) ≡
+      false → took w bs v → WritesInCalls took w (encode_utf8_all (seen (chars bs))) v
+  writes_irreplaceable w v bs utf8 none call =
+      let same : encode_utf8_all (seen (chars bs)) ≡ bs = ap encode_utf8_all (seen_same (chars bs) none)
       ∙ encodes-chars bs utf8 in
       rw same (one_call took w v bs call)

@@ -13,23 +13,24 @@ use Rattle.rustc_lexer_highlight.specs.Class.{class_of}
 use Rattle.rustc_lexer_highlight.specs.TokenError.{token_error}
 use Rattle.rustc_lexer_highlight.specs.Answers.{stretches_of}
 use Rattle.rustc_lexer_highlight.specs.Literal.{closed_mode, parts_from}
-use Rattle.rustc_lexer_highlight.specs.Part.{Part, Own, malformed_parts, with_markup}
+use Rattle.rustc_lexer_highlight.specs.Part.{Part, Own, before_return, error_parts, return_part, with_markup}
 
 -- Returns the parts of a terminated literal.
 abbrev pub literal_parts : Mode → List ℕ → List Part
 literal_parts mode text = parts_from 0 text (stretches_of mode text)
 
--- Returns the parts of a token before the text `next`: a token with an error, a terminated literal, or a token with a
--- single class.
-abbrev pub parts_by : Option TokenError → Option Mode → Class → List ℕ → List ℕ → List Part
-parts_by (Some error) mode class text next = malformed_parts error class text next
-parts_by None (Some mode) class text next = literal_parts mode text
-parts_by None None class text next = Own class text ∷ []
+-- Returns the parts of a token: of a token with an error, a terminated literal, or a token with a single class.
+abbrev pub parts_by : Option TokenError → Option Mode → Class → List ℕ → List Part
+parts_by (Some error) mode class text = error_parts error class text
+parts_by None (Some mode) class text = literal_parts mode text
+parts_by None None class text = Own class text ∷ []
 
--- Returns the parts of a token in an edition, before the text `next`.
+-- Returns the parts of a token in an edition, before the text `next`. The carriage return of a CRLF whose newline is in
+-- `next` has no markup.
 abbrev pub token_parts : Edition → TokenKind → List ℕ → List ℕ → List Part
 token_parts edition kind text next =
-    parts_by (token_error kind text edition) (closed_mode kind) (class_of kind text edition) text next
+    parts_by (token_error kind text edition) (closed_mode kind) (class_of kind text edition) (before_return text next)
+    ++ return_part text next
 
 abbrev pub parts : Edition → List ℕ → List Token → List Part
 parts edition text [] = []

@@ -38,28 +38,28 @@ abbrev pub is_cut_line_end : List ℕ → List ℕ → Bool
 is_cut_line_end text next =
     slice_index text (length text - 1) == byte "\r" && slice_index next 0 == byte "\n"
 
--- Returns the parts of a token with an error, before the text `next`. A carriage return that belongs to a CRLF is not
--- part of the error.
-abbrev pub malformed_parts : TokenError → Class → List ℕ → List ℕ → List Part
-malformed_parts error class text next =
-    if is_cut_line_end text next
-    then error_parts error class (take (length text - 1) text) ++ Return ∷ []
-    else error_parts error class text
+-- Returns the text of a token without the carriage return of such a CRLF.
+abbrev pub before_return : List ℕ → List ℕ → List ℕ
+before_return text next = if is_cut_line_end text next then take (length text - 1) text else text
 
--- Returns the output for text of a class, without markup: with entities in HTML, with symbols for control characters in
--- the other formats, and unchanged in the format `Raw`.
-abbrev pub shown : Format → Class → List ℕ → List ℕ
-shown Html class text = escaped text
-shown Colours class text = encode_utf8_all (seen class (chars text))
-shown NoColours class text = encode_utf8_all (seen class (chars text))
-shown Raw class text = text
+-- Returns that carriage return, if there is one, as a part of its own.
+abbrev pub return_part : List ℕ → List ℕ → List Part
+return_part text next = if is_cut_line_end text next then Return ∷ [] else []
+
+-- Returns the output for text without markup: with entities in HTML, with symbols for control characters in the other
+-- formats, and unchanged in the format `Raw`.
+abbrev pub shown : Format → List ℕ → List ℕ
+shown Html text = escaped text
+shown Colours text = encode_utf8_all (seen (chars text))
+shown NoColours text = encode_utf8_all (seen (chars text))
+shown Raw text = text
 
 -- Returns the output for a part: text with the markup of its class, or the markup of an error. Empty text has no
 -- markup.
 abbrev pub written : Format → Part → List ℕ
 written format (Own class []) = []
 written format (Own class (b ∷ bs)) =
-    class_open format class ++ (shown format class (b ∷ bs) ++ class_close format class)
+    class_open format class ++ (shown format (b ∷ bs) ++ class_close format class)
 written format (Open error) = error_open format error
 written format (Close error) = error_close format error
 written Html Return = entity (byte "\r")
@@ -79,3 +79,13 @@ own mark = []
 -- Returns the text of some parts, without markup.
 abbrev pub without_markup : List Part → List ℕ
 without_markup parts = flat_map own parts
+
+-- Returns the characters of a part that a terminal displays, without markup.
+abbrev pub displayed_part : Part → List ℕ
+displayed_part (Own class text) = seen (chars text)
+displayed_part Return = codes "\r"
+displayed_part mark = []
+
+-- Returns the characters of some parts that a terminal displays, without markup.
+abbrev pub displayed : List Part → List ℕ
+displayed parts = flat_map displayed_part parts

@@ -2,24 +2,18 @@
 use Rattle.std.specs.Prelude.{ℕ, ◌+◌, ◌==◌, nat_lt, Bool, true, false, ◌&&◌, ◌||◌, not, if◌then◌else◌, List, [], ◌∷◌}
 use Rattle.std.specs.Char.{is_control}
 use Rattle.std.specs.Str.{byte}
-use Rattle.rustc_lexer_highlight.specs.declared.class.Class.{Class}
-use Rattle.rustc_lexer_highlight.specs.declared.class.Class.TheVariants.{Comment, Doc}
 
--- Whether a line ends before these characters, which are the rest of a part: at a newline, and at the end of a comment,
--- since only a newline or the end of the text can follow a comment.
-abbrev pub at_line_end : Class → List ℕ → Bool
-at_line_end Comment [] = true
-at_line_end Doc [] = true
-at_line_end class [] = false
-at_line_end class (c ∷ cs) = c == byte "\n"
+abbrev pub starts_with_newline : List ℕ → Bool
+starts_with_newline [] = false
+starts_with_newline (c ∷ cs) = c == byte "\n"
 
--- Whether the character is a tab, a newline, or a carriage return at the end of a line.
-abbrev pub is_layout : Class → ℕ → List ℕ → Bool
-is_layout class c rest =
-    c == byte "\t" || c == byte "\n" || (c == byte "\r" && at_line_end class rest)
+-- Whether the character is a tab, a newline, or the carriage return of a CRLF, if `rest` follows it.
+abbrev pub is_layout : ℕ → List ℕ → Bool
+is_layout c rest =
+    c == byte "\t" || c == byte "\n" || (c == byte "\r" && starts_with_newline rest)
 
 -- Whether the character is a control character other than a tab and a newline. It is replaced by a symbol, unless it is
--- a carriage return at the end of a line.
+-- the carriage return of a CRLF.
 abbrev pub is_replaceable : ℕ → Bool
 is_replaceable c = is_control c && not (c == byte "\t" || c == byte "\n")
 
@@ -31,14 +25,17 @@ may_begin_replaceable b = nat_lt b 128 && is_replaceable b || b == 0xC2
 abbrev pub symbol : ℕ → ℕ
 symbol c = if nat_lt c 32 then 0x2400 + c else (if c == 127 then 0x2421 else 0xFFFD)
 
--- Returns a character of a part of this class as it is displayed, if `rest` follows it in the part.
-abbrev pub seen_char : Class → ℕ → List ℕ → ℕ
-seen_char class c rest = if is_control c && not (is_layout class c rest) then symbol c else c
+-- Returns a character of a part as it is displayed, if `rest` follows it in the part.
+abbrev pub seen_char : ℕ → List ℕ → ℕ
+seen_char c rest = if is_control c && not (is_layout c rest) then symbol c else c
 
-abbrev pub seen : Class → List ℕ → List ℕ
-seen class [] = []
-seen class (c ∷ cs) = seen_char class c cs ∷ seen class cs
+-- Returns the characters of a part as they are displayed.
+abbrev pub seen : List ℕ → List ℕ
+seen [] = []
+seen (c ∷ cs) = seen_char c cs ∷ seen cs
 
--- Whether a terminal displays the character, or it is a tab, a newline or a carriage return.
-abbrev pub is_shown : ℕ → Bool
-is_shown c = not (is_control c) || c == byte "\t" || c == byte "\n" || c == byte "\r"
+-- Whether a terminal obeys none of these characters: they contain no control character other than tabs, newlines and
+-- the carriage returns of CRLFs.
+abbrev pub is_quiet : List ℕ → Bool
+is_quiet [] = true
+is_quiet (c ∷ cs) = (not (is_control c) || is_layout c cs) && is_quiet cs

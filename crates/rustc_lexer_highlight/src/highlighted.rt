@@ -1,19 +1,23 @@
 //! Writes a text with its shebang line and its tokens highlighted, for a terminal or for the inside of an HTML page.
-ghost use Rattle.std.specs.Prelude.{◌≡◌, OnOk, take};
+ghost use Rattle.std.specs.Prelude.{◌≡◌, OnOk, take, true};
 ghost use Rattle.std.specs.Fmt.{WritesInCalls};
 ghost use Rattle.rustc_lexer.specs.Classes.{Fits};
 ghost use Rattle.rustc_lexer.specs.LanguageText.{part};
 ghost use Rattle.rustc_lexer.specs.Tokens.{tokens_of};
 ghost use Rattle.rustc_lexer_highlight.specs.Escape.{unescaped, untagged};
 ghost use Rattle.rustc_lexer_highlight.specs.Highlighted.{document_parts, highlighted, marked_tokens};
-ghost use Rattle.rustc_lexer_highlight.specs.Highlighted.{start_parts, token_parts};
-ghost use Rattle.rustc_lexer_highlight.specs.Part.{with_markup, without_markup};
+ghost use Rattle.rustc_lexer_highlight.specs.Highlighted.{parts_by, start_parts, token_parts};
+ghost use Rattle.rustc_lexer_highlight.specs.Class.{class_of};
+ghost use Rattle.rustc_lexer_highlight.specs.Literal.{closed_mode};
+ghost use Rattle.rustc_lexer_highlight.specs.Part.{before_return, displayed, with_markup, without_markup};
+ghost use Rattle.rustc_lexer_highlight.specs.Screen.{is_quiet};
+ghost use Rattle.rustc_lexer_highlight.specs.TokenError.{token_error};
 
 use crate::class::{Class, class_of};
 use crate::errors::token_error;
 use crate::format::Format;
 use crate::literal::{mode_of, write_literal};
-use crate::part::{TokenInText, write_in_class, write_malformed};
+use crate::part::{TokenInText, before_return, write_in_class, write_return, write_with_error};
 use rustc_lexer::{Edition, byte_order_mark_len, tokenize_document, tokenize_in};
 use std::fmt;
 
@@ -22,7 +26,7 @@ use std::fmt;
 /// A byte order mark at the start is written as it is, and a shebang line as a comment. Without its markup, the output
 /// is the text; except in the format `Raw`, symbols such as `␛` replace control characters other than tabs and line
 /// endings. In HTML, the text is everything outside of tags, with its entities decoded.
-#[tactic(auto, using(crate::proofs::HighlightedLemmas::document_is, crate::proofs::HighlightedLemmas::page_is))]
+#[tactic(auto, using(crate::proofs::HighlightedLemmas::document_is, crate::proofs::HighlightedLemmas::page_is, crate::proofs::QuietLemmas::document_quiet))]
 pub fn write_highlighted<W: fmt::Write>(
     format: Format,
     edition: Edition,
@@ -34,6 +38,7 @@ pub fn write_highlighted<W: fmt::Write>(
         (highlighted format edition text.now) output.new) }
     ensures text { without_markup (document_parts edition text.now) ≡ text.now }
     ensures page { unescaped (untagged (highlighted Format.Html edition text.now)) ≡ text.now }
+    ensures quiet { is_quiet (displayed (document_parts edition text.now)) ≡ true }
 {
     let tokens = tokenize_document(text, edition);
     let mut rest = tokens.as_str();
@@ -99,8 +104,8 @@ pub fn write_first_tokens<W: fmt::Write>(
     Ok(())
 }
 
-/// Writes a token with the markup of its class. If the token has an error, the markup of the error is around its first
-/// line. In a literal that has no error of its kind, each escape and each error in its contents has its own markup.
+/// Writes a token with markup, and then the carriage return of a CRLF whose newline is in the next token.
+#[tactic(auto, using(crate::proofs::PartLemmas::writes_parts, std::proofs::lemmas::Result::on_ok_weaker, std::proofs::lemmas::Grind::common_steps))]
 fn write_token<W: fmt::Write>(
     format: Format,
     edition: Edition,
@@ -112,13 +117,33 @@ fn write_token<W: fmt::Write>(
         (with_markup format (token_parts edition token.entry.kind
         token.entry.text.now token.entry.next.now)) output.new) }
 {
+    write_with_class(format, edition, token, output)?;
+    write_return(format, token, output)
+}
+
+/// Writes a token without such a carriage return, with the markup of its class. If the token has an error, the markup
+/// of the error is around its first line. In a literal that has no error of its kind, each escape and each error in its
+/// contents has its own markup.
+fn write_with_class<W: fmt::Write>(
+    format: Format,
+    edition: Edition,
+    token: TokenInText<'_>,
+    output: &mut W,
+) -> fmt::Result
+    requires fits { Fits token.text.now }
+    ensures { OnOk result (WritesInCalls W.write_str_gives output.old
+        (with_markup format (parts_by (token_error token.entry.kind token.entry.text.now edition)
+        (closed_mode token.entry.kind) (class_of token.entry.kind token.entry.text.now edition)
+        (before_return token.entry.text.now token.entry.next.now))) output.new) }
+{
     let TokenInText { kind, text, .. } = token;
+    let shown = before_return(token);
     let class = class_of(kind, text, edition);
     if let Some(error) = token_error(kind, text, edition) {
-        return write_malformed(format, error, class, token, output);
+        return write_with_error(format, error, class, shown, output);
     }
     match mode_of(kind) {
-        None => write_in_class(format, class, text, output),
-        Some(mode) => write_literal(format, mode, text, output),
+        None => write_in_class(format, class, shown, output),
+        Some(mode) => write_literal(format, mode, shown, output),
     }
 }

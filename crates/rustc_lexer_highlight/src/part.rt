@@ -2,8 +2,8 @@
 ghost use Rattle.std.specs.Prelude.{◌≡◌, ◌∷◌, [], OnOk};
 ghost use Rattle.std.specs.Fmt.{WritesInCalls};
 ghost use Rattle.std.specs.Str.{IsCharBoundary};
-ghost use Rattle.rustc_lexer_highlight.specs.Part.{Own, Return, error_parts, malformed_parts, first_line};
-ghost use Rattle.rustc_lexer_highlight.specs.Part.{is_cut_line_end, shown, with_markup, written};
+ghost use Rattle.rustc_lexer_highlight.specs.Part.{Own, before_return, error_parts, first_line, is_cut_line_end};
+ghost use Rattle.rustc_lexer_highlight.specs.Part.{return_part, shown, with_markup};
 
 use crate::class::Class;
 use crate::errors::TokenError;
@@ -24,25 +24,36 @@ pub struct TokenInText<'a> {
     pub next: &'a str,
 }
 
-/// Writes a token with an error. The carriage return of a CRLF whose newline is in the next token is not part of the
-/// error.
-#[tactic(auto, using(crate::proofs::PartLemmas::may_cut_return, crate::proofs::PartLemmas::writes_return, std::proofs::lemmas::Result::on_ok_weaker, std::proofs::lemmas::Grind::common_steps))]
-pub fn write_malformed<W: fmt::Write>(
+/// Returns the text of a token without the carriage return of a CRLF whose newline is in the next token.
+#[tactic(auto, using(crate::proofs::PartLemmas::may_cut_return, std::proofs::lemmas::Grind::common_steps))]
+pub fn before_return<'a>(token: TokenInText<'a>) -> &'a str
+    ensures { result.now ≡ before_return token.entry.text.now token.entry.next.now }
+{
+    let text = token.text;
+    if is_cut_line_end(text, token.next) {
+        &text[..text.len() - 1]
+    } else {
+        text
+    }
+}
+
+/// Writes that carriage return, if there is one.
+#[tactic(auto, using(crate::proofs::CallLemmas::no_calls, crate::proofs::CallLemmas::tried_call, std::proofs::lemmas::Grind::common_steps))]
+pub fn write_return<W: fmt::Write>(
     format: Format,
-    error: TokenError,
-    class: Class,
     token: TokenInText<'_>,
     output: &mut W,
 ) -> fmt::Result
     ensures { OnOk result (WritesInCalls W.write_str_gives output.old
-        (with_markup format (malformed_parts error class token.entry.text.now token.entry.next.now)) output.new) }
+        (with_markup format (return_part token.entry.text.now token.entry.next.now)) output.new) }
 {
-    let text = token.text;
-    if is_cut_line_end(text, token.next) {
-        write_with_error(format, error, class, &text[..text.len() - 1], output)?;
-        return write_return(format, output);
+    if !is_cut_line_end(token.text, token.next) {
+        return Ok(());
     }
-    write_with_error(format, error, class, text, output)
+    output.write_str(match format {
+        Format::Html => entity(b'\r'),
+        Format::Colours | Format::NoColours | Format::Raw => "\r",
+    })
 }
 
 /// Returns whether a token ends between the carriage return and the newline of a CRLF. `next` is the text after it.
@@ -50,17 +61,6 @@ fn is_cut_line_end(text: &str, next: &str) -> bool
     ensures { result ≡ is_cut_line_end text.now next.now }
 {
     text.ends_with('\r') && next.starts_with('\n')
-}
-
-/// Writes the carriage return of a CRLF whose newline is in the next token.
-#[tactic(auto, using(crate::proofs::CallLemmas::tried_call))]
-fn write_return<W: fmt::Write>(format: Format, output: &mut W) -> fmt::Result
-    ensures { OnOk result (WritesInCalls W.write_str_gives output.old (written format Return) output.new) }
-{
-    output.write_str(match format {
-        Format::Html => entity(b'\r'),
-        Format::Colours | Format::NoColours | Format::Raw => "\r",
-    })
 }
 
 /// Writes a part with an error. The markup of the error is around its first line, and the markup of the class around
@@ -107,25 +107,20 @@ pub fn write_in_class<W: fmt::Write>(
         return Ok(());
     }
     output.write_str(class_open(format, class))?;
-    write_shown(format, class, text, output)?;
+    write_shown(format, text, output)?;
     output.write_str(class_close(format, class))
 }
 
 /// Writes a part without markup: with entities in HTML, unchanged in the format `Raw`, and with symbols for control
 /// characters otherwise.
 #[tactic(auto, using(crate::proofs::CallLemmas::tried_call))]
-fn write_shown<W: fmt::Write>(
-    format: Format,
-    class: Class,
-    text: &str,
-    output: &mut W,
-) -> fmt::Result
+fn write_shown<W: fmt::Write>(format: Format, text: &str, output: &mut W) -> fmt::Result
     ensures { OnOk result
-        (WritesInCalls W.write_str_gives output.old (shown format class text.now) output.new) }
+        (WritesInCalls W.write_str_gives output.old (shown format text.now) output.new) }
 {
     match format {
         Format::Html => write_escaped(text, output),
-        Format::Colours | Format::NoColours => write_seen(class, text, output),
+        Format::Colours | Format::NoColours => write_seen(text, output),
         Format::Raw => output.write_str(text),
     }
 }

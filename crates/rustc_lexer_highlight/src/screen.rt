@@ -1,27 +1,25 @@
 //! Writes text for a terminal, which would obey control characters.
-ghost use Rattle.std.specs.Prelude.{◌≡◌, ◌∷◌, ◌++◌, ◌<◌, true, false, length, MatchOption, OnOk};
+ghost use Rattle.std.specs.Prelude.{◌≡◌, ◌∷◌, ◌++◌, ◌<◌, false, length, MatchOption, OnOk};
 ghost use Rattle.std.specs.Fmt.{WritesInCalls};
-ghost use Rattle.std.specs.List.{list_all, list_any};
+ghost use Rattle.std.specs.List.{list_any};
 ghost use Rattle.std.specs.Str.{IsUtf8, chars, encode_utf8_all};
 ghost use Rattle.memchr.specs.Find.{IsFirstByte};
-ghost use Rattle.rustc_lexer_highlight.specs.Screen.{at_line_end, is_replaceable, is_shown, may_begin_replaceable};
-ghost use Rattle.rustc_lexer_highlight.specs.Screen.{seen, seen_char, symbol};
+ghost use Rattle.rustc_lexer_highlight.specs.Screen.{is_replaceable, may_begin_replaceable, seen, seen_char};
+ghost use Rattle.rustc_lexer_highlight.specs.Screen.{starts_with_newline, symbol};
 
-use crate::class::Class;
 use rustc_literal_escaper::split_first;
 use std::fmt;
 
-/// Writes a text of a class with symbols in place of control characters other than tabs and line endings.
-#[tactic(auto, using(crate::proofs::ScreenLemmas::all_shown, crate::proofs::ScreenLemmas::writes_irreplaceable, std::proofs::lemmas::Grind::common_steps))]
-pub fn write_seen<W: fmt::Write>(class: Class, text: &str, output: &mut W) -> fmt::Result
-    ensures written { OnOk result (WritesInCalls W.write_str_gives output.old
-        (encode_utf8_all (seen class (chars text.now))) output.new) }
-    ensures quiet { list_all is_shown (seen class (chars text.now)) ≡ true }
+/// Writes a text with symbols in place of control characters other than tabs and line endings.
+#[tactic(auto, using(crate::proofs::ScreenLemmas::writes_irreplaceable, std::proofs::lemmas::Grind::common_steps))]
+pub fn write_seen<W: fmt::Write>(text: &str, output: &mut W) -> fmt::Result
+    ensures { OnOk result (WritesInCalls W.write_str_gives output.old
+        (encode_utf8_all (seen (chars text.now))) output.new) }
 {
     let mut rest = text;
     while let Some((front, c, past)) = split_replaceable(rest) {
         output.write_str(front)?;
-        output.write_char(seen_char(class, c, past))?;
+        output.write_char(seen_char(c, past))?;
         rest = past;
     }
     output.write_str(rest)
@@ -59,25 +57,22 @@ fn may_begin_replaceable(byte: u8) -> bool
 }
 
 /// Returns a character as it is displayed, if `rest` follows it in its part: unchanged or as a symbol.
-fn seen_char(class: Class, c: char, rest: &str) -> char
-    ensures { result ≡ seen_char class c (chars rest.now) }
+fn seen_char(c: char, rest: &str) -> char
+    ensures { result ≡ seen_char c (chars rest.now) }
 {
     match c {
         '\t' | '\n' => c,
-        '\r' if at_line_end(class, rest) => c,
+        '\r' if starts_with_newline(rest) => c,
         _ if c.is_control() => symbol(c),
         _ => c,
     }
 }
 
-/// Returns whether a line ends before the rest of a part.
-fn at_line_end(class: Class, rest: &str) -> bool
-    ensures { result ≡ at_line_end class (chars rest.now) }
+/// Returns whether a text starts with a newline.
+fn starts_with_newline(text: &str) -> bool
+    ensures { result ≡ starts_with_newline (chars text.now) }
 {
-    match split_first(rest) {
-        Some((c, _)) => c == '\n',
-        None => matches!(class, Class::Comment | Class::Doc),
-    }
+    matches!(split_first(text), Some(('\n', _)))
 }
 
 /// Returns the symbol of a control character.

@@ -67,14 +67,24 @@ const LINES: [Row<'_>; 23] = [
 
 /// Control characters, line endings, and byte order marks.
 #[rustfmt::skip]
-const CONTROLS: [Row<'_>; 28] = [
+const CONTROLS: [Row<'_>; 36] = [
     (NoColours, E2024, "// \x1b[2J\x07\0\x1f\x7f\t\u{9b}\u{80}\u{a0}", "// ␛[2J␇␀␟␡\t��\u{a0}"),
     (Colours, E2024, "// \x1b[0m", "\x1b[90m// ␛[0m\x1b[0m"),
     (Raw, E2024, "// \x1b[0m\r \0\u{9b}", "// \x1b[0m\r \0\u{9b}"),
     (Raw, E2024, "0x", "0x [<- number has no digits]"),
-    (Html, E2024, "// \x1b\0\r<\r\n", "<span class=\"comment\">// \x1b&#0;&#13;&lt;&#13;</span>\n"),
+    (Html, E2024, "// \x1b\0\r<\r\n", "<span class=\"comment\">// \x1b&#0;&#13;&lt;</span>&#13;\n"),
     (NoColours, E2024, "// a\r\n/// b\r\n/* c\r\n */\r\n\r\n", "// a\r\n/// b\r\n/* c\r\n */\r\n\r\n"),
-    (NoColours, E2024, "// a\r", "// a\r"),
+    (Colours, E2024, "// a\r\n", "\x1b[90m// a\x1b[0m\r\n"),
+    (NoColours, E2024, "// a\r", "// a␍"),
+    (NoColours, E2024, "/* a\r", "/* a [<- unterminated block comment]␍"),
+    // A carriage return before a CRLF is not part of the line ending.
+    (NoColours, E2024, "///a\r\r\n", "///a [<- bare CR in a doc comment: a CR must be part of a CRLF]␍\r\n"),
+    (Colours, E2024, "///a\r\r\n", "\x1b[4;31m\x1b[36m///a\x1b[0m\x1b[0;31m [<- bare CR in a doc comment: \
+        a CR must be part of a CRLF]\x1b[0m\x1b[36m␍\x1b[0m\r\n"),
+    (NoColours, E2024, "#!\r\r\n", "#!␍\r\n"),
+    (NoColours, E2024, "#!a\r", "#!a␍"),
+    (NoColours, E2024, "---\n---\r\nfn", "---\n---\r\nfn"),
+    (NoColours, E2024, "---\n---\r\r\nfn", "--- [<- unexpected text after the closing fence of a frontmatter]\n---␍\r\nfn"),
     (NoColours, E2024, "// a\rb\r\r\n", "// a␍b␍\r\n"),
     (NoColours, E2024, "a;\rb;\r\r\n", "a;␍b;␍\r\n"),
     (NoColours, E2024, "a;\r", "a;␍"),
@@ -140,5 +150,47 @@ fn output_of_texts() {
         let mut written = String::new();
         write_highlighted(format, edition, text, &mut written).unwrap();
         assert_eq!(written, wanted, "{text} in {edition:?}");
+    }
+}
+
+/// Returns all texts of up to `count` of these parts.
+fn texts_of(parts: &[&str], count: usize) -> Vec<String> {
+    let mut all = vec![String::new()];
+    let mut longest = all.clone();
+    for _ in 0..count {
+        let longer = |text: &String| -> Vec<String> {
+            parts.iter().map(|part| format!("{text}{part}")).collect()
+        };
+        longest = longest.iter().flat_map(longer).collect();
+        all.extend_from_slice(&longest);
+    }
+    all
+}
+
+/// Without colours, tabs, newlines and the carriage returns of CRLFs are the only control characters of the output. With
+/// colours, so are the escape characters of the colours.
+#[test]
+fn no_control_character_reaches_a_terminal() {
+    let parts = [
+        "///", "/*", "#!", "---\n---", "'\\", "a", "\r", "\n", "\x1b",
+    ];
+    for text in texts_of(&parts, 4) {
+        for edition in [E2018, E2024] {
+            let mut plain = String::new();
+            write_highlighted(NoColours, edition, &text, &mut plain).unwrap();
+            let rest = plain.replace("\r\n", "");
+            let is_quiet = |c: char| !c.is_control() || c == '\n';
+            assert!(rest.chars().all(is_quiet), "{text:?}: {plain:?}");
+
+            let mut coloured = String::new();
+            write_highlighted(Colours, edition, &text, &mut coloured).unwrap();
+            for sgr in [90, 36, 35, 32, 96, 33, 0].map(|code| format!("\x1b[{code}m")) {
+                coloured = coloured.replace(&sgr, "");
+            }
+            for sgr in ["\x1b[1;34m", "\x1b[4;31m", "\x1b[0;31m"] {
+                coloured = coloured.replace(sgr, "");
+            }
+            assert_eq!(coloured, plain, "{text:?}");
+        }
     }
 }

@@ -5,7 +5,9 @@ use crate::generated::class::{Class, class_of};
 use crate::generated::errors::token_error;
 use crate::generated::format::Format;
 use crate::generated::literal::{mode_of, write_literal};
-use crate::generated::part::{TokenInText, write_in_class, write_malformed};
+use crate::generated::part::{
+    TokenInText, before_return, write_in_class, write_return, write_with_error,
+};
 use core::fmt;
 use rustc_lexer::generated::{Edition, byte_order_mark_len, tokenize_document, tokenize_in};
 
@@ -75,21 +77,34 @@ pub fn write_first_tokens<W: fmt::Write>(
     Ok(())
 }
 
-/// Writes a token with the markup of its class. If the token has an error, the markup of the error is around its first
-/// line. In a literal that has no error of its kind, each escape and each error in its contents has its own markup.
+/// Writes a token with markup, and then the carriage return of a CRLF whose newline is in the next token.
 fn write_token<W: fmt::Write>(
     format: Format,
     edition: Edition,
     token: TokenInText<'_>,
     output: &mut W,
 ) -> fmt::Result {
+    write_with_class(format, edition, token, output)?;
+    write_return(format, token, output)
+}
+
+/// Writes a token without such a carriage return, with the markup of its class. If the token has an error, the markup
+/// of the error is around its first line. In a literal that has no error of its kind, each escape and each error in its
+/// contents has its own markup.
+fn write_with_class<W: fmt::Write>(
+    format: Format,
+    edition: Edition,
+    token: TokenInText<'_>,
+    output: &mut W,
+) -> fmt::Result {
     let TokenInText { kind, text, .. } = token;
+    let shown = before_return(token);
     let class = class_of(kind, text, edition);
     if let Some(error) = token_error(kind, text, edition) {
-        return write_malformed(format, error, class, token, output);
+        return write_with_error(format, error, class, shown, output);
     }
     match mode_of(kind) {
-        None => write_in_class(format, class, text, output),
-        Some(mode) => write_literal(format, mode, text, output),
+        None => write_in_class(format, class, shown, output),
+        Some(mode) => write_literal(format, mode, shown, output),
     }
 }

@@ -20,34 +20,34 @@ pub struct TokenInText<'a> {
     pub next: &'a str,
 }
 
-/// Writes a token with an error. The carriage return of a CRLF whose newline is in the next token is not part of the
-/// error.
-pub fn write_malformed<W: fmt::Write>(
+/// Returns the text of a token without the carriage return of a CRLF whose newline is in the next token.
+pub fn before_return<'a>(token: TokenInText<'a>) -> &'a str {
+    let text = token.text;
+    if is_cut_line_end(text, token.next) {
+        &text[..text.len() - 1]
+    } else {
+        text
+    }
+}
+
+/// Writes that carriage return, if there is one.
+pub fn write_return<W: fmt::Write>(
     format: Format,
-    error: TokenError,
-    class: Class,
     token: TokenInText<'_>,
     output: &mut W,
 ) -> fmt::Result {
-    let text = token.text;
-    if is_cut_line_end(text, token.next) {
-        write_with_error(format, error, class, &text[..text.len() - 1], output)?;
-        return write_return(format, output);
+    if !is_cut_line_end(token.text, token.next) {
+        return Ok(());
     }
-    write_with_error(format, error, class, text, output)
+    output.write_str(match format {
+        Format::Html => entity(b'\r'),
+        Format::Colours | Format::NoColours | Format::Raw => "\r",
+    })
 }
 
 /// Returns whether a token ends between the carriage return and the newline of a CRLF. `next` is the text after it.
 fn is_cut_line_end(text: &str, next: &str) -> bool {
     text.ends_with('\r') && next.starts_with('\n')
-}
-
-/// Writes the carriage return of a CRLF whose newline is in the next token.
-fn write_return<W: fmt::Write>(format: Format, output: &mut W) -> fmt::Result {
-    output.write_str(match format {
-        Format::Html => entity(b'\r'),
-        Format::Colours | Format::NoColours | Format::Raw => "\r",
-    })
 }
 
 /// Writes a part with an error. The markup of the error is around its first line, and the markup of the class around
@@ -82,21 +82,16 @@ pub fn write_in_class<W: fmt::Write>(
         return Ok(());
     }
     output.write_str(class_open(format, class))?;
-    write_shown(format, class, text, output)?;
+    write_shown(format, text, output)?;
     output.write_str(class_close(format, class))
 }
 
 /// Writes a part without markup: with entities in HTML, unchanged in the format `Raw`, and with symbols for control
 /// characters otherwise.
-fn write_shown<W: fmt::Write>(
-    format: Format,
-    class: Class,
-    text: &str,
-    output: &mut W,
-) -> fmt::Result {
+fn write_shown<W: fmt::Write>(format: Format, text: &str, output: &mut W) -> fmt::Result {
     match format {
         Format::Html => write_escaped(text, output),
-        Format::Colours | Format::NoColours => write_seen(class, text, output),
+        Format::Colours | Format::NoColours => write_seen(text, output),
         Format::Raw => output.write_str(text),
     }
 }
