@@ -5,7 +5,7 @@ use Rattle.rustc_lexer.specs.declared.{edition.{Edition.{Edition}}, token.Token.
 use Rattle.rustc_lexer.specs.declared.token.LiteralKind.{LiteralKind, TheVariants.{Int, Float}}
 use Rattle.rustc_lexer.specs.declared.token.TokenKind.{TokenKind, TheVariants.{Literal}}
 use Rattle.rustc_lexer.specs.Kinds.{kind_entry, literal_entry}
-use Rattle.rustc_lexer_c.specs.{declared.token.CToken.{CToken}, Errors.{kind_of}}
+use Rattle.rustc_lexer_c.specs.{declared.token.CToken.{CToken}, model.Errors.{kind_of}}
 use Rattle.rustc_lexer_c.specs.Numbers.{first_of, literal_second, literal_third, second_of, third_of, token_numbers}
 use Rattle.rustc_lexer_highlight.specs.{Class.{class_of}, TokenError.{token_error}}
 

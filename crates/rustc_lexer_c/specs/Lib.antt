@@ -12,3 +12,4 @@ pub mod Boundary
 pub mod Splice
 pub mod Buffer
 pub mod Status
+pub mod model

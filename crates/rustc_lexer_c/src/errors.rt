@@ -4,13 +4,14 @@ ghost use Rattle.std.specs.Fmt.{WritesInCalls};
 ghost use Rattle.rustc_lexer.specs.declared.edition.Edition.{Edition};
 ghost use Rattle.rustc_lexer.specs.declared.token.Token.{Token};
 ghost use Rattle.rustc_lexer.specs.LanguageCalls.{edition_of_year};
-ghost use Rattle.rustc_lexer_highlight.specs.Class.{class_of};
+ghost use Rattle.rustc_lexer_highlight.specs.Class.{class_number, class_of};
 ghost use Rattle.rustc_lexer_highlight.specs.TokenError.{token_error};
 ghost use Rattle.rustc_lexer_c.specs.Errors as spec;
+ghost use Rattle.rustc_lexer_c.specs.model.Errors as model;
 ghost use Rattle.rustc_lexer_c.specs.Highlighted.{IsFront};
 ghost use Rattle.rustc_lexer_c.specs.Numbers.{token_numbers};
 ghost use Rattle.rustc_lexer_c.specs.declared.status.Refusal.TheVariants.{BadEdition, SmallBuffer};
-ghost use Rattle.rustc_lexer_c.specs.Status.{OK, Writes, refusal_number};
+ghost use Rattle.rustc_lexer_c.specs.Status.{IsStatus, OK, refusal_number};
 
 use crate::buffer::Buffer;
 use crate::relex::edition_of;
@@ -29,10 +30,11 @@ pub extern "C" fn rustc_lexer_class(
     edition: u32,
     number: &mut u32,
 ) -> u32
-    ensures class { Writes text.now (edition_of_year edition ≢ None) (refusal_number BadEdition)
-        (spec.class_in token.now text.now (edition_of_year edition)) 0 number.new result }
-    ensures same { (it : Token) (year : Edition) → token_numbers it ≡ token.now
-        → class_of (spec.kind_of token.now) text.now year ≡ class_of it.kind text.now year }
+    ensures status { IsStatus text.now (edition_of_year edition ≢ None) (refusal_number BadEdition) result }
+    ensures class { result ≡ OK → (year : Edition) → edition_of_year edition ≡ Some year
+        → (it : Token) → token_numbers it ≡ token.now
+        → number.new ≡ class_number (class_of it.kind text.now year) }
+    ensures refused { result ≢ OK → number.new ≡ 0 }
 {
     let text = match text_of(text) {
         Ok(text) => text,
@@ -57,10 +59,11 @@ pub extern "C" fn rustc_lexer_token_error(
     edition: u32,
     number: &mut u32,
 ) -> u32
-    ensures error { Writes text.now (edition_of_year edition ≢ None) (refusal_number BadEdition)
-        (spec.error_in token.now text.now (edition_of_year edition)) 0 number.new result }
-    ensures same { (it : Token) (year : Edition) → token_numbers it ≡ token.now
-        → token_error (spec.kind_of token.now) text.now year ≡ token_error it.kind text.now year }
+    ensures status { IsStatus text.now (edition_of_year edition ≢ None) (refusal_number BadEdition) result }
+    ensures error { result ≡ OK → (year : Edition) → edition_of_year edition ≡ Some year
+        → (it : Token) → token_numbers it ≡ token.now
+        → number.new ≡ spec.number_of (token_error it.kind text.now year) }
+    ensures refused { result ≢ OK → number.new ≡ 0 }
 {
     let text = match text_of(text) {
         Ok(text) => text,
@@ -90,12 +93,11 @@ pub extern "C" fn rustc_lexer_token_error_message(
 ) -> u32
     ensures status { spec.IsMessageStatus text.now edition result }
     ensures message { result ≡ OK → (year : Edition) → edition_of_year edition ≡ Some year
-        → IsFront (spec.message_of (token_error (spec.kind_of token.now) text.now year))
-        buffer.old buffer.new written.new }
+        → (it : Token) → token_numbers it ≡ token.now
+        → IsFront (spec.message_of (token_error it.kind text.now year)) buffer.old buffer.new
+        written.new }
     ensures refused { result ≢ OK → written.new ≡ 0 }
     ensures unchanged { result ≢ OK → result ≢ refusal_number SmallBuffer → buffer.new ≡ buffer.old }
-    ensures same { (it : Token) (year : Edition) → token_numbers it ≡ token.now
-        → token_error (spec.kind_of token.now) text.now year ≡ token_error it.kind text.now year }
 {
     *written = 0;
     let text = match text_of(text) {
@@ -137,7 +139,7 @@ fn number_of(error: Option<TokenError>) -> u32
 
 /// Returns the kind with these numbers, as far as the class or the error depends on it.
 fn kind_of(token: &CToken) -> TokenKind
-    ensures { result ≡ spec.kind_of token.now }
+    ensures { result ≡ model.kind_of token.now }
 {
     let (first, second) = (token.first != 0, token.second != 0);
     let doc_style = if first { Some(DocStyle::Outer) } else { None };
@@ -173,7 +175,7 @@ fn kind_of(token: &CToken) -> TokenKind
 
 /// Returns the kind of literal with these numbers, as far as the class or the error depends on it.
 fn literal_of(token: &CToken) -> LiteralKind
-    ensures { result ≡ spec.literal_of token.now }
+    ensures { result ≡ model.literal_of token.now }
 {
     let base = base_of(token.second);
     let (terminated, empty) = (token.second != 0, token.third != 0);
@@ -199,7 +201,7 @@ fn literal_of(token: &CToken) -> LiteralKind
 
 /// Returns the base with this number.
 fn base_of(number: u8) -> Base
-    ensures { result ≡ spec.base_of number }
+    ensures { result ≡ model.base_of number }
 {
     match number {
         2 => Base::Binary,
