@@ -72,13 +72,13 @@ past_piece s t token rest next utf8 place step back = (
 
 module _ {W : Type 0} (took : W → List ℕ → W → Type 0) where
   -- Writing a token and then the rest writes all tokens.
-  pub writes_token : (format : Format) (edition : Edition) (w0 w1 w : W) (text rest own : List ℕ)
-      (left others : List Token) (token : Token)
-      → left ≡ token ∷ others → rest ≡ drop token.len text → own ≡ take token.len text
-      → WritesInCalls took w0 (with_markup format (token_parts edition token.kind own rest)) w1
+  pub writes_token : (format : Format) (edition : Edition) (w0 w1 w : W) (text rest : List ℕ)
+      (left others : List Token) (token : Token) → left ≡ token ∷ others → rest ≡ drop token.len text
+      → WritesInCalls took w0
+      (with_markup format (token_parts edition token.kind (take token.len text) (drop token.len text))) w1
       → WritesInCalls took w1 (marked_tokens format edition rest others) w
       → WritesInCalls took w0 (marked_tokens format edition text left) w
-  writes_token format edition w0 w1 w text rest own left others token first past is wrote more =
+  writes_token format edition w0 w1 w text rest left others token first past wrote more =
       grind (arith, common_steps, writes_parts)
 
   -- Writing the byte order mark and then the shebang line writes the text before the first token.

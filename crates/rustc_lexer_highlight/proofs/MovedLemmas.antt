@@ -1,13 +1,13 @@
 -- The contents of a literal in a file, and the same contents with LF line endings.
 use Rattle.std.proofs.Common.{◌≡◌, ℕ, zero, suc, add-zero, ◌+◌, ◌≤◌, ◌⊎◌, inl, inr, nat_lt, get_or, append-nil}
 use Rattle.std.proofs.Common.{IsCharBoundary, IsUtf8, Bool, true, List, [], ◌∷◌, length, map, refl, ap, arith}
-use Rattle.std.proofs.Common.{Option, Result}
+use Rattle.std.proofs.Common.{Option, Result, sym, true≢false}
 use Rattle.std.specs.{Option.{option_map}, Result.{result_err}, Str.{chars}}
 use Rattle.std.proofs.lemmas.{Bool.{cases_lt, Decides.{nat_tests}}, Grind.{common_steps}, List.{map-append}}
 use Rattle.std.proofs.lemmas.List.Elements.{All-cons, All-head, All-nil, All-tail}
 use Rattle.rustc_literal_escaper.proofs.{AnswerLemmas.{literal_read}, PlacedLemmas.{are_placed}}
 use Rattle.rustc_literal_escaper.specs.{Answers.{items_of, single_of, without_range}, Grammar.{Error, Item}}
-use Rattle.rustc_literal_escaper.specs.{Items.{ArePlaced, IsPlaced}, Meaning.{byte_of, char_of, error_of}}
+use Rattle.rustc_literal_escaper.specs.{Items.{ArePlaced, IsPlaced}, Meaning.{byte_of, char_of, error_of, is_single}}
 use Rattle.rustc_literal_escaper.specs.declared.{element.Element.{Element}, error.EscapeError.{EscapeError}}
 use Rattle.rustc_literal_escaper.specs.declared.mode.Mode.{Mode, TheVariants.{Char, Byte}}
 use Rattle.rustc_literal_escaper.specs.laws.Escape.{by_either}
@@ -117,13 +117,8 @@ single-error meaning mode text is same =
     )
 
 -- Returns `Char` for a mode without single quotes.
-abbrev pub alone_mode : Mode → Mode
-alone_mode Byte = Byte
-alone_mode mode = Char
-
-pub error_found : (mode picked : Mode) (text : List ℕ) (found : Option Error) → IsUtf8 text → picked ≡ alone_mode mode
-    → found ≡ single_left text picked (unix (chars text)) → option_map (λ (e : Error). e.1) found ≡ char_error mode text
-error_found Byte picked text found is pick f =
-    rw (f, pick) (single-error byte_of Byte text is (λ e. refl))
-error_found mode picked text found is pick f =
-    rw (f, pick) (single-error char_of Char text is (λ e. refl))
+pub error_found : (mode : Mode) (text : List ℕ) (found : Option Error) → IsUtf8 text → is_single mode ≡ true
+    → found ≡ single_left text mode (unix (chars text)) → option_map (λ (e : Error). e.1) found ≡ char_error mode text
+error_found Byte text found is single f = rw f (single-error byte_of Byte text is (λ e. refl))
+error_found Char text found is single f = rw f (single-error char_of Char text is (λ e. refl))
+error_found mode text found is single f = absurd (true≢false (sym single))

@@ -1,6 +1,7 @@
 //! Writes a text with its shebang line and its tokens highlighted, for a terminal or for the inside of an HTML page.
-ghost use Rattle.std.specs.Prelude.{◌≡◌, OnOk, take, true};
+ghost use Rattle.std.specs.Prelude.{◌≡◌, drop, IfOk, OnOk, take, true};
 ghost use Rattle.std.specs.Fmt.{WritesInCalls};
+ghost use Rattle.std.specs.Str.{IsCharBoundary};
 ghost use Rattle.rustc_lexer.specs.Classes.{Fits};
 ghost use Rattle.rustc_lexer.specs.LanguageText.{part};
 ghost use Rattle.rustc_lexer.specs.Tokens.{tokens_of};
@@ -18,7 +19,7 @@ use crate::errors::token_error;
 use crate::format::Format;
 use crate::literal::{mode_of, write_literal};
 use crate::part::{TokenInText, before_return, write_in_class, write_return, write_with_error};
-use rustc_lexer::{Edition, byte_order_mark_len, tokenize_document, tokenize_in};
+use rustc_lexer::{Edition, Token, byte_order_mark_len, tokenize_document, tokenize_in};
 use std::fmt;
 
 /// Writes a document with its tokens highlighted, and with a message at each token that has an error.
@@ -45,14 +46,7 @@ pub fn write_highlighted<W: fmt::Write>(
     let start = text.len() - rest.len();
     write_start(format, &text[..start], output)?;
     for token in tokens {
-        let (piece, next) = rest.split_at(token.len as usize);
-        let found = TokenInText {
-            kind: token.kind,
-            text: piece,
-            next,
-        };
-        write_token(format, edition, found, output)?;
-        rest = next;
+        rest = write_token(format, edition, token, rest, output)?;
     }
     Ok(())
 }
@@ -91,34 +85,37 @@ pub fn write_first_tokens<W: fmt::Write>(
         let Some(token) = tokens.next() else {
             break;
         };
-        let (piece, next) = rest.split_at(token.len as usize);
-        let found = TokenInText {
-            kind: token.kind,
-            text: piece,
-            next,
-        };
-        write_token(format, edition, found, output)?;
-        rest = next;
+        rest = write_token(format, edition, token, rest, output)?;
         left -= 1;
     }
     Ok(())
 }
 
-/// Writes a token with markup, and then the carriage return of a CRLF whose newline is in the next token.
-#[tactic(auto, using(crate::proofs::PartLemmas::writes_parts, std::proofs::lemmas::Result::on_ok_weaker, std::proofs::lemmas::Grind::common_steps))]
-fn write_token<W: fmt::Write>(
+/// Writes the first token of a text with markup, and then the carriage return of a CRLF whose newline is in the next
+/// token. Returns the text after the token.
+#[tactic(auto, using(crate::proofs::PartLemmas::writes_parts, std::proofs::lemmas::Grind::common_steps))]
+fn write_token<'a, W: fmt::Write>(
     format: Format,
     edition: Edition,
-    token: TokenInText<'_>,
+    token: Token,
+    rest: &'a str,
     output: &mut W,
-) -> fmt::Result
-    requires fits { Fits token.text.now }
-    ensures { OnOk result (WritesInCalls W.write_str_gives output.old
-        (with_markup format (token_parts edition token.entry.kind
-        token.entry.text.now token.entry.next.now)) output.new) }
+) -> Result<&'a str, fmt::Error>
+    requires { IsCharBoundary rest.now token.len }
+    ensures next { IfOk result (λ next. next.now ≡ drop token.len rest.now) }
+    ensures written { OnOk result (WritesInCalls W.write_str_gives output.old
+        (with_markup format (token_parts edition token.kind (take token.len rest.now)
+        (drop token.len rest.now))) output.new) }
 {
-    write_with_class(format, edition, token, output)?;
-    write_return(format, token, output)
+    let (text, next) = rest.split_at(token.len as usize);
+    let found = TokenInText {
+        kind: token.kind,
+        text,
+        next,
+    };
+    write_with_class(format, edition, found, output)?;
+    write_return(format, found, output)?;
+    Ok(next)
 }
 
 /// Writes a token without such a carriage return, with the markup of its class. If the token has an error, the markup

@@ -1,5 +1,5 @@
 //! Writes literals with their escapes and errors highlighted.
-ghost use Rattle.std.specs.Prelude.{◌≡◌, ◌+◌, ◌≤◌, ◌<◌, ◌∷◌, [], drop, false, length, IfSome, OnOk};
+ghost use Rattle.std.specs.Prelude.{◌≡◌, ◌+◌, ◌≤◌, ◌<◌, ◌∷◌, [], drop, false, length, true, IfSome, OnOk};
 ghost use Rattle.std.specs.Fmt.{WritesInCalls};
 ghost use Rattle.std.specs.Str.{IsCharBoundary};
 ghost use Rattle.rustc_lexer.specs.Classes.{Fits};
@@ -13,7 +13,7 @@ ghost use Rattle.rustc_lexer_highlight.specs.Part.{Own, with_markup};
 
 use crate::class::Class;
 use crate::errors::TokenError;
-use crate::escape_errors_in_file::{self, is_raw};
+use crate::escape_errors_in_file::{is_raw, single_error};
 use crate::format::Format;
 use crate::line_ends::file_elements;
 use crate::part::{write_in_class, write_with_error};
@@ -162,9 +162,10 @@ fn last_offset(byte: u8, text: &str) -> usize
 
 /// Returns the look of the contents of a literal with single quotes, or `None` if they are plain.
 fn single_look(mode: Mode, inside: &str) -> Option<Look>
+    requires single { is_single mode ≡ true }
     ensures { result ≡ spec.char_look (spec.char_error mode inside.now) inside.now }
 {
-    match single_error(mode, inside) {
+    match error_in_quotes(mode, inside) {
         Some(error) => Some(Look::Wrong(error)),
         None if inside.starts_with('\\') => Some(Look::Escape),
         None => None,
@@ -172,14 +173,11 @@ fn single_look(mode: Mode, inside: &str) -> Option<Look>
 }
 
 /// Returns the error in the contents of a literal with single quotes, or `None` if there is none.
-fn single_error(mode: Mode, inside: &str) -> Option<EscapeError>
+fn error_in_quotes(mode: Mode, inside: &str) -> Option<EscapeError>
+    requires single { is_single mode ≡ true }
     ensures { result ≡ spec.char_error mode inside.now }
 {
-    let mode = match mode {
-        Mode::Byte => Mode::Byte,
-        _ => Mode::Char,
-    };
-    let (_, error) = escape_errors_in_file::single_error(inside, mode)?;
+    let (_, error) = single_error(inside, mode)?;
     Some(error)
 }
 
@@ -202,6 +200,7 @@ impl<'a> Painter<'a> {
         close: usize,
         output: &mut W,
     ) -> fmt::Result
+        requires single { is_single mode ≡ true }
         requires cut { IsCut self.old.text.now self.old.shown self.old.at }
         requires close { IsCharBoundary self.old.text.now close }
         requires order { self.old.at ≤ close }

@@ -9,7 +9,7 @@ use crate::generated::part::{
     TokenInText, before_return, write_in_class, write_return, write_with_error,
 };
 use core::fmt;
-use rustc_lexer::generated::{Edition, byte_order_mark_len, tokenize_document, tokenize_in};
+use rustc_lexer::generated::{Edition, Token, byte_order_mark_len, tokenize_document, tokenize_in};
 
 /// Writes a document with its tokens highlighted, and with a message at each token that has an error.
 ///
@@ -27,14 +27,7 @@ pub fn write_highlighted<W: fmt::Write>(
     let start = text.len() - rest.len();
     write_start(format, &text[..start], output)?;
     for token in tokens {
-        let (piece, next) = rest.split_at(token.len as usize);
-        let found = TokenInText {
-            kind: token.kind,
-            text: piece,
-            next,
-        };
-        write_token(format, edition, found, output)?;
-        rest = next;
+        rest = write_token(format, edition, token, rest, output)?;
     }
     Ok(())
 }
@@ -64,28 +57,30 @@ pub fn write_first_tokens<W: fmt::Write>(
         let Some(token) = tokens.next() else {
             break;
         };
-        let (piece, next) = rest.split_at(token.len as usize);
-        let found = TokenInText {
-            kind: token.kind,
-            text: piece,
-            next,
-        };
-        write_token(format, edition, found, output)?;
-        rest = next;
+        rest = write_token(format, edition, token, rest, output)?;
         left -= 1;
     }
     Ok(())
 }
 
-/// Writes a token with markup, and then the carriage return of a CRLF whose newline is in the next token.
-fn write_token<W: fmt::Write>(
+/// Writes the first token of a text with markup, and then the carriage return of a CRLF whose newline is in the next
+/// token. Returns the text after the token.
+fn write_token<'a, W: fmt::Write>(
     format: Format,
     edition: Edition,
-    token: TokenInText<'_>,
+    token: Token,
+    rest: &'a str,
     output: &mut W,
-) -> fmt::Result {
-    write_with_class(format, edition, token, output)?;
-    write_return(format, token, output)
+) -> Result<&'a str, fmt::Error> {
+    let (text, next) = rest.split_at(token.len as usize);
+    let found = TokenInText {
+        kind: token.kind,
+        text,
+        next,
+    };
+    write_with_class(format, edition, found, output)?;
+    write_return(format, found, output)?;
+    Ok(next)
 }
 
 /// Writes a token without such a carriage return, with the markup of its class. If the token has an error, the markup

@@ -3,7 +3,7 @@
 
 use crate::generated::class::Class;
 use crate::generated::errors::TokenError;
-use crate::generated::escape_errors_in_file::{self, is_raw};
+use crate::generated::escape_errors_in_file::{is_raw, single_error};
 use crate::generated::format::Format;
 use crate::generated::line_ends::file_elements;
 use crate::generated::part::{write_in_class, write_with_error};
@@ -123,7 +123,7 @@ fn last_offset(byte: u8, text: &str) -> usize {
 
 /// Returns the look of the contents of a literal with single quotes, or `None` if they are plain.
 fn single_look(mode: Mode, inside: &str) -> Option<Look> {
-    match single_error(mode, inside) {
+    match error_in_quotes(mode, inside) {
         Some(error) => Some(Look::Wrong(error)),
         None if inside.starts_with('\\') => Some(Look::Escape),
         None => None,
@@ -131,12 +131,8 @@ fn single_look(mode: Mode, inside: &str) -> Option<Look> {
 }
 
 /// Returns the error in the contents of a literal with single quotes, or `None` if there is none.
-fn single_error(mode: Mode, inside: &str) -> Option<EscapeError> {
-    let mode = match mode {
-        Mode::Byte => Mode::Byte,
-        _ => Mode::Char,
-    };
-    let (_, error) = escape_errors_in_file::single_error(inside, mode)?;
+fn error_in_quotes(mode: Mode, inside: &str) -> Option<EscapeError> {
+    let (_, error) = single_error(inside, mode)?;
     Some(error)
 }
 

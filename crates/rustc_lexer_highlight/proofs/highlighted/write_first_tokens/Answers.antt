@@ -13,12 +13,12 @@ one_less (suc n) all others token some is =
 pub loop-left-preserved : goal.loop-left-preserved
 loop-left-preserved g c =
     let step = c.in-Some.ensures.steps in
-    let cut = c.split_at.ensures in
-    let next = past_piece _ _ _ _ _ c.loop-left.invariant.utf8 c.loop-left.invariant.place step cut.back in
+    let wrote = c.in_ok-rest.ensures in
+    let next = past_piece _ _ _ _ _ c.loop-left.invariant.utf8 c.loop-left.invariant.place step wrote.next in
     record {
       utf8 = next.0;
       place = next.1;
       left = λ w more. c.loop-left.invariant.left w
-          (writes_token g.W.Write.write_str_gives _ _ _ _ w _ _ _ _ _ _ (one_less c.loop-left.left _ _ _
-          (omega (arith, c.loop-left-test.true)) step.first) cut.back cut.front c.in_ok-write_token.ensures more);
+          (writes_token g.W.Write.write_str_gives _ _ _ _ w _ _ _ _ _ (one_less c.loop-left.left _ _ _
+          (omega (arith, c.loop-left-test.true)) step.first) wrote.next wrote.written more);
     }

@@ -7,14 +7,13 @@ use Rattle.rustc_lexer_highlight.proofs.highlighted.write_highlighted.Goals as g
 pub loop-token-preserved : goal.loop-token-preserved
 loop-token-preserved g c =
     let step = c.in-Some.ensures.steps in
-    let cut = c.split_at.ensures in
-    let next = past_piece _ _ _ _ _ c.loop-token.invariant.utf8 c.loop-token.invariant.place step cut.back in
+    let wrote = c.in_ok-rest.ensures in
+    let next = past_piece _ _ _ _ _ c.loop-token.invariant.utf8 c.loop-token.invariant.place step wrote.next in
     record {
       utf8 = next.0;
       place = next.1;
       left = λ w more. c.loop-token.invariant.left w
-          (writes_token g.W.Write.write_str_gives _ _ _ _ w _ _ _ _ _ _ step.first cut.back cut.front
-          c.in_ok-write_token.ensures more);
+          (writes_token g.W.Write.write_str_gives _ _ _ _ w _ _ _ _ _ step.first wrote.next wrote.written more);
     }
 
 pub loop-token-init : goal.loop-token-init
