@@ -1,7 +1,6 @@
 pub mod CallLemmas
 pub mod EscapeLemmas
 pub mod FileErrorLemmas
-pub mod FrontmatterEndLemmas
 pub mod FrontmatterLemmas
 pub mod HighlightedLemmas
 pub mod KeywordLemmas

@@ -2,7 +2,6 @@ pub mod Answers
 pub mod Class
 pub mod Escape
 pub mod Frontmatter
-pub mod FrontmatterEnd
 pub mod Highlighted
 pub mod Keyword
 pub mod LineEnds

@@ -10,7 +10,7 @@ use Rattle.rustc_lexer.specs.declared.token.DocStyle.{DocStyle}
 use Rattle.rustc_lexer.specs.declared.token.LiteralKind.{LiteralKind}
 use Rattle.rustc_lexer.specs.declared.token.LiteralKind.TheVariants.{Int, Float, Byte, ByteStr, RawByteStr}
 use Rattle.rustc_lexer.specs.declared.token.TokenKind.{TokenKind}
-use Rattle.rustc_lexer.specs.declared.token.TokenKind.TheVariants.{LineComment, BlockComment, Frontmatter, RawIdent}
+use Rattle.rustc_lexer.specs.declared.token.TokenKind.TheVariants.{LineComment, BlockComment, RawIdent}
 use Rattle.rustc_lexer.specs.declared.token.TokenKind.TheVariants.{RawLifetime, Literal}
 use Rattle.rustc_lexer_highlight.specs.declared.errors.TokenError.{TokenError}
 use Rattle.rustc_lexer_highlight.specs.declared.errors.TokenError.TheVariants.{InvalidDigit, FloatOfBase, RawKeyword}
@@ -19,7 +19,6 @@ use Rattle.rustc_lexer_highlight.specs.declared.errors.TokenError.TheVariants.{B
 use Rattle.rustc_lexer_highlight.specs.declared.errors.TokenError.TheVariants.{BareCarriageReturnInFrontmatter}
 use Rattle.rustc_lexer_highlight.specs.declared.errors.TokenError.TheVariants.{TooManyDashes}
 use Rattle.rustc_lexer_highlight.specs.declared.errors.TokenError.TheVariants.{TextDirectionCodepoint}
-use Rattle.rustc_lexer_highlight.specs.Frontmatter.{dashes, is_of}
 
 -- Whether the text starts with a byte other than a newline.
 abbrev pub goes_on : List ℕ → Bool
@@ -46,6 +45,14 @@ comment_error None text = direction_error text
 comment_error (Some style) text =
     if has_bare_return text then Some BareCarriageReturnInDocComment else direction_error text
 
+abbrev pub is_of : List ℕ → ℕ → Bool
+is_of these b = list_any (λ d. d == b) these
+
+-- Returns how many dashes the text starts with.
+abbrev pub dashes : List ℕ → ℕ
+dashes text = prefix_len (is_of (codes "-")) text
+
+-- Returns the error in the text of a frontmatter.
 abbrev pub frontmatter_error : List ℕ → Option TokenError
 frontmatter_error text =
     if has_bare_return text then Some BareCarriageReturnInFrontmatter
@@ -87,12 +94,10 @@ literal_text_error (RawByteStr n_hashes) suffix_start text = suffix_error (drop 
 literal_text_error kind suffix_start text =
     option_or (suffix_error (drop suffix_start text)) (direction_error text)
 
--- Returns the error in the text of a token.
+-- Returns the error in the text of a token that is not a frontmatter.
 abbrev pub text_error : TokenKind → List ℕ → Option TokenError
 text_error (LineComment doc_style) text = comment_error doc_style text
 text_error (BlockComment doc_style terminated) text = comment_error doc_style text
-text_error (Frontmatter has_invalid_preceding_whitespace invalid_infostring) text =
-    frontmatter_error text
 text_error RawIdent text = raw_name_error text
 text_error RawLifetime text = raw_name_error text
 text_error (Literal kind suffix_start) text = literal_text_error kind suffix_start text

@@ -2,7 +2,7 @@
 use Rattle.std.specs.Prelude.{ℕ, ◌-◌, ◌==◌, Bool, true, false, ◌&&◌, not, nat_eq, nat_lt, if◌then◌else◌, List, ◌++◌}
 use Rattle.std.specs.Prelude.{codes, decimal, drop, Option, Some, None, Result, Ok, Err}
 use Rattle.std.specs.Option.{option_or}
-use Rattle.std.specs.Str.{byte, chars}
+use Rattle.std.specs.Str.{byte, chars, IsUtf8}
 use Rattle.rustc_lexer.specs.declared.edition.Edition.{Edition}
 use Rattle.rustc_lexer.specs.declared.edition.Edition.TheVariants.{E2015, E2018}
 use Rattle.rustc_lexer.specs.declared.token.LiteralKind.{LiteralKind}
@@ -40,8 +40,10 @@ use Rattle.rustc_lexer_highlight.specs.declared.errors.TokenError.TheVariants.{B
 use Rattle.rustc_lexer_highlight.specs.declared.errors.TokenError.TheVariants.{BareCarriageReturnInFrontmatter}
 use Rattle.rustc_lexer_highlight.specs.declared.errors.TokenError.TheVariants.{TooManyDashes}
 use Rattle.rustc_lexer_highlight.specs.declared.errors.TokenError.TheVariants.{TextDirectionCodepoint}
-use Rattle.rustc_lexer_highlight.specs.Frontmatter.{end_error, has_crlf}
+use Rattle.rustc_lexer_highlight.specs.Frontmatter.{IsFrontmatterError, Reading}
+use Rattle.rustc_lexer_highlight.specs.laws.Frontmatter.{the_error}
 use Rattle.rustc_lexer_highlight.specs.TextError.{text_error}
+use Rattle.rustc_literal_escaper.specs.Grammar.{TheOnly}
 use Rattle.rustc_literal_escaper.specs.Numbers.{error_message}
 
 -- Returns the error of a raw string for the reason why it is invalid.
@@ -78,20 +80,10 @@ literal_error (RawByteStr None) text = raw_error text 2
 literal_error (RawCStr None) text = raw_error text 2
 literal_error kind text = None
 
--- Returns the error of a frontmatter without leading whitespace. An error at its end comes before an invalid
--- infostring.
-abbrev pub front_error : Bool → Option TokenError → Option TokenError
-front_error has_more (Some error) = Some error
-front_error true None = Some InvalidInfostring
-front_error false None = None
-
--- Returns the error that the kind of a token implies in an edition. For frontmatters and raw strings, the text decides
--- which error it is. Before 2021, `k#a` is an identifier, `#` and an identifier, and has no error.
+-- Returns the error that the kind of a token implies in an edition, if it is not a frontmatter. For raw strings, the
+-- text decides which error it is. Before 2021, `k#a` is an identifier, `#` and an identifier, and has no error.
 abbrev pub kind_error : TokenKind → List ℕ → Edition → Option TokenError
 kind_error (BlockComment doc_style false) text edition = Some UnterminatedBlockComment
-kind_error (Frontmatter true invalid_infostring) text edition = Some WhitespaceBeforeFrontmatter
-kind_error (Frontmatter false invalid_infostring) text edition =
-    front_error (invalid_infostring && not (has_crlf (chars text))) (end_error text)
 kind_error InvalidIdent text edition = Some InvalidName
 kind_error UnknownPrefixToken text edition = Some UnknownPrefix
 kind_error ForcedKeywordIdent text E2015 = None
@@ -104,8 +96,19 @@ kind_error Unknown text edition = Some UnknownCharacter
 kind_error (Literal kind suffix_start) text edition = literal_error kind text
 kind_error kind text edition = None
 
--- Returns the error of a token in an edition. An error that its kind implies comes before an error in its text.
+-- Returns the error of a text that is a frontmatter whose token has these flags. It comes from a value whose type states
+-- that exactly this error is allowed.
+abbrev pub error_of_frontmatter : Bool → Bool → List ℕ → Option TokenError
+error_of_frontmatter space bad_label text =
+    let the : TheOnly (IsUtf8 text × Reading space bad_label text) (IsFrontmatterError space bad_label text) =
+    the_error space bad_label text in
+    the.answer
+
+-- Returns the error of a token in an edition. Except for frontmatters, an error that its kind implies comes before an
+-- error in its text.
 abbrev pub token_error : TokenKind → List ℕ → Edition → Option TokenError
+token_error (Frontmatter has_invalid_preceding_whitespace invalid_infostring) text edition =
+    error_of_frontmatter has_invalid_preceding_whitespace invalid_infostring text
 token_error kind text edition = option_or (kind_error kind text edition) (text_error kind text)
 
 -- Returns the number of an error in the C ABI. It never changes: a new error gets a new number.

@@ -1,2 +1,3 @@
+pub mod Frontmatter
 pub mod Literal
 pub mod Pieces

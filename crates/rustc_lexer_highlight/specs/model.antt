@@ -1,2 +1,3 @@
+pub mod Frontmatter
 pub mod LineEnds
 pub mod Literal

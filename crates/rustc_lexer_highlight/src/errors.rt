@@ -1,13 +1,11 @@
 //! Errors of malformed tokens, with their messages.
-ghost use Rattle.std.specs.Prelude.{◌≡◌, ◌&&◌, not, Some};
+ghost use Rattle.std.specs.Prelude.{◌≡◌, Some, false};
 ghost use Rattle.std.specs.Option.{option_or};
-ghost use Rattle.std.specs.Str.{chars};
 ghost use Rattle.rustc_lexer.specs.Classes.{Fits};
-ghost use Rattle.rustc_lexer_highlight.specs.TokenError.{error_number, token_error, front_error, literal_error};
+ghost use Rattle.rustc_lexer_highlight.specs.TokenError.{error_number, token_error, literal_error};
 ghost use Rattle.rustc_lexer_highlight.specs.TokenError.{raw_error, message};
-ghost use Rattle.rustc_lexer_highlight.specs.Frontmatter.{end_error, has_crlf};
-ghost use Rattle.rustc_lexer_highlight.specs.FrontmatterEnd.{TellsFrontmatter};
-ghost use Rattle.rustc_lexer_highlight.specs.TextError.{frontmatter_error, literal_text_error};
+ghost use Rattle.rustc_lexer_highlight.specs.model.Frontmatter.{error_in_front};
+ghost use Rattle.rustc_lexer_highlight.specs.TextError.{literal_text_error};
 
 use crate::frontmatter::{end_error, has_crlf};
 use crate::text_error::{
@@ -137,11 +135,9 @@ impl TokenError {
 ///
 /// Before 2021, `k#a` has no error: it is an identifier, `#` and an identifier. C strings are read as in later
 /// editions, although rustc reads the `c` or `cr` in `c"`, `cr"` and `cr#` as an identifier before 2021.
-#[tactic(auto, using(crate::proofs::FrontmatterEndLemmas::tells))]
 pub fn token_error(kind: TokenKind, text: &str, edition: Edition) -> Option<TokenError>
     requires fits { Fits text.now }
-    ensures error { result ≡ token_error kind text.now edition }
-    ensures frontmatter { TellsFrontmatter kind text.now (token_error kind text.now edition) }
+    ensures { result ≡ token_error kind text.now edition }
 {
     // Most tokens match the last arm. The calls are not inlined, so that this arm needs no stack frame.
     match kind {
@@ -184,8 +180,7 @@ pub fn token_error(kind: TokenKind, text: &str, edition: Edition) -> Option<Toke
 #[inline(never)]
 fn frontmatter_error(invalid_infostring: bool, text: &str) -> Option<TokenError>
     requires fits { Fits text.now }
-    ensures { result ≡ option_or (front_error (invalid_infostring && not (has_crlf (chars text.now)))
-        (end_error text.now)) (frontmatter_error text.now) }
+    ensures { result ≡ error_in_front false invalid_infostring text.now }
 {
     match end_error(text) {
         None if invalid_infostring && !has_crlf(text) => Some(TokenError::InvalidInfostring),

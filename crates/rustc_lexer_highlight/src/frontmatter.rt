@@ -3,7 +3,9 @@ ghost use Rattle.std.specs.Prelude.{◌≡◌, ◌≤◌, ◌<◌, ◌^◌, ℕ,
 ghost use Rattle.std.specs.List.{prefix_len};
 ghost use Rattle.std.specs.Str.{chars};
 ghost use Rattle.rustc_lexer.specs.Classes.{Fits, begins, is_horizontal_whitespace};
-ghost use Rattle.rustc_lexer_highlight.specs.Frontmatter as spec;
+ghost use Rattle.rustc_lexer_highlight.specs.Frontmatter.{is_end};
+ghost use Rattle.rustc_lexer_highlight.specs.TextError.{is_of};
+ghost use Rattle.rustc_lexer_highlight.specs.model.Frontmatter as model;
 
 use crate::errors::TokenError;
 use memchr::memrchr;
@@ -15,7 +17,7 @@ use rustc_literal_escaper::split_first;
 #[tactic(auto, using(crate::proofs::FrontmatterLemmas::ends_found, crate::proofs::FrontmatterLemmas::ends_none, std::proofs::lemmas::Grind::common_steps))]
 pub fn end_error(text: &str) -> Option<TokenError>
     requires fits { Fits text.now }
-    ensures { result ≡ spec.end_error text.now }
+    ensures { result ≡ model.end_error text.now }
 {
     let bytes = text.as_bytes();
     let Some(newline) = memrchr(b'\n', bytes) else {
@@ -30,7 +32,7 @@ pub fn end_error(text: &str) -> Option<TokenError>
 fn closing_error(opening: usize, line: &[u8]) -> Option<TokenError>
     requires opening { opening < 2 ^ 32 }
     requires line { Fits line.now }
-    ensures { result ≡ spec.closing_error opening line.now }
+    ensures { result ≡ model.closing_error opening line.now }
 {
     let blanks = run_of(b"\t ", line);
     let rest = &line[blanks..];
@@ -55,7 +57,7 @@ fn closing_error(opening: usize, line: &[u8]) -> Option<TokenError>
 /// Returns whether the rest of a line is empty, or is the carriage return of a CRLF.
 #[tactic(auto, unfolding(crate::specs::Frontmatter::is_end))]
 fn is_end(rest: &[u8]) -> bool
-    ensures { result ≡ spec.is_end rest.now }
+    ensures { result ≡ is_end rest.now }
 {
     rest.is_empty() || rest.len() == 1 && rest[0] == b'\r'
 }
@@ -63,7 +65,7 @@ fn is_end(rest: &[u8]) -> bool
 /// Returns the length of the longest prefix that consists of these bytes.
 #[tactic(auto, using(crate::proofs::FrontmatterLemmas::run_lemmas))]
 pub fn run_of(these: &[u8], bytes: &[u8]) -> usize
-    ensures value { result ≡ prefix_len (spec.is_of these.now) bytes.now }
+    ensures value { result ≡ prefix_len (is_of these.now) bytes.now }
     ensures inside { result ≤ length bytes.now }
 {
     let mut count = 0;
@@ -78,7 +80,7 @@ pub fn run_of(these: &[u8], bytes: &[u8]) -> usize
 
 /// Returns whether a CRLF ends the first line of a frontmatter, directly after its dashes and its infostring.
 pub fn has_crlf(text: &str) -> bool
-    ensures { result ≡ spec.has_crlf (chars text.now) }
+    ensures { result ≡ model.has_crlf (chars text.now) }
 {
     let name = skip(skip(text, |c| c == '-'), is_blank);
     let rest = skip(skip_infostring(name), is_blank);
@@ -87,7 +89,7 @@ pub fn has_crlf(text: &str) -> bool
 
 /// Returns the text after an infostring, or the whole text if it does not start with one.
 fn skip_infostring(text: &str) -> &str
-    ensures { chars result.now ≡ spec.past_infostring (chars text.now) }
+    ensures { chars result.now ≡ model.past_infostring (chars text.now) }
 {
     match split_first(text) {
         Some((first, rest)) if is_id_start(first) => {
@@ -105,11 +107,11 @@ fn is_blank(c: char) -> bool
 }
 
 /// Returns the text after its longest prefix of characters that pass the test.
-#[tactic(auto, using(crate::proofs::FrontmatterLemmas::skip_on, crate::proofs::FrontmatterLemmas::skip_ends, crate::proofs::FrontmatterLemmas::skip_all, std::proofs::lemmas::Grind::common_steps))]
+#[tactic(auto, using(crate::specs::laws::Frontmatter::skip_on, crate::specs::laws::Frontmatter::skip_ends, crate::proofs::FrontmatterLemmas::skip_all, std::proofs::lemmas::Grind::common_steps))]
 fn skip<F: Fn(char) -> bool>(text: &str, test: F) -> &str
     requires callable { F.IsAlwaysCallable test }
     ensures { (class : ℕ → Bool) → ((c : ℕ) (b : Bool) → F.post test c b → b ≡ class c)
-        → chars result.now ≡ spec.past_run class (chars text.now) }
+        → chars result.now ≡ model.past_run class (chars text.now) }
 {
     let mut left = text;
     'chars: while let Some((c, rest)) = split_first(left) {

@@ -1,6 +1,6 @@
 use Rattle.std.proofs.Common.{◌≡◌, ◌+◌, ◌-◌, ◌≤◌, length, drop}
 use Rattle.std.specs.List.{prefix_len}
-use Rattle.rustc_lexer_highlight.specs.Frontmatter.{is_of}
+use Rattle.rustc_lexer_highlight.specs.TextError.{is_of}
 use Rattle.rustc_lexer_highlight.proofs.frontmatter.run_of.Given as goal
 
 abbrev pub invariant-run : goal.invariant-run

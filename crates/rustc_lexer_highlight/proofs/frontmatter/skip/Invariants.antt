@@ -2,7 +2,7 @@ use Rattle.std.proofs.Common.{ℕ, Bool, ◌≡◌, length}
 use Rattle.std.specs.Str.{chars}
 use denote.Shadow.{shadow}
 use denote.Text.{Utf8}
-use Rattle.rustc_lexer_highlight.specs.Frontmatter.{past_run}
+use Rattle.rustc_lexer_highlight.specs.model.Frontmatter.{past_run}
 use Rattle.rustc_lexer_highlight.proofs.frontmatter.skip.Given as goal
 
 abbrev pub invariant-chars : goal.invariant-chars

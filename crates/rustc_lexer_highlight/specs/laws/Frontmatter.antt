@@ -1,22 +1,23 @@
--- The error at the end of a frontmatter follows from its lines.
+-- The error of a frontmatter follows from its first and its last line, and is the only one.
 use Rattle.std.proofs.Common.{◌≡◌, ℕ, zero, suc, ◌+◌, ◌-◌, ◌<◌, ◌≤◌, ◌==◌, nat_eq, nat_lt, not, ◌&&◌, ◌||◌, Bool, true}
 use Rattle.std.proofs.Common.{false, true≢false, if◌then◌else◌, List, [], ◌∷◌, ◌++◌, codes, length, take, drop, get_or}
 use Rattle.std.proofs.Common.{refl, sym, ap, ◌∙◌, subst, arith, append_assoc, append-nil, drop-drop, length-append}
 use Rattle.std.proofs.{Common.{take-append-drop, Option, Some, None, inl, inr}, Math.Seq.{drop-append_seam}}
 use Rattle.std.proofs.{Math.Seq.{get_or-append_seam}, lemmas.Bool.{and_from, and_parts, cases_eq, eq-eqb, eqb-true}}
+use Rattle.std.proofs.lemmas.Bool.{not_from_false, not_from_true}
 use Rattle.std.proofs.lemmas.Bool.{false_from_ne_true, ltb-false, ltb-true, ne_eqb, or_parts, Decides.{nat_tests}}
 use Rattle.std.proofs.lemmas.List.{nil_from_length, Elements.{All-from_get_or}, Folds.{list_all-append}}
-use Rattle.std.proofs.lemmas.List.{Folds.{list_any-append, list_any_at, list_any_none}, Sums.{prefix_len_is}}
+use Rattle.std.proofs.lemmas.List.{Folds.{list_any-append, list_any_at, list_any_none}, Sums.{prefix_len_is, suffix_len_is}}
 use Rattle.std.proofs.lemmas.Str.{char_from_byte, encode_ascii, encodes-append, encodes-chars, inside_one}
 use Rattle.std.proofs.lemmas.{Str.{length-encode, length-le-encodes, len_utf8_bounds}, Grind.{common_steps}}
-use Rattle.std.specs.{Char.{encode_utf8}, List.{after_last, list_all, list_any, prefix_len}, Option.{option_or}}
-use Rattle.std.specs.Str.{chars, encode_utf8_all, IsUtf8}
+use Rattle.std.specs.{Char.{encode_utf8}, List.{after_last, list_all, list_any, prefix_len, suffix_len}, Option.{option_or}}
+use Rattle.std.specs.Str.{byte, chars, encode_utf8_all, IsUtf8}
 use Rattle.memchr.specs.Find.{IsLastByte, is_byte}
 use Rattle.rustc_lexer.specs.Classes.{AreAll, Chars, NextIsNot, NextNotIn, begins, is_among, is_horizontal_whitespace}
 use Rattle.rustc_lexer.specs.Classes.{is_id_start, is_info, is_inline, is_whitespace, next_is}
 use Rattle.rustc_lexer.specs.FrontmatterGrammar.{IsBodyBefore, IsLabelBefore, IsOpeningBefore, endings, fence}
-use Rattle.rustc_lexer.specs.{declared.edition.{Edition.{Edition}}, laws.Choice.{by_either}}
-use Rattle.rustc_lexer.specs.declared.token.TokenKind.{TokenKind, TheVariants.{Frontmatter}}
+use Rattle.rustc_lexer.specs.laws.Choice.{by_either}
+use Rattle.rustc_literal_escaper.specs.Grammar.{TheOnly}
 use Rattle.rustc_lexer.specs.laws.{Choice.{by_test}, Fences.{begins-dashes, begins-enough}}
 use Rattle.rustc_lexer.specs.laws.{LanguageFrontmatter.{fence-length, run-fence}, LanguageRuns.{among, other_than}}
 use Rattle.rustc_lexer.specs.laws.LanguageRuns.{run-stops, run_len-here, start-word_start, word_start-no_space}
@@ -28,16 +29,38 @@ use Rattle.rustc_lexer_highlight.specs.declared.errors.TokenError.TheVariants.{U
 use Rattle.rustc_lexer_highlight.specs.declared.errors.TokenError.TheVariants.{WhitespaceBeforeFrontmatterClose}
 use Rattle.rustc_lexer_highlight.specs.declared.errors.TokenError.TheVariants.{FrontmatterCloseMismatch}
 use Rattle.rustc_lexer_highlight.specs.declared.errors.TokenError.TheVariants.{ExtraAfterFrontmatterClose}
-use Rattle.rustc_lexer_highlight.specs.Frontmatter.{blanks, closing_error, dashes, end_error, is_end, is_of}
-use Rattle.rustc_lexer_highlight.specs.{Frontmatter.{past_infostring, past_run}, TokenError.{token_error, front_error}}
-use Rattle.rustc_lexer_highlight.specs.{TokenError.{kind_error}, TextError.{frontmatter_error}}
-use Rattle.rustc_lexer_highlight.specs.FrontmatterEnd.{EndsAfter, IsEndError, IsOpen, NoLineBegins, TellsFrontmatter}
-use Rattle.rustc_lexer_highlight.specs.FrontmatterEnd.{closed, indented, more_words, other_dashes, unclosed}
+use Rattle.rustc_lexer_highlight.specs.Frontmatter.{EndsAfter, IsEndError, IsErrorOf, IsFrontmatterError, IsOpen}
+use Rattle.rustc_lexer_highlight.specs.Frontmatter.{NoLineBegins, Reading, closed, front_error, indented, is_end}
+use Rattle.rustc_lexer_highlight.specs.Frontmatter.{more_words, other_dashes, unclosed}
+use Rattle.rustc_lexer_highlight.specs.TextError.{dashes, frontmatter_error, is_of}
+use Rattle.rustc_lexer_highlight.specs.model.Frontmatter.{blanks, closing_error, end_error, error_in_front, has_crlf}
+use Rattle.rustc_lexer_highlight.specs.model.Frontmatter.{past_infostring, past_run}
 use Rattle.rustc_literal_escaper.specs.Grammar.{is_newline}
-use Rattle.rustc_lexer_highlight.proofs.FrontmatterLemmas.{last-line, skip_ends, skip_on}
 use Rattle.rustc_lexer.specs.FrontmatterGrammar as the
 
+-- ---- the last line of a text
+
+-- The last line is the text after the last newline.
+pub last-line : (text : List ℕ) (n : ℕ) → IsLastByte (is_byte (byte "\n")) text (Some n)
+    → (list_any is_newline text ≡ true) × (after_last is_newline text ≡ drop (n + 1) text)
+last-line text n last =
+    let high = last.0.high in
+    let back : n + 1 - 1 ≡ n = omega arith in
+    let long = suffix_len_is (λ x. not (is_newline x)) text (n + 1) 0 (omega arith)
+    (λ k low less. not_from_false _ (false_from_ne_true _ (last.0.after k low less)))
+    (λ _. rw back (not_from_true _ last.1)) in
+    let here : length text - suffix_len (λ x. not (is_newline x)) text ≡ n + 1 = omega arith in
+    (list_any_at is_newline text n 0 high last.1, ap (λ (k : ℕ). drop k text) here)
+
 -- ---- runs
+
+-- Skipping a run character by character.
+module _ (p : ℕ → Bool) (s t : List ℕ) (c : ℕ) (front : s ≡ c ∷ t) where
+  pub skip_on : p c ≡ true → past_run p t ≡ past_run p s
+  skip_on e = let one : 1 + prefix_len p t ≡ suc (prefix_len p t) = omega arith in rw (front, e, one) refl
+
+  pub skip_ends : p c ≡ false → past_run p s ≡ s
+  skip_ends e = rw (front, e) refl
 
 past-here : (p : ℕ → Bool) (w next : Chars) → AreAll p w → NextIsNot p next → past_run p (w ++ next) ≡ next
 past-here p [] [] all stop = refl
@@ -265,6 +288,37 @@ record Told (n : ℕ) (next body : Chars) : Type 0 where
   same : (front : Chars) → dashes (encode_utf8_all (front ++ body)) ≡ n → AreAll is_inline front
       → end_error (encode_utf8_all (front ++ body)) ≡ end
 
+-- The error by the parts of the last line: blanks, d dashes, blanks, and the rest.
+module _ (n d : ℕ) (u bs cs end : Chars) (blank : AreAll is_horizontal_whitespace bs)
+    (first_stop : NextIsNot is_horizontal_whitespace (fence d ++ (cs ++ end)))
+    (stop : NextNotIn (codes "-") (cs ++ end)) (end_blank : AreAll is_horizontal_whitespace cs)
+    (end_stop : NextIsNot is_horizontal_whitespace end)
+    (inline : AreAll is_inline (bs ++ (fence d ++ (cs ++ end)))) where
+  closing-read : closing_error n (encode_utf8_all (bs ++ (fence d ++ (cs ++ end)))) ≡ verdict n bs d end
+  closing-read =
+      rw (
+        run-encode (codes "\t ") refl bs (fence d ++ (cs ++ end)) blank first_stop,
+        drop-encode (codes "\t ") refl bs
+            (fence d ++ (cs ++ end)) blank,
+      )
+      (rw (dashes-encode d (cs ++ end) stop, drop-dashes d (cs ++ end))
+      (rw (
+        run-encode (codes "\t ") refl cs end end_blank end_stop,
+        drop-encode (codes "\t ") refl cs end end_blank,
+        end-encode end,
+      ) refl))
+
+  line-read : (front : Chars)
+      → dashes (encode_utf8_all (front ++ (u ++ 10 ∷ (bs ++ (fence d ++ (cs ++ end)))))) ≡ n
+      → end_error (encode_utf8_all (front ++ (u ++ 10 ∷ (bs ++ (fence d ++ (cs ++ end)))))) ≡ verdict n bs d end
+  line-read front run =
+      let line : Chars = bs ++ (fence d ++ (cs ++ end)) in
+      let text : Chars = (front ++ u) ++ 10 ∷ line in
+      let whole : front ++ (u ++ 10 ∷ line) ≡ text = sym (append_assoc front u (10 ∷ line)) in
+      let past = last-encode (front ++ u) line inline in
+      let opens : dashes (encode_utf8_all text) ≡ n = rw whole at run in
+      rw (whole, past.0, past.1, opens) closing-read
+
 module _ (n d : ℕ) (next u bs cs end : Chars) (many : 3 ≤ n) (blank : AreAll is_horizontal_whitespace bs)
     (first_stop : NextIsNot is_horizontal_whitespace (fence d ++ (cs ++ end)))
     (stop : NextNotIn (codes "-") (cs ++ end)) (end_blank : AreAll is_horizontal_whitespace cs)
@@ -280,20 +334,6 @@ module _ (n d : ℕ) (next u bs cs end : Chars) (many : 3 ≤ n) (blank : AreAll
 
   plain : AreAll is_inline (fence d ++ (cs ++ end))
   plain = all-past is_inline bs (fence d ++ (cs ++ end)) inline
-
-  closing-read : closing_error n (encode_utf8_all line) ≡ verdict n bs d end
-  closing-read =
-      rw (
-        run-encode (codes "\t ") refl bs (fence d ++ (cs ++ end)) blank first_stop,
-        drop-encode (codes "\t ") refl bs
-            (fence d ++ (cs ++ end)) blank,
-      )
-      (rw (dashes-encode d (cs ++ end) stop, drop-dashes d (cs ++ end))
-      (rw (
-        run-encode (codes "\t ") refl cs end end_blank end_stop,
-        drop-encode (codes "\t ") refl cs end end_blank,
-        end-encode end,
-      ) refl))
 
   no-dashes : d < 3 → (ws : Chars) → EndsAfter ws body → ⊥
   unfolding encode_utf8
@@ -336,12 +376,7 @@ module _ (n d : ℕ) (next u bs cs end : Chars) (many : 3 ≤ n) (blank : AreAll
         (λ none. at-once (nil_from_length bs (omega (arith, ltb-false 0 (length bs) none))) (ltb-false d 3 enough)));
     free = λ free. by_either (nat_lt d 3) (λ few. rw few refl)
         (λ enough. absurd (free.1 bs (ends_after d u bs (cs ++ end) (ltb-false d 3 enough) blank plain)));
-    same = λ front run clean.
-        let text : Chars = (front ++ u) ++ 10 ∷ line in
-        let whole : front ++ body ≡ text = sym (append_assoc front u (10 ∷ line)) in
-        let past = last-encode (front ++ u) line inline in
-        let opens : dashes (encode_utf8_all text) ≡ n = rw whole at run in
-        rw (whole, past.0, past.1, opens) closing-read;
+    same = λ front run clean. line-read n d u bs cs end blank first_stop stop end_blank end_stop inline front run;
   }
 
 -- Divides the last line into blanks, dashes, blanks and the rest.
@@ -392,6 +427,117 @@ told-body n {next} many (the.other pattern none (the.with_line three u line is a
 told-body n {next} {body} many (the.other pattern none (the.other three lone left)) =
     told-lone n next many (has_last body) lone none
 
+-- ---- no other error is allowed
+
+-- Holds if an error is the one that is found, for each front of a text whose first line starts with n dashes.
+abbrev IsFound : ℕ → Chars → Option TokenError → Type 0
+IsFound n body error =
+    (front : Chars) → dashes (encode_utf8_all (front ++ body)) ≡ n → AreAll is_inline front
+    → end_error (encode_utf8_all (front ++ body)) ≡ error
+
+fence-stop : (n : ℕ) (s : Chars) → 0 < n → NextIsNot is_horizontal_whitespace (fence n ++ s)
+fence-stop zero s some = absurd (omega arith)
+fence-stop (suc n) s some = refl
+
+blank-stop : (w s : Chars) → AreAll is_horizontal_whitespace w → NextNotIn (codes "-") s
+    → NextNotIn (codes "-") (w ++ s)
+blank-stop [] s all stop = stop
+blank-stop (c ∷ w) s all stop =
+    let first = (and_parts (is_horizontal_whitespace c) (list_all is_horizontal_whitespace w) all).0 in
+    grind (arith, common_steps, nat_tests)
+
+-- The text after the fence of a last line without an error: nothing, or the carriage return of a CRLF.
+record EndsLine (end : Chars) : Type 0 where
+  no_dash : NextNotIn (codes "-") end
+  no_blank : NextIsNot is_horizontal_whitespace end
+  plain : AreAll is_inline end
+
+ends_line : (end : Chars) → is_end end ≡ true → EndsLine end
+unfolding is_end
+ends_line [] ends = record { no_dash = refl; no_blank = refl; plain = refl }
+ends_line (c ∷ []) ends =
+    let same : c ≡ 13 = eqb-true c 13 ends in
+    rw same record { no_dash = refl; no_blank = refl; plain = refl }
+ends_line (c ∷ d ∷ s) ends =
+    let none : is_end (c ∷ d ∷ s) ≡ false = grind (arith, nat_tests) in absurd (true≢false (sym ends ∙ none))
+
+verdict-same : (n : ℕ) (end : Chars) → 3 ≤ n
+    → verdict n [] n end ≡ (if is_end end then None else Some ExtraAfterFrontmatterClose)
+verdict-same n end many = grind (arith, common_steps, nat_tests)
+
+verdict-other : (n d : ℕ) (end : Chars) → 3 ≤ d → (d ≡ n → ⊥) → verdict n [] d end ≡ Some (FrontmatterCloseMismatch n d)
+verdict-other n d end enough other = grind (arith, common_steps, nat_tests)
+
+verdict-indented : (n d : ℕ) (bs end : Chars) → 3 ≤ d → 0 < length bs
+    → verdict n bs d end ≡ Some WhitespaceBeforeFrontmatterClose
+verdict-indented n d bs end enough some = grind (arith, common_steps, nat_tests)
+
+-- A last line that starts with n dashes.
+found-same : (n : ℕ) (u cs end : Chars) → 3 ≤ n → AreAll is_horizontal_whitespace cs
+    → NextIsNot is_horizontal_whitespace end → NextNotIn (codes "-") (cs ++ end) → AreAll is_inline end
+    → IsFound n (u ++ 10 ∷ (fence n ++ (cs ++ end))) (if is_end end then None else Some ExtraAfterFrontmatterClose)
+found-same n u cs end many blank end_stop stop plain front run clean =
+    let inline : AreAll is_inline (fence n ++ (cs ++ end)) =
+    inline-append (fence n) (cs ++ end) (fence-all is_inline refl n)
+    (inline-append cs end (all-inline is_horizontal_whitespace refl cs blank) plain) in
+    line-read n n u [] cs end refl (fence-stop n (cs ++ end) (omega arith)) stop blank end_stop inline front run
+    ∙ verdict-same n end many
+
+-- A last line that starts with m other dashes.
+found-other : (n m : ℕ) (u w : Chars) → 3 ≤ m → (m ≡ n → ⊥) → NextNotIn (codes "-") w → AreAll is_inline w
+    → IsFound n (u ++ 10 ∷ (fence m ++ w)) (Some (FrontmatterCloseMismatch n m))
+found-other n m u w enough other stop plain =
+    let cs : Chars = take (blanks_len w) w in
+    let end : Chars = drop (blanks_len w) w in
+    let cut : cs ++ end ≡ w = take-append-drop (blanks_len w) w in
+    let inline : AreAll is_inline (fence m ++ (cs ++ end)) =
+    rw cut (inline-append (fence m) w (fence-all is_inline refl m) plain) in
+    let stops : NextNotIn (codes "-") (cs ++ end) = rw cut stop in
+    let found : IsFound n (u ++ 10 ∷ (fence m ++ (cs ++ end))) (Some (FrontmatterCloseMismatch n m)) =
+    λ front run clean. line-read n m u [] cs end refl (fence-stop m (cs ++ end) (omega arith)) stops
+    (run_all is_horizontal_whitespace w) (run-stops is_horizontal_whitespace w) inline front run
+    ∙ verdict-other n m end enough other in
+    subst (λ (s : Chars). IsFound n (u ++ 10 ∷ (fence m ++ s)) (Some (FrontmatterCloseMismatch n m))) cut found
+
+-- A last line with blanks before at least three dashes.
+found-indented : (n : ℕ) (u bs w : Chars) → 0 < length bs → AreAll is_horizontal_whitespace bs → AreAll is_inline w
+    → IsFound n (u ++ 10 ∷ (bs ++ (fence 3 ++ w))) (Some WhitespaceBeforeFrontmatterClose)
+found-indented n u bs w some blank plain =
+    let k : ℕ = run_len is_dash w in
+    let rest : Chars = drop k w in
+    let cs : Chars = take (blanks_len rest) rest in
+    let end : Chars = drop (blanks_len rest) rest in
+    let d : ℕ = suc (suc (suc k)) in
+    let cut : cs ++ end ≡ rest = take-append-drop (blanks_len rest) rest in
+    let whole : fence k ++ (cs ++ end) ≡ w = cc (run-fence w, take-append-drop k w, cut) in
+    let stop : NextNotIn (codes "-") (cs ++ end) = rw cut (no_dash rest (run-stops is_dash w)) in
+    let left : AreAll is_inline (fence k ++ (cs ++ end)) = rw whole plain in
+    let inline : AreAll is_inline (bs ++ (fence d ++ (cs ++ end))) =
+    inline-append bs (fence d ++ (cs ++ end)) (all-inline is_horizontal_whitespace refl bs blank) left in
+    let found : IsFound n (u ++ 10 ∷ (bs ++ (fence 3 ++ (fence k ++ (cs ++ end)))))
+    (Some WhitespaceBeforeFrontmatterClose) =
+    λ front run clean. line-read n d u bs cs end blank refl stop (run_all is_horizontal_whitespace rest)
+    (run-stops is_horizontal_whitespace rest) inline front run
+    ∙ verdict-indented n d bs end (omega arith) some in
+    subst (λ (s : Chars). IsFound n (u ++ 10 ∷ (bs ++ (fence 3 ++ s))) (Some WhitespaceBeforeFrontmatterClose)) whole
+    found
+
+end-found : (n : ℕ) {next body : Chars} {error : Option TokenError} → 3 ≤ n → IsBodyBefore next (endings n) body
+    → IsEndError n next body error → IsFound n body error
+end-found n many is_body (closed u cs end blank ends) =
+    let the_end = ends_line end ends in
+    rw ends at (found-same n u cs end many blank the_end.no_blank (blank-stop cs end blank the_end.no_dash) the_end.plain)
+end-found n many is_body (more_words u cs c w blank out more stop plain) =
+    rw more at (found-same n u cs (c ∷ w) many blank out stop plain)
+end-found n many is_body (other_dashes u w m enough fewer stop plain) =
+    found-other n m u w enough (λ e. let less = (fewer (omega (arith, e))).0 in omega (arith, e, less)) stop plain
+end-found n {body = body} many is_body (indented bs none some ends) =
+    subst (λ (s : Chars). IsFound n s (Some WhitespaceBeforeFrontmatterClose)) (sym ends.2)
+    (found-indented n ends.0 bs ends.1 some ends.3 ends.4)
+end-found n many is_body (unclosed open_end) = λ front run clean.
+    let told = told-body n many is_body in
+    told.same front run clean ∙ told.free open_end
+
 -- ---- the label
 
 label-past : (body next : Chars) {label : Chars} → IsLabelBefore (body ++ next) label
@@ -416,18 +562,18 @@ label-past body next (the.named u c v w before start info info_stops after stop)
 
 -- ---- the error of the token
 
-opening-told : {n : ℕ} {bad_label : Bool} {opening body next : Chars} (text : List ℕ) (edition : Edition)
-    → IsOpeningBefore (body ++ next) n bad_label opening
-    → (told : Told n next body)
+opening-told : {n : ℕ} {bad_label : Bool} {opening body : Chars} (next text : List ℕ) (error : Option TokenError)
+    → IsOpeningBefore (body ++ next) n bad_label opening → IsFound n body error
     → chars text ≡ opening ++ body → encode_utf8_all (opening ++ body) ≡ text
-    → kind_error (Frontmatter (next_is is_whitespace opening) bad_label) text edition
+    → (if next_is is_whitespace opening then Some WhitespaceBeforeFrontmatter else front_error
+    (bad_label && not (has_crlf (chars text))) (end_error text))
     ≡ (if next_is is_whitespace opening then Some WhitespaceBeforeFrontmatter else front_error
-    (bad_label && not (begins (codes "\r\n") body)) told.end)
-opening-told text edition (the.opening n (c ∷ space) label spaces no_line many is stop) told reads whole =
+    (bad_label && not (begins (codes "\r\n") body)) error)
+opening-told next text error (the.opening n (c ∷ space) label spaces no_line many is stop) found reads whole =
     rw (and_parts (is_whitespace c) (list_all is_whitespace space) spaces).0 refl
-opening-told text edition (the.opening zero [] label spaces no_line many is stop) told reads whole =
+opening-told next text error (the.opening zero [] label spaces no_line many is stop) found reads whole =
     absurd (omega arith)
-opening-told {body = body} {next = next} text edition (the.opening (suc n) [] label spaces no_line many is stop) told
+opening-told {body = body} next text error (the.opening (suc n) [] label spaces no_line many is stop) found
     reads whole =
     let front : Chars = fence (suc n) ++ label in
     let split : front ++ body ≡ fence (suc n) ++ (label ++ body) = append_assoc (fence (suc n)) label body in
@@ -439,26 +585,40 @@ opening-told {body = body} {next = next} text edition (the.opening (suc n) [] la
     ∙ past-here is_dash (fence (suc n)) (label ++ body) (fence-all is_dash refl (suc n))
     (not_dash (label ++ body) stops) in
     let ends = ap end_error (sym whole)
-    ∙ told.same front run
+    ∙ found front run
     (inline-append (fence (suc n)) label (fence-all is_inline refl (suc n)) (label-inline is)) in
     rw (ends, name, label-past body next is) refl
 
-pub tells : (kind : TokenKind) (text : List ℕ) (edition : Edition) → IsUtf8 text
-    → TellsFrontmatter kind text (token_error kind text edition)
-tells kind text edition utf8 n bad_label opening body next opens is_body whole kind_is =
-    let told = told-body n (many opens) is_body in
-    let back = ap encode_utf8_all (sym whole) ∙ encodes-chars text utf8 in
-    record {
-      end = told.end;
-      is = told.is;
-      told = ap (λ (k : TokenKind). token_error k text edition) kind_is
-          ∙ ap (λ (error : Option TokenError). option_or error (frontmatter_error text))
-          (opening-told text edition opens told whole back);
-      exact = (λ e. open-is n (subst (IsEndError n next body) e told.is), told.free);
-    }
-  where
-    many : {n : ℕ} {bad_label : Bool} {opening next : Chars} → IsOpeningBefore next n bad_label opening → 3 ≤ n
-    many (the.opening n space label spaces no_line enough is stop) = enough
+many-dashes : {n : ℕ} {bad_label : Bool} {opening next : Chars} → IsOpeningBefore next n bad_label opening → 3 ≤ n
+many-dashes (the.opening n space label spaces no_line enough is stop) = enough
 
-    open-is : (n : ℕ) {next body : Chars} → IsEndError n next body (Some UnclosedFrontmatter) → IsOpen body next
-    open-is n (unclosed is) = is
+module _ (space bad_label : Bool) (text : List ℕ) (utf8 : IsUtf8 text) (r : Reading space bad_label text) where
+  -- The error that is found, by the error at the end.
+  found-told : (error : Option TokenError) → IsFound r.n r.body error → error_in_front space bad_label text
+      ≡ option_or
+      (if space then Some WhitespaceBeforeFrontmatter
+      else front_error (bad_label && not (begins (codes "\r\n") r.body)) error)
+      (frontmatter_error text)
+  found-told error found =
+      let back = ap encode_utf8_all (sym r.whole) ∙ encodes-chars text utf8 in
+      let told = rw r.starts at (opening-told r.next text error r.opens found r.whole back) in
+      ap (λ (e : Option TokenError). option_or e (frontmatter_error text)) told
+
+  pub error-is : IsErrorOf r (error_in_front space bad_label text)
+  error-is =
+      let told = told-body r.n (many-dashes r.opens) r.ends in
+      record { end = told.end; is = told.is; told = found-told told.end told.same }
+
+  pub error-only : (other : Option TokenError) → IsErrorOf r other → other ≡ error_in_front space bad_label text
+  error-only other is =
+      is.told ∙ sym (found-told is.end (end-found r.n (many-dashes r.opens) r.ends is.is))
+
+abbrev pub the_error : (space bad_label : Bool) (text : List ℕ)
+    → TheOnly (IsUtf8 text × Reading space bad_label text) (IsFrontmatterError space bad_label text)
+the_error space bad_label text = record {
+  answer = error_in_front space bad_label text;
+  only = λ p other. (
+    λ is. error-only space bad_label text p.0 p.1 other (is p.1),
+    λ e. subst (IsFrontmatterError space bad_label text) (sym e) (λ r. error-is space bad_label text p.0 r),
+  );
+}
