@@ -12,32 +12,32 @@ pub const EDITIONS: usize = Edition::ALL.len();
 
 /// The text, with its tokens in each edition.
 pub struct Source {
-    held: Held,
+    held: LexedModel,
     /// The offset at which each line starts.
     lines: Vec<usize>,
     last: Option<[Relexed; EDITIONS]>,
 }
 
 /// A text in each edition.
-enum Held {
+enum LexedModel {
     Fragment([LexedText; EDITIONS]),
     Document([LexedDocument; EDITIONS]),
 }
 
-impl Held {
-    fn new(text: &str, document: bool) -> Held {
+impl LexedModel {
+    fn new(text: &str, document: bool) -> LexedModel {
         if document {
-            Held::Document(from_fn(|at| LexedDocument::new_in(text, Edition::ALL[at])))
+            LexedModel::Document(from_fn(|at| LexedDocument::new_in(text, Edition::ALL[at])))
         } else {
-            Held::Fragment(from_fn(|at| LexedText::new_in(text, Edition::ALL[at])))
+            LexedModel::Fragment(from_fn(|at| LexedText::new_in(text, Edition::ALL[at])))
         }
     }
 
     fn edit(&mut self, range: Range<usize>, insert: &str) -> [Relexed; EDITIONS] {
         let range = || range.clone();
         match self {
-            Held::Fragment(texts) => texts.each_mut().map(|it| it.edit(range(), insert)),
-            Held::Document(texts) => texts.each_mut().map(|it| it.edit(range(), insert)),
+            LexedModel::Fragment(texts) => texts.each_mut().map(|it| it.edit(range(), insert)),
+            LexedModel::Document(texts) => texts.each_mut().map(|it| it.edit(range(), insert)),
         }
     }
 }
@@ -49,8 +49,8 @@ impl Source {
         let mut source = Source::new();
         source.change(text, document);
         source.held = match source.held {
-            Held::Fragment(_) => Held::Fragment(editions.map(|it| LexedText::new_in(text, it))),
-            Held::Document(_) => Held::Document(editions.map(|it| LexedDocument::new_in(text, it))),
+            LexedModel::Fragment(_) => LexedModel::Fragment(editions.map(|it| LexedText::new_in(text, it))),
+            LexedModel::Document(_) => LexedModel::Document(editions.map(|it| LexedDocument::new_in(text, it))),
         };
         source
     }
@@ -59,7 +59,7 @@ impl Source {
 impl Source {
     pub fn new() -> Source {
         Source {
-            held: Held::new("", false),
+            held: LexedModel::new("", false),
             lines: vec![0],
             last: None,
         }
@@ -67,38 +67,38 @@ impl Source {
 
     pub fn text(&self) -> &str {
         match &self.held {
-            Held::Fragment(texts) => texts[0].text(),
-            Held::Document(texts) => texts[0].text(),
+            LexedModel::Fragment(texts) => texts[0].text(),
+            LexedModel::Document(texts) => texts[0].text(),
         }
     }
 
     /// Returns the tokens in an edition, from `begin` on.
     pub fn tokens(&self, edition: usize) -> &[Token] {
         match &self.held {
-            Held::Fragment(texts) => texts[edition].tokens(),
-            Held::Document(texts) => texts[edition].tokens(),
+            LexedModel::Fragment(texts) => texts[edition].tokens(),
+            LexedModel::Document(texts) => texts[edition].tokens(),
         }
     }
 
     /// Returns the pieces of a range of tokens, by index.
     pub fn pieces_by_index(&self, edition: usize, numbers: Range<usize>) -> Pieces<'_> {
         match &self.held {
-            Held::Fragment(texts) => texts[edition].pieces_by_index(numbers),
-            Held::Document(texts) => texts[edition].pieces_by_index(numbers),
+            LexedModel::Fragment(texts) => texts[edition].pieces_by_index(numbers),
+            LexedModel::Document(texts) => texts[edition].pieces_by_index(numbers),
         }
     }
 
     /// Returns the offset of the first token: after a shebang line.
     pub fn begin(&self) -> usize {
         match &self.held {
-            Held::Fragment(_) => 0,
-            Held::Document(texts) => texts[0].tokens_start(),
+            LexedModel::Fragment(_) => 0,
+            LexedModel::Document(texts) => texts[0].tokens_start(),
         }
     }
 
     /// Returns whether the text is a whole document.
     pub fn is_document(&self) -> bool {
-        matches!(self.held, Held::Document(_))
+        matches!(self.held, LexedModel::Document(_))
     }
 
     /// Returns the counts of the last change in an edition, or `None` if it was a full re-lex.
@@ -137,8 +137,8 @@ impl Source {
     pub fn token_start_at(&self, edition: usize, byte: usize) -> (usize, usize) {
         let byte = byte.max(self.begin());
         let found = match &self.held {
-            Held::Fragment(texts) => texts[edition].token_start_at(byte),
-            Held::Document(texts) => texts[edition].token_start_at(byte),
+            LexedModel::Fragment(texts) => texts[edition].token_start_at(byte),
+            LexedModel::Document(texts) => texts[edition].token_start_at(byte),
         };
         found.map_or((self.tokens(edition).len(), self.text().len()), |at| {
             (at.index, at.offset)
@@ -161,7 +161,7 @@ impl Source {
         let (range, insert) = (front..old.len() - back, &new[front..new.len() - back]);
         if document != self.is_document() {
             self.last = None;
-            self.held = Held::new(new, document);
+            self.held = LexedModel::new(new, document);
         } else if !(range.is_empty() && insert.is_empty()) {
             self.last = Some(self.held.edit(range, insert));
         }
@@ -176,11 +176,11 @@ impl Source {
         for (number, &edition) in Edition::ALL.iter().enumerate() {
             let held = || self.tokens(number).iter().copied();
             let same = match self.held {
-                Held::Document(_) => tokenize_document(text, edition).eq(held()),
-                Held::Fragment(_) if edition == Edition::NEWEST => {
+                LexedModel::Document(_) => tokenize_document(text, edition).eq(held()),
+                LexedModel::Fragment(_) if edition == Edition::NEWEST => {
                     tokenize(text, FrontmatterAllowed::No).eq(held())
                 }
-                Held::Fragment(_) => tokenize_in(text, edition).eq(held()),
+                LexedModel::Fragment(_) => tokenize_in(text, edition).eq(held()),
             };
             if !same {
                 return edition.year().to_string();

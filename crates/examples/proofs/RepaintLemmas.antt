@@ -3,9 +3,9 @@ use Rattle.std.proofs.Common.{◌≡◌, ℕ, zero, suc, ◌+◌, ◌-◌, ◌<�
 use Rattle.std.proofs.Common.{refl, sym, ap, ◌∙◌, arith, drop-drop, take-take, take-append-drop, length-take-le}
 use Rattle.std.proofs.Common.{IsUtf8, Result, Ok, Err, IfOk, OnOk}
 use Rattle.std.proofs.lemmas.{Grind.{common_steps}, List.{drop-take}}
-use Rattle.rustc_lexer.specs.declared.{relex.relexing.{Change.{Change}, Relexed.{Relexed}}, token.Token.{Token}}
+use Rattle.rustc_lexer.specs.declared.{relex.relexer.{Change.{Change}, Relexed.{Relexed}}, token.Token.{Token}}
 use Rattle.rustc_lexer.specs.{Tokens.{bound, tokens_by}, Edits.{IsEdit, IsMeeting, IsRelexed, apply, fragment_by}}
-use Rattle.rustc_lexer.specs.{LexedText.{Placed, pieces_from}, Relexing.{IsEditOf}, model.Relexing.{kept_front}}
+use Rattle.rustc_lexer.specs.{LexedText.{PieceModel, pieces_from}, Relexer.{IsEditOf}, model.Relexer.{kept_front}}
 use Rattle.rustc_lexer.specs.{Locality.{has_two, IsGrammar}, Classes.{IsText}}
 use Rattle.rustc_lexer.proofs.lemmas.edits.FrontAndBack.{edited, has_two-before, bound-take, met_rest, same_rest}
 use Rattle.rustc_lexer.proofs.lemmas.edits.{Bounds.{cuts}, KeptFront.{kept_few, kept_tells}}
@@ -35,7 +35,7 @@ pieces-moved added removed text other from to (t ∷ ts) same at fits =
     cc (pieces-moved added removed text other (from + t.len) (to + t.len) ts next (omega arith) (omega arith))
 
 -- A list consists of its first k elements, the next n elements, and the rest.
-in_three : (k n : ℕ) (ps : List Placed) → ps ≡ take k ps ++ (take n (drop k ps) ++ drop (k + n) ps)
+in_three : (k n : ℕ) (ps : List PieceModel) → ps ≡ take k ps ++ (take n (drop k ps) ++ drop (k + n) ps)
 in_three k n ps = cc (take-append-drop k ps, take-append-drop n (drop k ps), drop-drop n k ps)
 
 kept_before : (text : List ℕ) (start : ℕ) (ts : List Token) (k : ℕ) → (0 < k → has_two text (bound ts k) start ≡ true)
@@ -68,10 +68,10 @@ module _ {first : List ℕ → Token} (law : IsGrammar first) (text : List ℕ) 
   few : kept ≤ length old
   few = kept_few text old start is.utf8 (cuts law text is)
 
-  abbrev shown : List Placed
+  abbrev shown : List PieceModel
   shown = pieces_from text 0 old
 
-  abbrev to_show : List Placed
+  abbrev to_show : List PieceModel
   to_show = pieces_from new_text 0 new
 
   front_shown : take kept to_show ≡ take kept shown

@@ -3,21 +3,21 @@ use Rattle.std.specs.Prelude.{ℕ, ◌+◌, ◌-◌, List, [], ◌∷◌, ◌++�
 use Rattle.rustc_lexer.specs.declared.token.TokenKind.{TokenKind}
 use Rattle.rustc_lexer.specs.declared.token.TokenKind.TheVariants.{LineComment, BlockComment, Literal, Lifetime}
 use Rattle.rustc_lexer.specs.declared.token.TokenKind.TheVariants.{RawLifetime, UnknownPrefixLifetime, Unknown}
-use Rattle.rustc_lexer.specs.declared.relex.relexing.Relexed.{Relexed}
-use Rattle.rustc_lexer.specs.LexedText.{Placed}
+use Rattle.rustc_lexer.specs.declared.relex.relexer.Relexed.{Relexed}
+use Rattle.rustc_lexer.specs.LexedText.{PieceModel}
 
 -- The changed pieces of a new text are the pieces that were lexed.
-abbrev pub changed : Relexed → List Placed → List Placed
+abbrev pub changed : Relexed → List PieceModel → List PieceModel
 changed relexed pieces = take relexed.lexed (drop relexed.kept_front pieces)
 
 -- A piece after an edit moves by as many bytes as the text grew or shrank.
-abbrev pub moved : ℕ → ℕ → Placed → Placed
+abbrev pub moved : ℕ → ℕ → PieceModel → PieceModel
 moved added removed piece =
     record { start = piece.start + added - removed; token = piece.token; text = piece.text }
 
 -- After an edit, the shown pieces are the pieces kept at the front, then the painted ones, then the pieces kept at the
 -- back, moved by as many bytes as the text grew or shrank.
-abbrev pub shown_after : Relexed → ℕ → ℕ → List Placed → List Placed → List Placed
+abbrev pub shown_after : Relexed → ℕ → ℕ → List PieceModel → List PieceModel → List PieceModel
 shown_after relexed added removed shown painted =
     take relexed.kept_front shown
     ++ (painted ++ map (moved added removed) (drop (length shown - relexed.kept_back) shown))
@@ -42,7 +42,7 @@ abbrev pub close_style : TokenKind → List ℕ
 close_style kind = close_after (open_style kind)
 
 -- Pieces are written one after another, each in the style of its kind.
-abbrev pub styled : List Placed → List ℕ
+abbrev pub styled : List PieceModel → List ℕ
 styled [] = []
 styled (piece ∷ pieces) =
     open_style piece.token.kind ++ (piece.text ++ (close_style piece.token.kind ++ styled pieces))

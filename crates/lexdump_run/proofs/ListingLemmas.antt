@@ -3,7 +3,7 @@ use Rattle.std.proofs.Common.{◌≡◌, ℕ, zero, suc, ◌+◌, ◌-◌, ◌<�
 use Rattle.std.proofs.Common.{ap, ◌∙◌, arith, append_assoc, length-drop, length-take-le, subst}
 use Rattle.std.proofs.{Math.Nat.{min-le_right}, lemmas.{Grind.{common_steps}, List.{nil_from_length}}}
 use Rattle.std.specs.Str.{IsUtf8}
-use Rattle.rustc_lexer.specs.{declared.token.Token.{Token}, LexedText.{Placed, pieces_from}, LanguageText.{Mode}}
+use Rattle.rustc_lexer.specs.{declared.token.Token.{Token}, LexedText.{PieceModel, pieces_from}, LanguageText.{Mode}}
 use Rattle.rustc_lexer.specs.{State.{State}, Tokens.{bound, tokens_left, tokens_of}, model.Tokens.{IsFilled}}
 use Rattle.rustc_lexer.specs.laws.Tokens.{partitions, tokens-nil}
 use Rattle.rustc_lexer.proofs.lemmas.edits.{Bounds.{bound_mono}, FrontAndBack.{bound-take}}
@@ -54,7 +54,7 @@ pub none_left : (s : State) → length s.rest ≡ 0 → tokens_left s ≡ []
 none_left s e = ap (tokens_of s.mode) (nil_from_length s.rest e) ∙ tokens-nil s.mode
 
 -- Pieces are listed in order, one line each.
-abbrev pub lines : List Placed → List ℕ
+abbrev pub lines : List PieceModel → List ℕ
 lines [] = []
 lines (p ∷ ps) = line_text p.start p.token ++ lines ps
 

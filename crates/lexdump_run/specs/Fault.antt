@@ -2,9 +2,9 @@
 use Rattle.std.specs.Prelude.{ℕ, ◌≡◌, Bool, true, List, [], ◌∷◌, ◌++◌, codes, decimal, Option, Some, None}
 use Rattle.std.specs.Prelude.{Result, Ok, Err, OnErr}
 use Rattle.std.specs.Io.KnownBytes.{Appends}
-use Rattle.rustc_lexer.specs.declared.relex.edit_list.EditStop.{EditStop}
-use Rattle.rustc_lexer.specs.declared.relex.edit_list.EditStop.TheVariants.{Range as RangeStop, TooLong as TooLongStop}
-use Rattle.rustc_lexer.specs.declared.relex.edit_list.EditStop.TheVariants.{Memory as MemoryStop}
+use Rattle.rustc_lexer.specs.declared.relex.edit_error.EditStop.{EditStop}
+use Rattle.rustc_lexer.specs.declared.relex.edit_error.EditStop.TheVariants.{Range as RangeStop, TooLong as TooLongStop}
+use Rattle.rustc_lexer.specs.declared.relex.edit_error.EditStop.TheVariants.{Memory as MemoryStop}
 use Rattle.lexdump_run.specs.Known.{AppendsFront}
 use Rattle.lexdump_run.specs.declared.fault.Fault.{Fault}
 use Rattle.lexdump_run.specs.declared.fault.Fault.TheVariants.{Arguments, NotUtf8, TooLong, EditRange, EditTooLong, Memory}

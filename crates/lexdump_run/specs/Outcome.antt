@@ -4,8 +4,8 @@ use Rattle.std.specs.Str.{IsUtf8}
 use Rattle.std.specs.Io.KnownBytes.{Keeps, Appends}
 use Rattle.lexdump_run.specs.Known.{AppendsFront}
 use Rattle.rustc_lexer.specs.declared.relex.edit.Edit.{Edit as TextEdit}
-use Rattle.rustc_lexer.specs.declared.relex.edit_list.EditStop.{EditStop}
-use Rattle.rustc_lexer.specs.declared.relex.edit_list.EditStop.TheVariants.{Range as RangeStop, TooLong as TooLongStop}
+use Rattle.rustc_lexer.specs.declared.relex.edit_error.EditStop.{EditStop}
+use Rattle.rustc_lexer.specs.declared.relex.edit_error.EditStop.TheVariants.{Range as RangeStop, TooLong as TooLongStop}
 use Rattle.rustc_lexer.specs.Answers.{shebang}
 use Rattle.rustc_lexer.specs.Classes.{IsText}
 use Rattle.rustc_lexer.specs.Edits.{apply_list, stop_at, AreEdits, IsStop}

@@ -1,8 +1,8 @@
 -- Edits: the text after an edit, and which tokens the edit keeps.
 use Rattle.std.specs.Prelude.{ℕ, ◌+◌, ◌-◌, ◌<◌, ◌≤◌, ◌^◌, List, [], ◌∷◌, ◌++◌, length, take, drop, IsCharBoundary, ◌≡◌}
 use Rattle.std.specs.Prelude.{slice_get, IfSome, codes, decimal, count_by}
-use Rattle.rustc_lexer.specs.declared.relex.{edit.Edit.Edit, edit_list.EditStop.EditStop, relexing.Relexed.Relexed}
-use Rattle.rustc_lexer.specs.declared.relex.edit_list.EditStop.TheVariants.{Range, TooLong, Memory}
+use Rattle.rustc_lexer.specs.declared.relex.{edit.Edit.Edit, edit_error.EditStop.EditStop, relexer.Relexed.Relexed}
+use Rattle.rustc_lexer.specs.declared.relex.edit_error.EditStop.TheVariants.{Range, TooLong, Memory}
 use Rattle.rustc_lexer.specs.{Token}
 use Rattle.rustc_lexer.specs.Locality.{has_two}
 use Rattle.rustc_lexer.specs.Partition.{Layout, bound, tokens_by, tokens_in}
@@ -84,12 +84,12 @@ abbrev pub count_after : Relexed → ℕ
 count_after r = r.kept_front + r.lexed + r.kept_back
 
 -- Returns the counts if all n tokens are kept in front.
-abbrev pub all_stay : ℕ → Relexed
-all_stay n = record { kept_front = n; lexed = 0; kept_back = 0 }
+abbrev pub all_kept : ℕ → Relexed
+all_kept n = record { kept_front = n; lexed = 0; kept_back = 0 }
 
 -- Returns the counts if all n tokens are new.
-abbrev pub none_stays : ℕ → Relexed
-none_stays n = record { kept_front = 0; lexed = n; kept_back = 0 }
+abbrev pub none_kept : ℕ → Relexed
+none_kept n = record { kept_front = 0; lexed = n; kept_back = 0 }
 
 -- ---- replacing the whole text
 
@@ -197,24 +197,24 @@ stop_of_last from (e ∷ es) = stop_of_last e.stop es
 
 -- Returns the replacement for the text from `from` up to the end of the last edit: the unchanged text between the edits
 -- and the inserted texts, in order.
-abbrev pub with_all : List ℕ → ℕ → List Edit → List ℕ
-with_all text from [] = []
-with_all text from (e ∷ es) =
-    take (e.start - from) (drop from text) ++ (e.insert.now ++ with_all text e.stop es)
+abbrev pub batch_insert : List ℕ → ℕ → List Edit → List ℕ
+batch_insert text from [] = []
+batch_insert text from (e ∷ es) =
+    take (e.start - from) (drop from text) ++ (e.insert.now ++ batch_insert text e.stop es)
 
 -- Holds if the edits can be applied at once: they are in order, and the single edit that is equivalent to them is
 -- valid.
-abbrev pub AreAtOnce : List ℕ → List Edit → Type 0
-AreAtOnce text edits =
+abbrev pub IsBatch : List ℕ → List Edit → Type 0
+IsBatch text edits =
     AreInOrder text 0 edits × IsEdit text (start_of_first edits) (stop_of_last 0 edits)
-    (with_all text (start_of_first edits) edits)
+    (batch_insert text (start_of_first edits) edits)
 
 -- Holds if none of the edits is applied because of this error. The error names the first edit that is not in order, or
 -- otherwise the last edit, if the new text would be too long or an allocation failed.
-abbrev pub IsStopAtOnce : EditStop → List ℕ → List Edit → Type 0
-IsStopAtOnce (Range at) text edits =
+abbrev pub IsBatchStop : EditStop → List ℕ → List Edit → Type 0
+IsBatchStop (Range at) text edits =
     (at < length edits) × AreInOrder text 0 (take at edits)
     × (AreInOrder text 0 (take (at + 1) edits) → ⊥)
-IsStopAtOnce (TooLong at) text edits =
-    (at + 1 ≡ length edits) × AreInOrder text 0 edits × (AreAtOnce text edits → ⊥)
-IsStopAtOnce (Memory at) text edits = (at + 1 ≡ length edits) × AreAtOnce text edits
+IsBatchStop (TooLong at) text edits =
+    (at + 1 ≡ length edits) × AreInOrder text 0 edits × (IsBatch text edits → ⊥)
+IsBatchStop (Memory at) text edits = (at + 1 ≡ length edits) × IsBatch text edits

@@ -1,8 +1,8 @@
 -- Lexed texts: the effect of edits on a text and its tokens, and the pieces of the text.
 use Rattle.std.specs.Prelude.{ℕ, ◌+◌, ◌-◌, ◌<◌, ◌≤◌, ◌^◌, List, [], ◌∷◌, ◌++◌, length, take, drop, ◌≡◌, Option, Some}
 use Rattle.std.specs.Prelude.{None, Bool, true, false, Result, Ok, Err, IfOk, IfErr, OnOk, OnErr, All}
-use Rattle.rustc_lexer.specs.declared.relex.{edit.Edit.Edit, edit_list.EditStop.EditStop, edit_list.EditSequenceError.EditSequenceError}
-use Rattle.rustc_lexer.specs.declared.relex.{pieces.Piece.Piece, relexing.Relexed.Relexed}
+use Rattle.rustc_lexer.specs.declared.relex.{edit.Edit.Edit, edit_error.EditStop.EditStop, edit_error.EditSequenceError.EditSequenceError}
+use Rattle.rustc_lexer.specs.declared.relex.{pieces.Piece.Piece, relexer.Relexed.Relexed}
 use Rattle.rustc_lexer.specs.{Edition, Token}
 use Rattle.rustc_lexer.specs.Document.{document_tokens, tokens_start, document_by}
 use Rattle.rustc_lexer.specs.Edits.{AreEdits, AreStepped, AreRelexed, IsGreatest, IsRelexed, IsStop, IsStopStepped}
@@ -31,7 +31,7 @@ edition_tokens_in false = λ edition text. tokens_of (part edition) text
 -- ---- edits
 
 -- A lexed text consists of a text, its tokens and a stepper.
-pub record Held (S : Type 0) : Type 0 where
+pub record LexedModel (S : Type 0) : Type 0 where
   pub text : List ℕ
   pub tokens : List Token
   pub stepper : S
@@ -45,8 +45,8 @@ pub record AreKept (old new : List Token) (r : Relexed) : Type 0 where
 
 -- Holds if an edit has this result and turns the lexed text `old` into `new`. `layout` returns the layout of a text,
 -- lexed with the grammar of the stepper.
-pub record IsEdited {S E : Type 0} (layout : List ℕ → Layout) (old : Held S) (start stop : ℕ)
-    (insert : List ℕ) (result : Result Relexed E) (new : Held S) : Type 0 where
+pub record IsEdited {S E : Type 0} (layout : List ℕ → Layout) (old : LexedModel S) (start stop : ℕ)
+    (insert : List ℕ) (result : Result Relexed E) (new : LexedModel S) : Type 0 where
   pub text : OnOk result (new.text ≡ apply old.text start stop insert)
   pub from_scratch : new.tokens ≡ tokens_in (layout new.text)
   -- The result counts the kept tokens and the lexed tokens.
@@ -72,8 +72,8 @@ pub record HasStepCount {E : Type 0} (layout : List ℕ → Layout) (text : List
 
 -- Holds if a list of edits has this result and turns the lexed text `old` into `new`. If an edit is rejected, the edits
 -- before it have been applied.
-pub record AreApplied {S T : Type 0} (layout : List ℕ → Layout) (old : Held S) (edits : List Edit)
-    (result : Result T EditStop) (new : Held S) : Type 0 where
+pub record AreApplied {S T : Type 0} (layout : List ℕ → Layout) (old : LexedModel S) (edits : List Edit)
+    (result : Result T EditStop) (new : LexedModel S) : Type 0 where
   pub accepted : OnOk result (AreEdits old.text edits)
   pub text : OnOk result (new.text ≡ apply_list old.text edits)
   pub from_scratch : new.tokens ≡ tokens_in (layout new.text)
@@ -95,8 +95,8 @@ reason (Err stopped) = Err stopped.stop
 -- Holds if r counts the tokens that all edits keep. In front, these are as many tokens as every edit keeps. At the
 -- back, they are also as many as every edit keeps, but they do not overlap the tokens in front, in the old or the new
 -- list.
-pub record AreKeptThrough {S : Type 0} (layout : List ℕ → Layout) (old : Held S)
-    (edits : List Edit) (new : Held S) (r : Relexed) : Type 0 where
+pub record AreKeptThrough {S : Type 0} (layout : List ℕ → Layout) (old : LexedModel S)
+    (edits : List Edit) (new : LexedModel S) (r : Relexed) : Type 0 where
   -- The list contains the counts of each edit, in order.
   pub each : List Relexed
   pub each_is : AreRelexed layout old.text edits each
@@ -110,16 +110,16 @@ pub record AreKeptThrough {S : Type 0} (layout : List ℕ → Layout) (old : Hel
 -- ---- pieces
 
 -- A piece consists of a token, its offset and its text.
-pub record Placed : Type 0 where
+pub record PieceModel : Type 0 where
   pub start : ℕ
   pub token : Token
   pub text : List ℕ
 
-abbrev pub placed : Piece → Placed
-placed piece = record { start = piece.start; token = piece.token; text = piece.text.now }
+abbrev pub piece_model : Piece → PieceModel
+piece_model piece = record { start = piece.start; token = piece.token; text = piece.text.now }
 
 -- Returns the pieces of the tokens, if the first token starts at `start`.
-abbrev pub pieces_from : List ℕ → ℕ → List Token → List Placed
+abbrev pub pieces_from : List ℕ → ℕ → List Token → List PieceModel
 pieces_from text start [] = []
 pieces_from text start (token ∷ tokens) =
     record { start = start; token = token; text = take token.len (drop start text) }
@@ -128,16 +128,16 @@ pieces_from text start (token ∷ tokens) =
 -- Holds if `next` returns this result and leaves the pieces t. If no piece is left, it returns None and changes
 -- nothing. Otherwise it removes and returns the first piece, whose text is as long as its token and whose end is below
 -- 2 ^ 32.
-abbrev pub YieldsPiece : List Placed → Option Piece → List Placed → Type 0
+abbrev pub YieldsPiece : List PieceModel → Option Piece → List PieceModel → Type 0
 YieldsPiece s None t = (s ≡ []) × (t ≡ s)
 YieldsPiece s (Some piece) t =
-    (s ≡ placed piece ∷ t) × (length piece.text.now ≡ piece.token.len)
+    (s ≡ piece_model piece ∷ t) × (length piece.text.now ≡ piece.token.len)
     × (piece.start + piece.token.len < 2 ^ 32)
 
 -- Holds if `next_back` returns this result and leaves the pieces t. It removes and returns the last piece; apart from
 -- that it is like `next`.
-abbrev pub YieldsPieceBack : List Placed → Option Piece → List Placed → Type 0
+abbrev pub YieldsPieceBack : List PieceModel → Option Piece → List PieceModel → Type 0
 YieldsPieceBack s None t = (s ≡ []) × (t ≡ s)
 YieldsPieceBack s (Some piece) t =
-    (s ≡ t ++ placed piece ∷ []) × (length piece.text.now ≡ piece.token.len)
+    (s ≡ t ++ piece_model piece ∷ []) × (length piece.text.now ≡ piece.token.len)
     × (piece.start + piece.token.len < 2 ^ 32)

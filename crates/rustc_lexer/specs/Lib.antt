@@ -17,7 +17,7 @@ pub mod Locality
 pub mod NumberGrammar
 pub mod Offsets
 pub mod Partition
-pub mod Relexing
+pub mod Relexer
 pub mod State
 pub mod Tables
 pub mod Tokens

@@ -1,6 +1,6 @@
 -- Offsets in a text and its tokens.
 use Rattle.std.specs.Prelude.{ℕ, ◌+◌, ◌<◌, ◌≤◌, List, length, map, ◌≡◌, ◌↔◌}
-use Rattle.rustc_lexer.specs.declared.relex.front.TokenStart.{TokenStart}
+use Rattle.rustc_lexer.specs.declared.relex.boundary.TokenStart.{TokenStart}
 use Rattle.rustc_lexer.specs.{Token}
 use Rattle.rustc_lexer.specs.Partition.{bound}
 

@@ -2,7 +2,7 @@ pub mod BlockComment
 pub mod ByteRuns
 pub mod Comment
 pub mod Document
-pub mod EditList
+pub mod EditSequence
 pub mod Edition
 pub mod Emoji
 pub mod Ends
@@ -21,7 +21,7 @@ pub mod Pieces
 pub mod Quick
 pub mod Quoted
 pub mod Raw
-pub mod Relexing
+pub mod Relexer
 pub mod Scan
 pub mod Shebang
 pub mod Taking

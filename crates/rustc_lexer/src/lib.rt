@@ -34,8 +34,8 @@ pub use lexemes::ident::is_ident;
 pub use raw_check::{starts_raw, validate_raw_str};
 pub use relex::{
     BodyChange, Change, Edit, EditSequenceError, EditStop, JoinError, JoinedText, Lexed,
-    LexedDocument, LexedText, Measured, Piece, Pieces, Relex, Relexed, Relexing, TokenStart,
-    is_token_boundary, settled, settled_in, token_around,
+    LexedDocument, LexedText, Piece, Pieces, RelexState, Relexed, Relexer, TextLen, TokenStart,
+    find_token, is_token_boundary, settled, settled_in,
 };
 pub use shebang::{byte_order_mark_len, strip_shebang};
 pub use token::{

@@ -1,26 +1,25 @@
 //! Incremental lexing: texts with their tokens, which edits update.
 mod body_change;
+mod boundary;
 mod checkpoints;
-mod common;
-mod document_edit;
+mod diff;
 mod edit;
-mod edit_list;
-mod front;
+mod edit_error;
+mod head_change;
 mod joined;
-mod kept;
-mod lex;
+mod lex_all;
 mod lexed;
 mod pieces;
-mod relexing;
+mod relexer;
 mod replace;
 mod settle;
 
 pub use body_change::BodyChange;
+pub use boundary::{TextLen, TokenStart, find_token};
 pub use edit::Edit;
-pub use edit_list::{EditSequenceError, EditStop};
-pub use front::{Measured, TokenStart, token_around};
+pub use edit_error::{EditSequenceError, EditStop};
 pub use joined::{JoinError, JoinedText, is_token_boundary};
 pub use lexed::{Lexed, LexedDocument, LexedText};
 pub use pieces::{Piece, Pieces};
-pub use relexing::{Change, Relex, Relexed, Relexing};
+pub use relexer::{Change, RelexState, Relexed, Relexer};
 pub use settle::{settled, settled_in};

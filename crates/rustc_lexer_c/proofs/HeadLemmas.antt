@@ -2,10 +2,10 @@
 use Rattle.std.proofs.Common.{◌≡◌, ℕ, zero, suc, Bool, true, not, List, drop, nat_eq, refl, sym, ap, ◌∙◌, subst, arith}
 use Rattle.std.proofs.Common.{Option, Some, None}
 use Rattle.std.proofs.lemmas.Grind.{common_steps}
-use Rattle.rustc_lexer.specs.declared.{head.Head.{Head}, relex.relexing.Change.{Change}, token.Token.{Token}}
+use Rattle.rustc_lexer.specs.declared.{head.Head.{Head}, relex.relexer.Change.{Change}, token.Token.{Token}}
 use Rattle.rustc_lexer.specs.{declared.token.TokenKind.{TokenKind}, Answers.{first_in}, Classes.{IsText}}
 use Rattle.rustc_lexer.specs.{Document.{is_frontmatter}, LanguageText.{newest}, Locality.{IsGrammar}}
-use Rattle.rustc_lexer.specs.{Relexing.{IsChange, IsEditOf, IsBodyChange, IsHeadOf}}
+use Rattle.rustc_lexer.specs.{Relexer.{IsChange, IsEditOf, IsBodyChange, IsHeadOf}}
 use Rattle.rustc_lexer.specs.laws.Edition.{edition_grammar}
 use Rattle.rustc_lexer.proofs.lemmas.{heads.ByTokens.{some_head}, edits.ByLengths.{made_change}}
 use Rattle.rustc_lexer_c.specs.declared.{head.CHead.{CHead}, relex.CEdit.{CEdit}}
@@ -47,7 +47,7 @@ module _ (text : List ℕ) (is : IsText text) where
 abbrev first : List ℕ → Token
 first = first_in newest
 
--- Holds if the contract of `change_to` holds for each text before the edit.
+-- Holds if the contract of `body_change` holds for each text before the edit.
 abbrev pub Changes : CHead → CEdit → Head → Bool → Change → Type 0
 Changes c edit now keeps change = (first : List ℕ → Token) (before insert text : List ℕ) → IsGrammar first
     → IsEditOf before (change_of edit) insert text → IsHeadOf before (head_of c) → IsHeadOf text now

@@ -4,10 +4,10 @@ use Rattle.std.proofs.Common.{◌≡◌, ◌≢◌, ℕ, ◌+◌, ◌-◌, ◌<�
 use Rattle.std.proofs.Common.{◌∙◌, arith, take-add, Option, Some, None}
 use Rattle.std.proofs.lemmas.{Grind.{common_steps}, List.{length-map, length-take-le, drop_at, take-map, drop-map}}
 use Rattle.rustc_lexer.specs.declared.{edition.Edition.{Edition}}
-use Rattle.rustc_lexer.specs.declared.{relex.relexing.Relexing.{Relexing}, token.Token.{Token}}
+use Rattle.rustc_lexer.specs.declared.{relex.relexer.RelexState.{RelexState}, token.Token.{Token}}
 use Rattle.rustc_lexer.specs.{Tokens.{tokens_by, tokens_of}, Answers.{first_in}, LanguageText.{part}}
-use Rattle.rustc_lexer.specs.{Edits.{fragment_by}, Relexing.{known}}
-use Rattle.rustc_lexer.specs.Relexing.{IsChange, IsMadeOf, IsUnderWay, IsWhole, CanContinue, TakesSteps, is_done}
+use Rattle.rustc_lexer.specs.{Edits.{fragment_by}, Relexer.{known}}
+use Rattle.rustc_lexer.specs.Relexer.{IsChange, IsMadeOf, IsUnderWay, IsWhole, CanContinue, TakesSteps, is_done}
 use Rattle.rustc_lexer.specs.{Classes.{IsText}, LanguageCalls.{edition_of_year}}
 use Rattle.rustc_lexer.specs.{Locality.{IsGrammar}, laws.Edition.{edition_grammar}}
 use Rattle.rustc_lexer.proofs.lemmas.edits.OneAnswer.{counts_of, relexed_is}
@@ -31,7 +31,7 @@ pub none_some : {X : Type 0} {x : X} → Some x ≡ None → ⊥
 none_some e = grind (arith, common_steps)
 
 -- Converting a state to numbers and back gives the same state, if `met` is set exactly when relexing is done.
-relex_back : (text : List ℕ) (n : ℕ) (at : Relexing) → at.back.index ≤ n → is_done text at ≡ at.met
+relex_back : (text : List ℕ) (n : ℕ) (at : RelexState) → at.back.index ≤ n → is_done text at ≡ at.met
     → relexing_of n (numbers_of text n at) ≡ at
 relex_back text n at few over = grind (arith, common_steps)
 
@@ -44,13 +44,13 @@ written_more new front before count lexed buffer filled sum inside e =
     grind (arith, common_steps, length-take-le, take-add)
 
 -- The spliced list has the new tokens.
-list_whole : (tokens new : List Token) (at : Relexing) (n : ℕ) (old : List CToken) → n ≡ at.back.index
+list_whole : (tokens new : List Token) (at : RelexState) (n : ℕ) (old : List CToken) → n ≡ at.back.index
     → old ≡ map token_numbers tokens → IsWhole tokens new at
     → take at.front.index old ++ (written new at.front.index at.lexed ++ drop n old) ≡ map token_numbers new
 list_whole tokens new at n old same e whole = grind (arith, common_steps, take-map, drop-map)
 
 module _ (edition : Edition) (text : List ℕ) (old : List CToken) (change : CEdit) (c : CRelexing)
-    (buffer filled : List CToken) (count : ℕ) (begin at : Relexing) where
+    (buffer filled : List CToken) (count : ℕ) (begin at : RelexState) where
   abbrev pub lens : List ℕ
   lens = map (λ (t : CToken). t.len) old
 

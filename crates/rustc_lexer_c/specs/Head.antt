@@ -8,7 +8,7 @@ use Rattle.rustc_lexer.specs.declared.token.TokenKind.TheVariants.{Frontmatter}
 use Rattle.rustc_lexer.specs.Classes.{IsText}
 use Rattle.rustc_lexer.specs.Document.{body_start, head_tokens, tokens_start}
 use Rattle.rustc_lexer.specs.Locality.{IsGrammar}
-use Rattle.rustc_lexer.specs.Relexing.{IsChange, IsEditOf, IsBodyChange, tokens_of_head}
+use Rattle.rustc_lexer.specs.Relexer.{IsChange, IsEditOf, IsBodyChange, tokens_of_head}
 use Rattle.rustc_lexer_c.specs.declared.head.CHead.{CHead}
 use Rattle.rustc_lexer_c.specs.declared.relex.CEdit.{CEdit}
 use Rattle.rustc_lexer_c.specs.declared.token.CToken.{CToken}

@@ -7,7 +7,7 @@ pub mod Numbers
 pub mod Offsets
 pub mod Places
 pub mod RawStr
-pub mod Relex
+pub mod Relexer
 pub mod Boundary
 pub mod Splice
 pub mod Buffer

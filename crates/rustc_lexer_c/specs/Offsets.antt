@@ -1,6 +1,6 @@
 -- The token at an offset, in a list of tokens as numbers.
 use Rattle.std.specs.Prelude.{ℕ, ◌≡◌, ◌+◌, ◌≤◌, Bool, true, false, List, length, map}
-use Rattle.rustc_lexer.specs.declared.relex.front.TokenStart.{TokenStart}
+use Rattle.rustc_lexer.specs.declared.relex.boundary.TokenStart.{TokenStart}
 use Rattle.rustc_lexer.specs.declared.token.Token.{Token}
 use Rattle.rustc_lexer.specs.Offsets.{ArePlaced, ContainsByte}
 use Rattle.rustc_lexer.specs.Tokens.{bound}

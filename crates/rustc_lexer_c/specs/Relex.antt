@@ -3,17 +3,17 @@ use Rattle.std.specs.Prelude.{ℕ, ◌≡◌, ◌≢◌, ◌+◌, ◌-◌, ◌�
 use Rattle.std.specs.Prelude.{take, drop, Some, None}
 use Rattle.std.specs.Str.{IsUtf8}
 use Rattle.rustc_lexer.specs.declared.edition.Edition.{Edition}
-use Rattle.rustc_lexer.specs.declared.relex.front.TokenStart.{TokenStart}
-use Rattle.rustc_lexer.specs.declared.relex.relexing.Change.{Change}
-use Rattle.rustc_lexer.specs.declared.relex.relexing.Relexed.{Relexed}
-use Rattle.rustc_lexer.specs.declared.relex.relexing.Relexing.{Relexing}
+use Rattle.rustc_lexer.specs.declared.relex.boundary.TokenStart.{TokenStart}
+use Rattle.rustc_lexer.specs.declared.relex.relexer.Change.{Change}
+use Rattle.rustc_lexer.specs.declared.relex.relexer.Relexed.{Relexed}
+use Rattle.rustc_lexer.specs.declared.relex.relexer.RelexState.{RelexState}
 use Rattle.rustc_lexer.specs.declared.token.Token.{Token}
 use Rattle.rustc_lexer.specs.Tokens.{tokens_by}
 use Rattle.rustc_lexer.specs.LanguageCalls.{edition_of_year}
 use Rattle.rustc_lexer.specs.Answers.{first_in}
 use Rattle.rustc_lexer.specs.Offsets.{IsBound}
 use Rattle.rustc_lexer.specs.Edits.{IsRelexed, fragment_by}
-use Rattle.rustc_lexer.specs.Relexing.{IsChange, IsMadeOf, IsUnderWay, CanContinue, is_done}
+use Rattle.rustc_lexer.specs.Relexer.{IsChange, IsMadeOf, IsUnderWay, CanContinue, is_done}
 use Rattle.rustc_lexer.specs.Classes.{IsText}
 use Rattle.rustc_lexer_c.specs.declared.relex.CEdit.{CEdit}
 use Rattle.rustc_lexer_c.specs.declared.relex.CRelexing.{CRelexing}
@@ -40,7 +40,7 @@ abbrev pub front_of : CRelexing → TokenStart
 front_of c = record { index = c.kept_front; offset = c.front_offset }
 
 -- Returns the state of relexing in the fields, if there are `count` old tokens.
-abbrev pub relexing_of : ℕ → CRelexing → Relexing
+abbrev pub relexing_of : ℕ → CRelexing → RelexState
 relexing_of count c = record {
   front = front_of c;
   lexed = c.lexed;
@@ -125,7 +125,7 @@ pub record Relexes (text : List ℕ) (old : List CToken) (edit : CEdit) (year : 
   pub refused : status ≢ OK → (c' ≡ c) × (filled ≡ buffer) × (count ≡ 0)
 
 -- Returns the state of relexing as numbers.
-abbrev pub numbers_of : List ℕ → ℕ → Relexing → CRelexing
+abbrev pub numbers_of : List ℕ → ℕ → RelexState → CRelexing
 numbers_of text count at = record {
   kept_front = at.front.index;
   front_offset = at.front.offset;

@@ -2,7 +2,7 @@
 ghost use Rattle.rustc_lexer_c.specs.Offsets.{FindsToken};
 
 use crate::token::CToken;
-use rustc_lexer::{TokenStart, token_around};
+use rustc_lexer::{TokenStart, find_token};
 
 /// Finds the token that contains the byte at `offset`, and writes its index and the offset at which it starts. Returns
 /// whether there is such a token. If there is none, the index and the start are unchanged.
@@ -24,7 +24,7 @@ pub extern "C" fn rustc_lexer_token_start_at(
         index: *number,
         offset: *start,
     };
-    match token_around(tokens, near, offset) {
+    match find_token(tokens, near, offset) {
         Some(at) => {
             *number = at.index;
             *start = at.offset;

@@ -4,13 +4,13 @@ ghost use Rattle.std.specs.Str.{IsUtf8};
 ghost use Rattle.rustc_lexer.specs.declared.token.Token.{Token};
 ghost use Rattle.rustc_lexer.specs.Classes.{Fits};
 ghost use Rattle.rustc_lexer.specs.LanguageCalls.{edition_of_year};
-ghost use Rattle.rustc_lexer.specs.Relexing.{IsChange, IsMadeOf, IsUnderWay, CanContinue};
+ghost use Rattle.rustc_lexer.specs.Relexer.{IsChange, IsMadeOf, IsUnderWay, CanContinue};
 ghost use Rattle.rustc_lexer.specs.Locality.{IsGrammar};
 ghost use Rattle.rustc_lexer_c.specs.Relex as spec;
 
 use crate::status::{OK, Refusal, refuse, text_of, utf8_text_of};
 use crate::token::CToken;
-use rustc_lexer::{Change, Edition, Measured, Relex, Relexing, Steps, TokenStart};
+use rustc_lexer::{Change, Edition, RelexState, Relexer, Steps, TextLen, TokenStart};
 
 /// An applied edit, as offsets in bytes. It replaced the bytes from `start` up to `old_end` of the old text with the
 /// bytes from `start` up to `new_end` of the current text.
@@ -50,7 +50,7 @@ pub struct CRelexing {
     pub stage: usize,
 }
 
-impl Measured for CToken {
+impl TextLen for CToken {
     ghost bytes = { λ token. token.len };
 
     fn len(&self) -> u32 {
@@ -138,7 +138,7 @@ fn relex_at<'a>(
     old: &'a [CToken],
     change: Change,
     relexing: &CRelexing,
-) -> Option<Relex<'a, CToken>>
+) -> Option<Relexer<'a, CToken>>
     requires fits { Fits text.now }
     ensures none { result ≡ None
         ↔ ¬ (IsChange text.now change × spec.MayRelex text.now (length old.now) relexing.now) }
@@ -152,12 +152,12 @@ fn relex_at<'a>(
         → IsUnderWay first before change text.now r.at)) }
 {
     if relexing.stage == STAGE_BEGIN {
-        return Relex::begin(text, old, change, front_of(relexing));
+        return Relexer::begin(text, old, change, front_of(relexing));
     }
     let Some(state) = state_of(relexing, old.len()) else {
         return None;
     };
-    Relex::resume(text, old, change, state)
+    Relexer::resume(text, old, change, state)
 }
 
 /// Returns the token boundary in the fields of the front.
@@ -171,7 +171,7 @@ fn front_of(relexing: &CRelexing) -> TokenStart
 }
 
 /// Returns the state with these numbers, or `None` if fewer old tokens exist than are kept at the back.
-fn state_of(relexing: &CRelexing, old_count: usize) -> Option<Relexing>
+fn state_of(relexing: &CRelexing, old_count: usize) -> Option<RelexState>
     ensures none { result ≡ None → old_count < relexing.now.kept_back }
     ensures some { IfSome result (λ state. (relexing.now.kept_back ≤ old_count)
         × (state ≡ spec.relexing_of old_count relexing.now)) }
@@ -179,7 +179,7 @@ fn state_of(relexing: &CRelexing, old_count: usize) -> Option<Relexing>
     if relexing.kept_back > old_count {
         return None;
     }
-    Some(Relexing {
+    Some(RelexState {
         front: front_of(relexing),
         lexed: relexing.lexed,
         back: TokenStart {
@@ -192,7 +192,7 @@ fn state_of(relexing: &CRelexing, old_count: usize) -> Option<Relexing>
 }
 
 /// Returns the state of relexing as numbers.
-fn relexing_numbers(relex: &Relex<'_, CToken>) -> CRelexing
+fn relexing_numbers(relex: &Relexer<'_, CToken>) -> CRelexing
     ensures numbers { result
         ≡ spec.numbers_of relex.now.text (length relex.now.lengths) relex.now.at }
     ensures can_continue { CanContinue relex.now.text (length relex.now.lengths) relex.now.at }

@@ -1,10 +1,10 @@
 //! Incremental lexing for tokens in lists of your own: lexes only what an edit changed.
 //!
 //! [`LexedText`](crate::LexedText) and [`LexedDocument`](crate::LexedDocument) store a text with its tokens. If your
-//! program stores them in its own way, use [`Relex`], with [`Head`] for a whole file.
+//! program stores them in its own way, use [`Relexer`], with [`Head`] for a whole file.
 //!
-//! [`Relex::begin`] returns `None` if the change cannot have resulted in the text. It cannot check that the tokens are
-//! the tokens of the old text: with any others, the result has no meaning. [`Head::change_to`] checks nothing: with a
+//! [`Relexer::begin`] returns `None` if the change cannot have resulted in the text. It cannot check that the tokens are
+//! the tokens of the old text: with any others, the result has no meaning. [`Head::body_change`] checks nothing: with a
 //! head or an edit of another text, the result has no meaning either, or it panics.
 //!
 //! # Example: a whole file
@@ -13,7 +13,7 @@
 //! frontmatter.
 //!
 //! ```
-//! use rustc_lexer::incremental::{Change, Head, Relex};
+//! use rustc_lexer::incremental::{Change, Head, Relexer};
 //! use rustc_lexer::{Edition, Steps, Token, TokenStart, tokenize_document};
 //!
 //! struct File {
@@ -27,10 +27,10 @@
 //!         self.text.replace_range(start..stop, insert);
 //!         let change = Change { start, old_end: stop, new_end: start + insert.len() };
 //!         let head = Head::find(&self.text);
-//!         let change = self.head.change_to(head, change).change;
+//!         let change = self.head.body_change(head, change).change;
 //!         let text = &self.text[head.body..];
 //!         let mut steps = Steps::new();
-//!         let mut relex = Relex::begin(text, &self.body, change, TokenStart::default()).unwrap();
+//!         let mut relex = Relexer::begin(text, &self.body, change, TokenStart::default()).unwrap();
 //!         let mut lexed = Vec::new();
 //!         while let Some(token) = relex.next(&mut steps) {
 //!             lexed.push(token);
@@ -53,6 +53,6 @@
 
 #[doc(alias("incremental", "relexing", "reparse"))]
 #[doc(inline)]
-pub use crate::generated::Relex;
+pub use crate::generated::Relexer;
 #[doc(inline)]
-pub use crate::generated::{BodyChange, Change, Head, Measured, Relexing};
+pub use crate::generated::{BodyChange, Change, Head, TextLen, RelexState};

@@ -191,7 +191,7 @@ impl<E: Extent> Lexed<Steps, E> {
     fn try_move_in(text: &mut support::String, edition: Edition) -> Result<Self, EditError> {
         try_fitting(text.as_str())?;
         let mut lexed = Lexed::from_proved(E::lex("", edition)?);
-        lexed.lex_anew(text)?;
+        lexed.lex_from_scratch(text)?;
         Ok(lexed)
     }
 
@@ -334,8 +334,8 @@ impl<S: Stepper, E: Extent> Lexed<S, E> {
     }
 
     /// Moves `text` in and lexes it with the current stepper. If an allocation fails, `text` is unchanged.
-    fn lex_anew(&mut self, text: &mut support::String) -> Result<Relexed, AllocError> {
-        self.kept.lex_anew(text)?;
+    fn lex_from_scratch(&mut self, text: &mut support::String) -> Result<Relexed, AllocError> {
+        self.kept.lex_from_scratch(text)?;
         self.is_poisoned = false;
         Ok(Relexed::none(self.tokens().len()))
     }
@@ -649,7 +649,7 @@ impl<S: Stepper, E: Extent> Lexed<S, E> {
         let text = try_fitting(text.as_ref())?;
         if self.is_poisoned {
             let mut text = support::String::from_str(Global, text)?;
-            return Ok(self.lex_anew(&mut text)?);
+            return Ok(self.lex_from_scratch(&mut text)?);
         }
         Ok(self.apply(|kept| kept.set_text(text))?)
     }

@@ -128,7 +128,7 @@ pub use lexed::{Lexed, LexedDocument, LexedText};
 #[cfg(all(doc, not(feature = "alloc")))]
 use generated::{JoinedText, LexedDocument, LexedText, Pieces};
 #[cfg(doc)]
-use incremental::{Head, Relex};
+use incremental::{Head, Relexer};
 pub use pieces::TokenPieces;
 use rattle_support as support;
 pub use rattle_support::AllocError;

@@ -1,6 +1,6 @@
 //! Traits of `core` that the proved source does not implement.
 
-use crate::incremental::{Measured, Relex};
+use crate::incremental::{TextLen, Relexer};
 use crate::{Edition, FrontmatterAllowed, Steps};
 use core::fmt;
 
@@ -36,9 +36,9 @@ impl PartialEq for Steps {
 
 impl Eq for Steps {}
 
-impl<T: Measured> fmt::Debug for Relex<'_, T> {
+impl<T: TextLen> fmt::Debug for Relexer<'_, T> {
     fn fmt(&self, f: &mut fmt::Formatter<'_>) -> fmt::Result {
-        f.debug_struct("Relex")
+        f.debug_struct("Relexer")
             .field("state", &self.state())
             .finish_non_exhaustive()
     }

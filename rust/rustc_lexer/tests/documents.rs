@@ -6,7 +6,7 @@ mod random;
 use made::{counts, edit, token};
 use random::Random;
 use rattle_support::Global;
-use rustc_lexer::incremental::{Change, Head, Relex, Relexing};
+use rustc_lexer::incremental::{Change, Head, Relexer, RelexState};
 use rustc_lexer::{
     EditStop, Edition, FrontmatterAllowed, LexedDocument, LexedText, Relexed, Stepper, Steps,
     Token, TokenKind, TokenStart, generated, strip_shebang, tokenize_as, tokenize_document,
@@ -384,12 +384,12 @@ fn token_list_of_the_caller() {
         old_end: 5,
         new_end: 6,
     };
-    let mut relex = Relex::begin(text, &old, change, TokenStart::default()).unwrap();
+    let mut relex = Relexer::begin(text, &old, change, TokenStart::default()).unwrap();
     let (mut steps, mut buffer) = (Steps::new(), [token(TokenKind::Eof, 0); 2]);
     assert_eq!(relex.fill(&mut steps, &mut buffer), 2);
     assert_eq!(buffer, [word, space]);
     // A second value continues where the first one stopped.
-    let mut relex = Relex::resume(text, &old, change, relex.state()).unwrap();
+    let mut relex = Relexer::resume(text, &old, change, relex.state()).unwrap();
     assert_eq!(relex.next(&mut steps), Some(letter));
     assert!(!relex.is_done());
     assert_eq!(relex.fill(&mut steps, &mut buffer), 2);
@@ -398,7 +398,7 @@ fn token_list_of_the_caller() {
     assert_eq!(relex.fill(&mut steps, &mut buffer), 0);
     assert_eq!(relex.next(&mut steps), None);
     assert_eq!(relex.counts(), counts(0, 5, 2));
-    let wanted = format!("Relex {{ state: {:?}, .. }}", relex.state());
+    let wanted = format!("Relexer {{ state: {:?}, .. }}", relex.state());
     assert_eq!(format!("{relex:?}"), wanted);
 }
 
@@ -412,7 +412,7 @@ fn invalid_changes_and_states() {
         old_end,
         new_end,
     };
-    let begins = |change| Relex::begin(text, &old, change, TokenStart::default()).is_some();
+    let begins = |change| Relexer::begin(text, &old, change, TokenStart::default()).is_some();
     assert!(begins(change(1, 3, 3)) && begins(change(0, u32::MAX as usize, 1)));
     for refused in [
         change(2, 2, 2),
@@ -428,11 +428,11 @@ fn invalid_changes_and_states() {
         );
     }
     let change = change(1, 3, 3);
-    let resumes = |state| Relex::resume(text, &old, change, state).is_some();
-    let start = Relex::begin(text, &old, change, TokenStart::default());
+    let resumes = |state| Relexer::resume(text, &old, change, state).is_some();
+    let start = Relexer::begin(text, &old, change, TokenStart::default());
     let start = start.unwrap().state();
     assert!(resumes(start));
-    let spoil: [fn(&mut Relexing); 6] = [
+    let spoil: [fn(&mut RelexState); 6] = [
         |state| state.at = 2,
         |state| state.at = 4,
         |state| state.lexed = state.at + 1,
@@ -465,13 +465,13 @@ fn token_lists_of_documents() {
             old_end: range.end,
             new_end: range.start + insert.len(),
         };
-        let of_body = head.change_to(now, edit);
+        let of_body = head.body_change(now, edit);
         let (body, old_body) = (&held.text()[now.body..], &tokens[head.count()..]);
         let change = of_body.change;
         let (index, offset) = (0, 0);
         let first = TokenStart { index, offset };
         let mut steps = Steps::new();
-        let mut relex = Relex::begin(body, old_body, change, first).unwrap();
+        let mut relex = Relexer::begin(body, old_body, change, first).unwrap();
         let mut again = relex.clone();
         let mut made = tokens_of(now);
         let front = relex.state().front.index;

@@ -1,4 +1,4 @@
-pub mod AtOnce
+pub mod EditBatch
 pub mod Bounds
 pub mod ByLengths
 pub mod Checkpoints
@@ -8,7 +8,7 @@ pub mod Heads
 pub mod InCommon
 pub mod KeptBounds
 pub mod KeptFront
-pub mod Lists
+pub mod EditSequence
 pub mod ManyTokens
 pub mod Offsets
 pub mod OneAnswer

@@ -1,4 +1,4 @@
 pub mod Apart
 pub mod Joined
 pub mod Separators
-pub mod Sure
+pub mod FinalBoundary

@@ -1,11 +1,11 @@
 -- Model of checkpoints, which are boundaries in a list of tokens, and of the effect of an edit on them.
 use Rattle.std.specs.{Prelude.{◌≡◌, ◌+◌, ◌<◌, ◌≤◌, ◌^◌, ℕ, List, length, take, drop}, List.{All}}
-use Rattle.rustc_lexer.specs.declared.relex.front.TokenStart.{TokenStart}
+use Rattle.rustc_lexer.specs.declared.relex.boundary.TokenStart.{TokenStart}
 use Rattle.rustc_lexer.specs.declared.relex.checkpoints.Checkpoints.{Checkpoints}
 use Rattle.rustc_lexer.specs.{Token}
-use Rattle.rustc_lexer.specs.declared.relex.relexing.Relexing.{Relexing}
+use Rattle.rustc_lexer.specs.declared.relex.relexer.RelexState.{RelexState}
 use Rattle.rustc_lexer.specs.Offsets.{IsBound}
-use Rattle.rustc_lexer.specs.Relexing.{known}
+use Rattle.rustc_lexer.specs.Relexer.{known}
 use Rattle.rustc_lexer.specs.Partition.{bound}
 
 -- Holds if `at` is a boundary of the tokens, by its index and its offset, if the first token starts at `first`.
@@ -34,5 +34,5 @@ IsMovable met now at =
     × (at.offset + now.offset < 2 ^ 64)
 
 -- Returns the boundary after the last token that was lexed.
-abbrev pub end_of : Relexing → TokenStart
+abbrev pub end_of : RelexState → TokenStart
 end_of at = record { index = known at; offset = at.at }

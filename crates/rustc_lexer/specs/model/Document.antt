@@ -3,11 +3,11 @@ use Rattle.std.specs.Prelude.{ℕ, ◌+◌, ◌-◌, ◌≤◌, ◌≡◌, if◌
 use Rattle.std.specs.Prelude.{Err, Bool, true, false, IsCharBoundary}
 use Rattle.rustc_lexer.specs.declared.relex.checkpoints.Checkpoints.{Checkpoints}
 use Rattle.rustc_lexer.specs.declared.head.Head.{Head}
-use Rattle.rustc_lexer.specs.declared.relex.relexing.{Change.Change, Relexed.Relexed}
+use Rattle.rustc_lexer.specs.declared.relex.relexer.{Change.Change, Relexed.Relexed}
 use Rattle.rustc_lexer.specs.{Token}
 use Rattle.rustc_lexer.specs.Classes.{IsText}
-pub use Rattle.rustc_lexer.specs.Relexing.{front_tokens, tokens_of_head}
-use Rattle.rustc_lexer.specs.Relexing.{IsEditOf}
+pub use Rattle.rustc_lexer.specs.Relexer.{front_tokens, tokens_of_head}
+use Rattle.rustc_lexer.specs.Relexer.{IsEditOf}
 use Rattle.rustc_lexer.specs.Edits.{IsRelexed, apply}
 use Rattle.rustc_lexer.specs.Partition.{Layout, bound, tokens_by, tokens_in}
 use Rattle.rustc_lexer.specs.model.Checkpoints.{AreBounds}

@@ -2,11 +2,11 @@
 ghost use Rattle.std.specs.Prelude.{◌≡◌, ◌<◌, ◌≤◌, ◌^◌, ◌↔◌, IsTrue, List, ℕ};
 ghost use Rattle.rustc_lexer.specs.{Token};
 ghost use Rattle.rustc_lexer.specs.Locality.{IsGrammar};
-ghost use Rattle.rustc_lexer.specs.Relexing.{IsBodyChange, IsEditOf, IsHeadOf, IsInBody};
+ghost use Rattle.rustc_lexer.specs.Relexer.{IsBodyChange, IsEditOf, IsHeadOf, IsInBody};
 
 use crate::head::Head;
-use crate::relex::document_edit::HeadEdit;
-use crate::relex::relexing::Change;
+use crate::relex::head_change::HeadChange;
+use crate::relex::relexer::Change;
 
 /// The change of a document's body by an edit of the document.
 #[derive(Clone, Copy, Debug, PartialEq, Eq)]
@@ -24,7 +24,7 @@ impl Head {
     /// If the edit starts after the head and the head stays the same, the change is the edit itself, in bytes from the
     /// start of the body. Otherwise it extends from the start of the body to the first offset after the edit at which
     /// both bodies have started, so no token of the body is kept before it.
-    pub fn change_to(self, now: Head, edit: Change) -> BodyChange
+    pub fn body_change(self, now: Head, edit: Change) -> BodyChange
         requires old_order { edit.start ≤ edit.old_end }
         requires new_order { edit.start ≤ edit.new_end }
         requires old_end { edit.old_end < 2 ^ 32 }
@@ -40,7 +40,7 @@ impl Head {
             → IsHeadOf before self → IsHeadOf text now
             → IsBodyChange first before edit insert text result.keeps_head result.change }
     {
-        let head = HeadEdit::between(self, now, edit.start);
+        let head = HeadChange::between(self, now, edit.start);
         BodyChange {
             keeps_head: head.keeps,
             change: head.body_change(edit),

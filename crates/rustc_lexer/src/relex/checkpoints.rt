@@ -5,7 +5,7 @@ ghost use Rattle.rustc_lexer.specs.{Token};
 ghost use Rattle.rustc_lexer.specs.model.Checkpoints.{AreBounds, IsMovable, IsReplaced};
 ghost use Rattle.rustc_lexer.specs.Offsets.{IsBound};
 
-use crate::relex::front::{FIRST, TokenStart};
+use crate::relex::boundary::{FIRST, TokenStart};
 
 /// The number of token boundaries that are remembered. It is odd, so up to `COUNT` consecutive multiples of a power of
 /// two have different remainders.

@@ -3,23 +3,23 @@ ghost use Rattle.std.specs.Prelude.{◌≡◌, ◌+◌, ◌-◌, ◌^◌, ◌<�
 ghost use Rattle.std.specs.Prelude.{if◌then◌else◌, List, ℕ, drop, length, take};
 ghost use Rattle.std.specs.List.{All};
 ghost use Rattle.std.specs.String.{string_bytes, string_capacity, string_len};
-ghost use Rattle.rustc_lexer.specs.declared.relex.relexing.Relexed.{Relexed};
+ghost use Rattle.rustc_lexer.specs.declared.relex.relexer.Relexed.{Relexed};
 ghost use Rattle.rustc_lexer.specs.{Token};
 ghost use Rattle.rustc_lexer.specs.Classes.{IsText};
 ghost use Rattle.rustc_lexer.specs.Tokens.{tokens_by};
 ghost use Rattle.rustc_lexer.specs.Edits.{IsEdit, IsInside, IsRelexed, apply, fragment_by};
-ghost use Rattle.rustc_lexer.specs.Relexing.{known};
-ghost use Rattle.rustc_lexer.specs.Relexing.{IsChange, CanContinue};
+ghost use Rattle.rustc_lexer.specs.Relexer.{known};
+ghost use Rattle.rustc_lexer.specs.Relexer.{IsChange, CanContinue};
 ghost use Rattle.rustc_lexer.specs.model.Checkpoints.{AreBounds, IsMovable, IsReplaced, end_of};
-ghost use Rattle.rustc_lexer.specs.model.Relexing.{IsLexed, ForEachOldText};
+ghost use Rattle.rustc_lexer.specs.model.Relexer.{IsLexed, ForEachOldText};
 ghost use Rattle.rustc_lexer.specs.model.Document as model;
 
 use crate::entry::stepper::Stepper;
+use crate::relex::boundary::TokenStart;
 use crate::relex::checkpoints::Checkpoints;
-use crate::relex::document_edit::HeadEdit;
-use crate::relex::front::TokenStart;
-use crate::relex::lex::BUFFER_LEN;
-use crate::relex::relexing::{EditedText, Relexing};
+use crate::relex::head_change::HeadChange;
+use crate::relex::lex_all::BUFFER_LEN;
+use crate::relex::relexer::{EditedText, RelexState};
 use crate::relex::replace::replace;
 use crate::token::{Token, TokenKind};
 use std::alloc::{AllocError, Global};
@@ -56,7 +56,7 @@ pub(crate) fn accepts(text: &str, start: usize, stop: usize, insert: &str) -> bo
 
 /// Replaces the bytes from `start` up to `stop` with `insert`. The text already has capacity for it.
 #[tactic(auto, using(crate::proofs::lemmas::edits::FrontAndBack::put_is, std::proofs::lemmas::Grind::common_steps))]
-pub(crate) fn put_in_place(text: &mut String, start: usize, stop: usize, insert: &str)
+pub(crate) fn apply_in_place(text: &mut String, start: usize, stop: usize, insert: &str)
     requires inside { IsInside (string_bytes text.old) start stop }
     requires room { string_len text.old + length insert.now ≤ string_capacity text.old }
     ensures text { string_bytes text.new ≡ apply (string_bytes text.old) start stop insert.now }
@@ -73,7 +73,7 @@ pub(crate) fn put_in_place(text: &mut String, start: usize, stop: usize, insert:
 pub(crate) struct Replacement {
     pub tokens: Vec<Token>,
     /// The old tokens from `at.front` up to `at.back` are replaced.
-    pub at: Relexing,
+    pub at: RelexState,
 }
 
 /// Lexes the text from the end of the kept front until it meets the old tokens. The search for the front starts at
@@ -111,7 +111,7 @@ pub(crate) fn relex<S: Stepper>(
         → S.count stepper.new ≤ S.count stepper.old + r.lexed)) }
 {
     let mut tokens = Vec::new(alloc);
-    let mut at = Relexing::begin(edited, near);
+    let mut at = RelexState::begin(edited, near);
     let Some(token) = at.next(stepper, edited) else {
         return Ok(Replacement { tokens, at });
     };
@@ -129,7 +129,7 @@ pub(crate) fn relex<S: Stepper>(
 }
 
 /// Returns the end of the last token that was lexed.
-fn end_of(at: Relexing) -> TokenStart
+fn end_of(at: RelexState) -> TokenStart
     requires small { known at < 2 ^ 64 }
     ensures { result ≡ end_of at }
 {
@@ -171,11 +171,11 @@ impl Replacement {
     /// Replaces the old tokens with the new ones, and the tokens of the head unless `head.keeps` is true. If an
     /// allocation fails, nothing changes.
     #[tactic(auto, using(crate::proofs::lemmas::edits::WholeEdits::put_behind, std::proofs::lemmas::Grind::common_steps))]
-    pub(crate) fn put_into(
+    pub(crate) fn splice_into(
         self,
         alloc: Global,
         tokens: &mut Vec<Token>,
-        head: HeadEdit,
+        head: HeadChange,
     ) -> Result<(), AllocError>
         requires order { self.at.front.index ≤ self.at.back.index }
         requires inside { length (model.tokens_of_head head.before) + self.at.back.index

@@ -10,10 +10,10 @@ ghost use Rattle.rustc_lexer.specs.Joined.{MayTouch, RunsOn, TailDecides, WhiteS
 ghost use Rattle.rustc_lexer.specs.LanguageText.{part};
 ghost use Rattle.rustc_lexer.specs.Locality.{has_two};
 ghost use Rattle.rustc_lexer.specs.{Token};
-ghost use Rattle.rustc_lexer.specs.model.Joined.{IsSure};
+ghost use Rattle.rustc_lexer.specs.model.Joined.{IsFinalBoundary};
 
 use crate::edition::{Edition, token_in};
-use crate::relex::front::{stand_before, two_stand};
+use crate::relex::boundary::{has_two_chars_between, is_boundary_two_chars_before};
 use crate::relex::settle::settled_in;
 use std::alloc::Global;
 use std::error::Error;
@@ -26,7 +26,7 @@ const SHORT: usize = 10;
 
 /// Returns whether the tokens of a text are the tokens of its part before `at`, followed by the tokens of its part
 /// after `at`. It lexes only up to the first token that differs.
-#[tactic(auto, using(crate::proofs::lemmas::joined::Separators::white_space_separates, crate::proofs::lemmas::joined::Sure::tail_decides, std::proofs::lemmas::Grind::common_steps))]
+#[tactic(auto, using(crate::proofs::lemmas::joined::Separators::white_space_separates, crate::proofs::lemmas::joined::FinalBoundary::tail_decides, std::proofs::lemmas::Grind::common_steps))]
 pub fn is_token_boundary(text: &str, at: usize, edition: Edition) -> bool
     requires fits { Fits text.now }
     requires boundary { IsCharBoundary text.now at }
@@ -83,7 +83,7 @@ pub struct JoinedText {
     edition: Edition,
     /// A token boundary that at least two characters follow, or 0. The tokens before it are final, whatever is
     /// appended.
-    sure: usize,
+    settled: usize,
 }
 
 impl Model for JoinedText {
@@ -91,7 +91,7 @@ impl Model for JoinedText {
     ghost use Rattle.rustc_lexer.specs.Answers.{first_in};
     ghost use Rattle.rustc_lexer.specs.Classes.{IsText};
     ghost use Rattle.rustc_lexer.specs.Joined.{Joined};
-    ghost use Rattle.rustc_lexer.specs.model.Joined.{IsSure};
+    ghost use Rattle.rustc_lexer.specs.model.Joined.{IsFinalBoundary};
 
     ghost Value = { Joined };
 
@@ -101,12 +101,12 @@ impl Model for JoinedText {
     } };
 
     ghost invariant = { λ j. IsText (string_bytes j.text)
-        × IsSure (first_in j.edition) (string_bytes j.text) j.sure };
+        × IsFinalBoundary (first_in j.edition) (string_bytes j.text) j.settled };
 }
 
 impl JoinedText {
     /// Creates an empty text whose pieces are lexed in the given edition.
-    #[tactic(auto, using(crate::proofs::lemmas::joined::Sure::sure_start, std::proofs::lemmas::Grind::common_steps))]
+    #[tactic(auto, using(crate::proofs::lemmas::joined::FinalBoundary::final_start, std::proofs::lemmas::Grind::common_steps))]
     pub fn new(alloc: Global, edition: Edition) -> JoinedText
         ensures text { result.text ≡ [] }
         ensures edition { result.edition ≡ edition }
@@ -114,7 +114,7 @@ impl JoinedText {
         JoinedText {
             text: String::new(alloc),
             edition,
-            sure: 0,
+            settled: 0,
         }
     }
 
@@ -167,12 +167,12 @@ impl JoinedText {
         if self.text.reserve(piece.len() + 1).is_err() {
             return Err(JoinError::Memory);
         }
-        if !append_separated(&mut self.text, self.sure, self.edition, piece) {
+        if !append_separated(&mut self.text, self.settled, self.edition, piece) {
             return Err(JoinError::Inseparable);
         }
         let text = self.text.as_str();
-        let sure = sure_joined(text, self.sure, at);
-        self.sure = sure_later(text, sure, self.edition);
+        let settled = settled_joined(text, self.settled, at);
+        self.settled = settled_later(text, settled, self.edition);
         Ok(())
     }
 
@@ -187,29 +187,33 @@ impl JoinedText {
         if !text.is_char_boundary(len) {
             return false;
         }
-        let Some(sure) = sure_before(text, self.sure, len, self.edition) else {
+        let Some(settled) = settled_before(text, self.settled, len, self.edition) else {
             return false;
         };
         self.text.truncate(len);
-        self.sure = sure;
+        self.settled = settled;
         true
     }
 }
 
 /// Returns a final boundary of the text up to `at`, from a final boundary of the whole text, or `None` if the text
 /// cannot be split at `at`.
-#[tactic(auto, using(crate::proofs::lemmas::joined::Sure::sure_start, crate::proofs::lemmas::joined::Sure::sure_place, crate::proofs::lemmas::joined::Sure::sure_cut))]
-fn sure_before(text: &str, sure: usize, at: usize, edition: Edition) -> Option<usize>
+#[tactic(auto, using(crate::proofs::lemmas::joined::FinalBoundary::final_start, crate::proofs::lemmas::joined::FinalBoundary::final_place, crate::proofs::lemmas::joined::FinalBoundary::final_cut))]
+fn settled_before(text: &str, settled: usize, at: usize, edition: Edition) -> Option<usize>
     requires fits { Fits text.now }
     requires boundary { IsCharBoundary text.now at }
-    requires sure { IsSure (first_in edition) text.now sure }
+    requires settled { IsFinalBoundary (first_in edition) text.now settled }
     ensures may { IsTrue (is_some result)
         ↔ MayTouch edition (take at text.now) (drop at text.now) }
-    ensures sure { IfSome result (λ it. IsSure (first_in edition) (take at text.now) it) }
+    ensures settled { IfSome result (λ it. IsFinalBoundary (first_in edition) (take at text.now) it) }
 {
-    let sure = if two_stand(text, sure, at) { sure } else { 0 };
-    if is_prefix_stable(text, sure, at, edition) {
-        Some(sure)
+    let settled = if has_two_chars_between(text, settled, at) {
+        settled
+    } else {
+        0
+    };
+    if is_prefix_stable(text, settled, at, edition) {
+        Some(settled)
     } else {
         None
     }
@@ -218,32 +222,32 @@ fn sure_before(text: &str, sure: usize, at: usize, edition: Edition) -> Option<u
 /// Appends the piece with the first separator that keeps all tokens. Returns whether there is one; if not, the text is
 /// unchanged. The text already has capacity for a separator of one byte.
 #[tactic(auto, using(crate::proofs::lemmas::joined::Joined::joined_lemmas, std::proofs::lemmas::Grind::common_steps))]
-fn append_separated(text: &mut String, sure: usize, edition: Edition, piece: &str) -> bool
+fn append_separated(text: &mut String, settled: usize, edition: Edition, piece: &str) -> bool
     requires fits { length (string_bytes text.old) + (length piece.now + 1) < 2 ^ 32 }
     requires room { string_len text.old + (length piece.now + 1) ≤ string_capacity text.old }
-    requires sure { IsSure (first_in edition) (string_bytes text.old) sure }
+    requires settled { IsFinalBoundary (first_in edition) (string_bytes text.old) settled }
     ensures joined { IsTrue result
         → IsJoined edition (string_bytes text.old) piece.now (string_bytes text.new) }
     ensures apart { result ≡ false → AreInseparable edition (string_bytes text.old) piece.now }
     ensures same { result ≡ false → string_bytes text.new ≡ string_bytes text.old }
 {
-    if append(text, sure, edition, "", piece) {
+    if append(text, settled, edition, "", piece) {
         return true;
     }
-    if append(text, sure, edition, " ", piece) {
+    if append(text, settled, edition, " ", piece) {
         return true;
     }
-    append(text, sure, edition, "\n", piece)
+    append(text, settled, edition, "\n", piece)
 }
 
 /// Appends the separator and the piece if that keeps all tokens. Returns whether it does. The text already has capacity
 /// for them.
-fn append(text: &mut String, sure: usize, edition: Edition, separator: &str, piece: &str) -> bool
+fn append(text: &mut String, settled: usize, edition: Edition, separator: &str, piece: &str) -> bool
     requires fits { length (string_bytes text.old) + (length separator.now + length piece.now)
         < 2 ^ 32 }
     requires room { string_len text.old + (length separator.now + length piece.now)
         ≤ string_capacity text.old }
-    requires sure { IsSure (first_in edition) (string_bytes text.old) sure }
+    requires settled { IsFinalBoundary (first_in edition) (string_bytes text.old) settled }
     ensures separated { IsTrue result
         ↔ IsSeparated edition (string_bytes text.old) separator.now piece.now }
     ensures text { string_bytes text.new
@@ -254,7 +258,7 @@ fn append(text: &mut String, sure: usize, edition: Edition, separator: &str, pie
 {
     let at = text.as_str().len();
     append_both(text, separator, piece);
-    let separated = separates(text.as_str(), sure, at, separator.len(), edition);
+    let separated = separates(text.as_str(), settled, at, separator.len(), edition);
     if !separated {
         text.truncate(at);
     }
@@ -294,49 +298,49 @@ fn keeps_separator(text: &str, at: usize, len: usize, edition: Edition) -> bool
 }
 
 /// Returns whether the `len` bytes from `at` on separate the texts before and after them without changing any token.
-fn separates(text: &str, sure: usize, at: usize, len: usize, edition: Edition) -> bool
+fn separates(text: &str, settled: usize, at: usize, len: usize, edition: Edition) -> bool
     requires fits { Fits text.now }
     requires boundary { IsCharBoundary text.now at }
     requires end { IsCharBoundary (drop at text.now) len }
-    requires sure { IsSure (first_in edition) (take at text.now) sure }
+    requires settled { IsFinalBoundary (first_in edition) (take at text.now) settled }
     ensures { IsTrue result ↔ IsSeparated edition (take at text.now) (take len (drop at text.now))
         (drop len (drop at text.now)) }
 {
-    keeps_separator(text, at, len, edition) && is_prefix_stable(text, sure, at, edition)
+    keeps_separator(text, at, len, edition) && is_prefix_stable(text, settled, at, edition)
 }
 
-/// Returns whether the tokens before `at` are also the first tokens of the whole text. The tokens before `sure` are.
-fn is_prefix_stable(text: &str, sure: usize, at: usize, edition: Edition) -> bool
+/// Returns whether the tokens before `at` are also the first tokens of the whole text. The tokens before `settled` are.
+fn is_prefix_stable(text: &str, settled: usize, at: usize, edition: Edition) -> bool
     requires fits { Fits text.now }
     requires boundary { IsCharBoundary text.now at }
-    requires sure { IsSure (first_in edition) (take at text.now) sure }
+    requires settled { IsFinalBoundary (first_in edition) (take at text.now) settled }
     ensures { IsTrue result ↔ MayTouch edition (take at text.now) (drop at text.now) }
 {
-    is_token_boundary(&text[sure..], at - sure, edition)
+    is_token_boundary(&text[settled..], at - settled, edition)
 }
 
 /// Returns a final boundary of a joined text: the end of the text before the piece, if two characters follow it, and
-/// otherwise `sure`.
-fn sure_joined(text: &str, sure: usize, at: usize) -> usize
-    ensures { (first : List ℕ → Token) → IsSure first text.now sure
-        → (has_two text.now at (length text.now) ≡ true → IsSure first text.now at)
-        → IsSure first text.now result }
+/// otherwise `settled`.
+fn settled_joined(text: &str, settled: usize, at: usize) -> usize
+    ensures { (first : List ℕ → Token) → IsFinalBoundary first text.now settled
+        → (has_two text.now at (length text.now) ≡ true → IsFinalBoundary first text.now at)
+        → IsFinalBoundary first text.now result }
 {
-    if stand_before(text, at, text.len()) {
+    if is_boundary_two_chars_before(text, at, text.len()) {
         at
     } else {
-        sure
+        settled
     }
 }
 
-/// Returns the last final boundary of the text, or `sure` itself if only few bytes follow it.
-fn sure_later(text: &str, sure: usize, edition: Edition) -> usize
+/// Returns the last final boundary of the text, or `settled` itself if only few bytes follow it.
+fn settled_later(text: &str, settled: usize, edition: Edition) -> usize
     requires fits { Fits text.now }
-    requires sure { IsSure (first_in edition) text.now sure }
-    ensures { IsSure (first_in edition) text.now result }
+    requires settled { IsFinalBoundary (first_in edition) text.now settled }
+    ensures { IsFinalBoundary (first_in edition) text.now result }
 {
-    if text.len().saturating_sub(sure) <= SHORT {
-        return sure;
+    if text.len().saturating_sub(settled) <= SHORT {
+        return settled;
     }
-    sure + settled_in(&text[sure..], edition)
+    settled + settled_in(&text[settled..], edition)
 }

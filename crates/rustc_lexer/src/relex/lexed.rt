@@ -8,20 +8,21 @@ ghost use Rattle.rustc_lexer.specs.Partition.{tokens_in};
 
 use crate::entry::stepper::Stepper;
 use crate::head::{Document, Extent, Fragment};
-use crate::relex::edit::{accepts, put_in_place};
-use crate::relex::kept::{Kept, lex_body, renew};
-use crate::relex::relexing::{Change, Relexed};
+use crate::relex::edit::{accepts, apply_in_place};
+use crate::relex::lexed::parts::{LexedParts, lex_body, update};
+use crate::relex::relexer::{Change, Relexed};
 use crate::token::Token;
 use std::alloc::{AllocError, Global};
 use std::marker::{Model, PhantomData};
 
-mod at_once;
 mod document;
-mod edits;
+mod edit_batch;
+mod edit_sequence;
 mod in_edition;
 mod look_up;
+mod parts;
 mod set_text;
-mod stream;
+mod settled;
 
 /// A text with its tokens, which are kept up to date as it is edited, and with the stepper that lexed them.
 ///
@@ -29,7 +30,7 @@ mod stream;
 /// less than two characters before it, up to the offset at which old and new tokens meet.
 #[derive(Drop)]
 pub struct Lexed<S: Stepper, E: Extent> {
-    kept: Kept<S, E>,
+    parts: LexedParts<S, E>,
 }
 
 /// A fragment of a file, with tokens that are kept up to date as it is edited. It has no head: a shebang line or a
@@ -55,19 +56,19 @@ pub type LexedDocument<S> = Lexed<S, Document>;
 
 impl<S: Stepper, E: Extent> Model for Lexed<S, E> {
     ghost use Rattle.std.specs.String.{string_bytes};
-    ghost use Rattle.rustc_lexer.specs.LexedText.{Held, layout_in};
+    ghost use Rattle.rustc_lexer.specs.LexedText.{LexedModel, layout_in};
     ghost use Rattle.rustc_lexer.specs.model.Document.{AreKeptOf};
 
-    ghost Value = { Held S };
+    ghost Value = { LexedModel S };
 
     ghost view = { λ a. record {
-      text = string_bytes a.kept.text;
-      tokens = a.kept.tokens.items;
-      stepper = a.kept.stepper;
+      text = string_bytes a.parts.text;
+      tokens = a.parts.tokens.items;
+      stepper = a.parts.stepper;
     } };
 
-    ghost invariant = { λ a. AreKeptOf (layout_in E.whole) (S.grammar a.kept.stepper).first (string_bytes a.kept.text)
-        a.kept.tokens.items a.kept.head a.kept.checkpoints };
+    ghost invariant = { λ a. AreKeptOf (layout_in E.whole) (S.grammar a.parts.stepper).first (string_bytes a.parts.text)
+        a.parts.tokens.items a.parts.head a.parts.checkpoints };
 }
 
 impl<S: Stepper, E: Extent> Lexed<S, E> {
@@ -107,7 +108,7 @@ impl<S: Stepper, E: Extent> Lexed<S, E> {
         let head = E::find_head(text.as_str());
         let (tokens, checkpoints) = lex_body(alloc, head, &mut stepper, text.as_str())?;
         Ok(Lexed {
-            kept: Kept {
+            parts: LexedParts {
                 alloc,
                 extent: PhantomData,
                 text,
@@ -124,7 +125,7 @@ impl<S: Stepper, E: Extent> Lexed<S, E> {
         ensures text { result.now ≡ self.now.text }
         ensures fits { Fits result.now }
     {
-        self.kept.text.as_str()
+        self.parts.text.as_str()
     }
 
     /// Returns the tokens of the text, in order. A byte order mark and a shebang line are not tokens.
@@ -133,22 +134,22 @@ impl<S: Stepper, E: Extent> Lexed<S, E> {
         ensures from_scratch { result.now
             ≡ tokens_in (layout_in E.whole (S.grammar self.now.stepper).first self.now.text) }
     {
-        self.kept.tokens.as_slice()
+        self.parts.tokens.as_slice()
     }
 
     /// Returns the stepper that lexed the tokens.
     pub fn stepper(&self) -> &S
         ensures { result.now ≡ self.now.stepper }
     {
-        &self.kept.stepper
+        &self.parts.stepper
     }
 
     /// Returns the text, without copying it, and drops its tokens.
     pub fn into_string(self) -> String
         ensures { string_bytes result ≡ self.text }
     {
-        let Lexed { kept } = self;
-        let Kept { text, .. } = kept;
+        let Lexed { parts } = self;
+        let LexedParts { text, .. } = parts;
         text
     }
 
@@ -157,8 +158,8 @@ impl<S: Stepper, E: Extent> Lexed<S, E> {
     pub fn shrink_to_fit(&mut self)
         ensures { self.new ≡ self.old }
     {
-        self.kept.text.shrink_to_fit();
-        self.kept.tokens.shrink_to_fit();
+        self.parts.text.shrink_to_fit();
+        self.parts.tokens.shrink_to_fit();
     }
 
     /// Lexes the text again with another stepper. The head of a document is kept.
@@ -179,17 +180,22 @@ impl<S: Stepper, E: Extent> Lexed<S, E> {
         ensures same { OnErr result (self.new ≡ self.old) }
     {
         let mut stepper = stepper;
-        let text = self.kept.text.as_str();
-        let (tokens, checkpoints) = lex_body(self.kept.alloc, self.kept.head, &mut stepper, text)?;
-        self.kept.tokens = tokens;
-        self.kept.stepper = stepper;
-        self.kept.checkpoints = checkpoints;
+        let text = self.parts.text.as_str();
+        let (tokens, checkpoints) = lex_body(
+            self.parts.alloc,
+            self.parts.head,
+            &mut stepper,
+            text,
+        )?;
+        self.parts.tokens = tokens;
+        self.parts.stepper = stepper;
+        self.parts.checkpoints = checkpoints;
         Ok(())
     }
 
     /// Replaces the text and lexes the new one from scratch with the stepper, whatever the old text and tokens are. If
     /// an allocation fails, both texts are left as they were.
-    pub(crate) fn lex_anew(&mut self, text: &mut String) -> Result<(), AllocError>
+    pub(crate) fn lex_from_scratch(&mut self, text: &mut String) -> Result<(), AllocError>
         requires fits { Fits (string_bytes text.old) }
         ensures text { OnOk result (self.new.text ≡ string_bytes text.old) }
         ensures from_scratch { self.new.tokens
@@ -197,13 +203,13 @@ impl<S: Stepper, E: Extent> Lexed<S, E> {
         ensures grammar { S.grammar self.new.stepper ≡ S.grammar self.old.stepper }
         ensures same { OnErr result ((self.new.text ≡ self.old.text) × (text.new ≡ text.old)) }
     {
-        let stepper = &mut self.kept.stepper;
+        let stepper = &mut self.parts.stepper;
         let now = E::find_head(text.as_str());
-        let (lexed, checkpoints) = lex_body(self.kept.alloc, now, stepper, text.as_str())?;
-        self.kept.text = std::mem::replace(text, String::new(self.kept.alloc));
-        self.kept.tokens = lexed;
-        self.kept.head = now;
-        self.kept.checkpoints = checkpoints;
+        let (lexed, checkpoints) = lex_body(self.parts.alloc, now, stepper, text.as_str())?;
+        self.parts.text = std::mem::replace(text, String::new(self.parts.alloc));
+        self.parts.tokens = lexed;
+        self.parts.head = now;
+        self.parts.checkpoints = checkpoints;
         Ok(())
     }
 
@@ -212,7 +218,7 @@ impl<S: Stepper, E: Extent> Lexed<S, E> {
     pub fn accepts(&self, start: usize, stop: usize, insert: &str) -> bool
         ensures { IsTrue result ↔ IsEdit self.now.text start stop insert.now }
     {
-        accepts(self.kept.text.as_str(), start, stop, insert)
+        accepts(self.parts.text.as_str(), start, stop, insert)
     }
 
     /// Replaces the bytes in `start..stop` with `insert`. The edit must be [accepted](Lexed::accepts).
@@ -231,18 +237,18 @@ impl<S: Stepper, E: Extent> Lexed<S, E> {
         ensures count { HasStepCount (layout_in E.whole (S.grammar self.old.stepper).first) self.old.text start
             stop insert.now result (S.count self.old.stepper) (S.count self.new.stepper) }
     {
-        let removed = String::from_str(self.kept.alloc, &self.kept.text[start..stop])?;
-        self.kept.text.reserve(insert.len())?;
-        put_in_place(&mut self.kept.text, start, stop, insert);
+        let removed = String::from_str(self.parts.alloc, &self.parts.text[start..stop])?;
+        self.parts.text.reserve(insert.len())?;
+        apply_in_place(&mut self.parts.text, start, stop, insert);
         let edit = Change {
             start,
             old_end: stop,
             new_end: start + insert.len(),
         };
-        match renew(&mut self.kept, edit) {
+        match update(&mut self.parts, edit) {
             Ok(counts) => Ok(counts),
             Err(refused) => {
-                put_in_place(&mut self.kept.text, start, edit.new_end, removed.as_str());
+                apply_in_place(&mut self.parts.text, start, edit.new_end, removed.as_str());
                 Err(refused)
             }
         }

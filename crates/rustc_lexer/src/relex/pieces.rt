@@ -33,10 +33,10 @@ pub struct Pieces<'a> {
 
 impl<'a> Model for Pieces<'a> {
     ghost use Rattle.std.specs.Prelude.{List};
-    ghost use Rattle.rustc_lexer.specs.LexedText.{Placed, pieces_from};
+    ghost use Rattle.rustc_lexer.specs.LexedText.{PieceModel, pieces_from};
     ghost use Rattle.rustc_lexer.specs.model.Pieces.{AreCut};
 
-    ghost Value = { List Placed };
+    ghost Value = { List PieceModel };
 
     ghost view = { λ p. pieces_from p.text.now p.start p.tokens.now };
 

@@ -1,7 +1,7 @@
 //! Replaces the middle of a list of tokens in place.
 ghost use Rattle.std.specs.Prelude.{◌≡◌, ◌+◌, ◌≤◌, ◌++◌, OnOk, OnErr, length, take, drop};
 
-use crate::relex::lex::make_room;
+use crate::relex::lex_all::make_room;
 use crate::token::{Token, TokenKind};
 use std::alloc::AllocError;
 

@@ -6,7 +6,7 @@ ghost use Rattle.rustc_lexer.specs.Locality.{AreLocal, IsSettled, StaysUpTo};
 
 use crate::edition::Edition;
 use crate::entry::stepper::{Stepper, Steps};
-use crate::relex::front::two_stand;
+use crate::relex::boundary::has_two_chars_between;
 
 /// Returns the byte offset up to which tokens are final, whatever is appended to the text, or 0 if none are.
 ///
@@ -42,7 +42,7 @@ fn settled_by<S: Stepper>(stepper: &mut S, text: &str) -> usize
     while offset < text.len() {
         let token = stepper.step(&text[offset..]);
         let next = offset + token.len as usize;
-        if !two_stand(text, next, text.len()) {
+        if !has_two_chars_between(text, next, text.len()) {
             break;
         }
         offset = next;

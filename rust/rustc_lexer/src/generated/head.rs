@@ -10,8 +10,8 @@ use crate::support::AllocError;
 
 /// The head of a document, which is the text before its body: a byte order mark, a shebang line and a frontmatter.
 ///
-/// It is for programs that store the tokens of a whole file in lists of their own. [`Head::change_to`] returns the
-/// change of the body by an edit of the document, and [`Relex`](crate::Relex) re-lexes the part that changed.
+/// It is for programs that store the tokens of a whole file in lists of their own. [`Head::body_change`] returns the
+/// change of the body by an edit of the document, and [`Relexer`](crate::Relexer) re-lexes the part that changed.
 ///
 /// ```
 /// use rustc_lexer::incremental::{Change, Head};
@@ -20,7 +20,7 @@ use crate::support::AllocError;
 /// // A `b` was inserted at 15.
 /// let change = Change { start: 15, old_end: 15, new_end: 16 };
 /// let (head, now) = (Head::find(old), Head::find(new));
-/// let body = head.change_to(now, change);
+/// let body = head.body_change(now, change);
 /// assert!(body.keeps_head);
 /// assert_eq!(&new[now.body..], "\nlet ab;");
 /// assert_eq!(body.change, Change { start: 6, old_end: 6, new_end: 7 });

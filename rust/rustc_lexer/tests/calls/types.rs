@@ -144,7 +144,7 @@ fn traits() {
     fn stays_at_its_end<T: std::iter::FusedIterator + Clone + std::fmt::Debug>() {}
     #[cfg(feature = "alloc")]
     fn has_two_ends<T: DoubleEndedIterator + ExactSizeIterator>() {}
-    fn is_measured<T: incremental::Measured>() {}
+    fn is_measured<T: incremental::TextLen>() {}
     fn steps<T: rustc_lexer::Stepper + Clone + std::fmt::Debug>() {}
     fn is_key<T: Copy + Eq + std::hash::Hash>() {}
     fn crosses_threads<T: Send + Sync + std::panic::UnwindSafe + std::panic::RefUnwindSafe>() {}
@@ -159,7 +159,7 @@ fn traits() {
         incremental::BodyChange,
         incremental::Change,
         incremental::Head,
-        incremental::Relexing,
+        incremental::RelexState,
     )>();
     is_key::<(
         TokenStart,

@@ -57,7 +57,7 @@ pub fn rustc_lexer_body_edit_unchecked(
         return Refusal::BadEdit.number();
     }
     let now = Head::find(text);
-    let body = head_of(head).change_to(now, change);
+    let body = head_of(head).body_change(now, change);
     if !body.change.is_valid_for(&text[now.body..]) {
         return Refusal::BadEdit.number();
     }

@@ -2,7 +2,7 @@
 //! Finds the token at an offset.
 
 use crate::generated::token::CToken;
-use rustc_lexer::generated::{TokenStart, token_around};
+use rustc_lexer::generated::{TokenStart, find_token};
 
 /// Finds the token that contains the byte at `offset`, and writes its index and the offset at which it starts. Returns
 /// whether there is such a token. If there is none, the index and the start are unchanged.
@@ -19,7 +19,7 @@ pub fn rustc_lexer_token_start_at(
         index: *number,
         offset: *start,
     };
-    match token_around(tokens, near, offset) {
+    match find_token(tokens, near, offset) {
         Some(at) => {
             *number = at.index;
             *start = at.offset;

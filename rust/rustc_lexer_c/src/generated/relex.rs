@@ -3,7 +3,7 @@
 
 use crate::generated::status::{OK, Refusal, refuse, text_of, utf8_text_of};
 use crate::generated::token::CToken;
-use rustc_lexer::generated::{Change, Edition, Measured, Relex, Relexing, Steps, TokenStart};
+use rustc_lexer::generated::{Change, Edition, RelexState, Relexer, Steps, TextLen, TokenStart};
 
 /// An applied edit, as offsets in bytes. It replaced the bytes from `start` up to `old_end` of the old text with the
 /// bytes from `start` up to `new_end` of the current text.
@@ -43,7 +43,7 @@ pub struct CRelexing {
     pub stage: usize,
 }
 
-impl Measured for CToken {
+impl TextLen for CToken {
     fn len(&self) -> u32 {
         self.len
     }
@@ -116,14 +116,14 @@ fn relex_at<'a>(
     old: &'a [CToken],
     change: Change,
     relexing: &CRelexing,
-) -> Option<Relex<'a, CToken>> {
+) -> Option<Relexer<'a, CToken>> {
     if relexing.stage == STAGE_BEGIN {
-        return Relex::begin(text, old, change, front_of(relexing));
+        return Relexer::begin(text, old, change, front_of(relexing));
     }
     let Some(state) = state_of(relexing, old.len()) else {
         return None;
     };
-    Relex::resume(text, old, change, state)
+    Relexer::resume(text, old, change, state)
 }
 
 /// Returns the token boundary in the fields of the front.
@@ -135,11 +135,11 @@ fn front_of(relexing: &CRelexing) -> TokenStart {
 }
 
 /// Returns the state with these numbers, or `None` if fewer old tokens exist than are kept at the back.
-fn state_of(relexing: &CRelexing, old_count: usize) -> Option<Relexing> {
+fn state_of(relexing: &CRelexing, old_count: usize) -> Option<RelexState> {
     if relexing.kept_back > old_count {
         return None;
     }
-    Some(Relexing {
+    Some(RelexState {
         front: front_of(relexing),
         lexed: relexing.lexed,
         back: TokenStart {
@@ -152,7 +152,7 @@ fn state_of(relexing: &CRelexing, old_count: usize) -> Option<Relexing> {
 }
 
 /// Returns the state of relexing as numbers.
-fn relexing_numbers(relex: &Relex<'_, CToken>) -> CRelexing {
+fn relexing_numbers(relex: &Relexer<'_, CToken>) -> CRelexing {
     let state = relex.state();
     CRelexing {
         kept_front: state.front.index,

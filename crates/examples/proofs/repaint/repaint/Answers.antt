@@ -1,5 +1,5 @@
 use Rattle.std.proofs.{Common.{refl, arith, rules}, lemmas.Grind.{common_steps}}
-use Rattle.rustc_lexer.specs.LexedText.{placed}
+use Rattle.rustc_lexer.specs.LexedText.{piece_model}
 use Rattle.examples.proofs.PieceLemmas.{writes_piece}
 use Rattle.examples.proofs.repaint.repaint.Goals as goal
 

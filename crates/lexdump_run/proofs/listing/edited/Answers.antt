@@ -1,5 +1,5 @@
 use Rattle.std.proofs.{Common.{List, ℕ, arith, ap, ◌∙◌}, lemmas.Grind.{common_steps}}
-use Rattle.rustc_lexer.specs.declared.relex.{edit.Edit.{Edit as TextEdit}, edit_list.EditStop.{EditStop}}
+use Rattle.rustc_lexer.specs.declared.relex.{edit.Edit.{Edit as TextEdit}, edit_error.EditStop.{EditStop}}
 use Rattle.lexdump_run.specs.{Fault.{stop_fault}, Outcome.{IsRefused, StopsAt}}
 use Rattle.lexdump_run.proofs.listing.edited.Goals as goal
 use Rattle.rustc_lexer.specs.{LanguageText.{part}, Locality.{Grammar}}

@@ -5,7 +5,7 @@ use Rattle.std.proofs.lemmas.List.Sums.{sum_by_from}
 use Rattle.std.specs.List.{count_by}
 use Rattle.std.proofs.lemmas.{List.{drop_all}, Str.{IsCharBoundary-from_drop, IsUtf8-drop}, Grind.{common_steps}}
 use Rattle.rustc_lexer.specs.{Token, Classes.{IsText}, Locality.{IsGrammar}, Tokens.{bound, tokens_by}}
-use Rattle.rustc_lexer.specs.{model.Relexing.{AreBoundaries}, laws.Cuts.{IsCutAt, at_bound, tokens-cons, tokens-nil}}
+use Rattle.rustc_lexer.specs.{model.Relexer.{AreBoundaries}, laws.Cuts.{IsCutAt, at_bound, tokens-cons, tokens-nil}}
 use Rattle.rustc_lexer.proofs.lemmas.tokens.Progress.{IsNext, next-from_drop}
 
 -- The rest of a text from a boundary on is a text.

@@ -5,10 +5,10 @@ use Rattle.std.proofs.Common.{length-take-le, append_assoc, eq-or-lt_of_le, IsCh
 use Rattle.std.proofs.lemmas.Str.{IsUtf8-append, IsUtf8-drop, IsCharBoundary-at_seam, IsCharBoundary-from_drop}
 use Rattle.std.proofs.lemmas.Str.{IsUtf8-take, IsCharBoundary-from_take}
 use Rattle.std.proofs.lemmas.Grind.{common_steps}
-use Rattle.rustc_lexer.specs.declared.relex.{front.{Damage.Damage, TokenStart.TokenStart}, relexing.Change.{Change}}
+use Rattle.rustc_lexer.specs.declared.relex.{boundary.{Damage.Damage, TokenStart.TokenStart}, relexer.Change.{Change}}
 use Rattle.rustc_lexer.specs.{Token, Eof, Tokens.{bound, tokens_by}, Edits.{apply}, Offsets.{IsBound}}
-use Rattle.rustc_lexer.specs.Relexing.{IsChange, IsEditOf, IsMadeOf}
-use Rattle.rustc_lexer.specs.model.Relexing.{IsFollowed, IsFront, IsLast, damage_of, HasLengths}
+use Rattle.rustc_lexer.specs.Relexer.{IsChange, IsEditOf, IsMadeOf}
+use Rattle.rustc_lexer.specs.model.Relexer.{IsFollowed, IsFront, IsLast, damage_of, HasLengths}
 use Rattle.rustc_lexer.specs.{Locality.{IsGrammar, has_two}, Classes.{IsText}}
 use Rattle.rustc_lexer.proofs.lemmas.edits.Bounds.{bound-last, bound_mono, cuts, rises}
 use Rattle.rustc_lexer.proofs.lemmas.edits.FrontAndBack.{edited, has_two-late, has_two-same}

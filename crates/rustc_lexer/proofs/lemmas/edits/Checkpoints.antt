@@ -3,7 +3,7 @@ use Rattle.std.proofs.Common.{◌≡◌, ℕ, ◌+◌, ◌-◌, ◌≤◌, List,
 use Rattle.std.proofs.Common.{take-take}
 use Rattle.std.specs.List.{All}
 use Rattle.std.proofs.lemmas.Grind.{common_steps}
-use Rattle.rustc_lexer.specs.declared.relex.{front.TokenStart.{TokenStart}, checkpoints.Checkpoints.{Checkpoints}}
+use Rattle.rustc_lexer.specs.declared.relex.{boundary.TokenStart.{TokenStart}, checkpoints.Checkpoints.{Checkpoints}}
 use Rattle.rustc_lexer.specs.{Token, Classes.{IsText}, Locality.{IsGrammar}, Tokens.{tokens_by}}
 use Rattle.rustc_lexer.specs.{Offsets.{IsBound}, model.Checkpoints.{AreBounds, IsMovable, IsReplaced}}
 use Rattle.rustc_lexer.proofs.lemmas.edits.{Bounds.{bound_mono, bounds_fit, tokens_le_bytes}, FrontAndBack.{bound-same}}

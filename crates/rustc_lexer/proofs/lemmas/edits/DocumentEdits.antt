@@ -6,16 +6,16 @@ use Rattle.std.specs.List.{All, Contains}
 use Rattle.std.proofs.lemmas.List.{take_rest, Elements.{All-contains}}
 use Rattle.std.proofs.Math.Seq.{drop-append_seam, drop-append-add, take-append_seam, take-append-add}
 use Rattle.std.proofs.lemmas.Grind.{common_steps}
-use Rattle.rustc_lexer.specs.declared.relex.{checkpoints.Checkpoints.{Checkpoints}, front.TokenStart.{TokenStart}}
+use Rattle.rustc_lexer.specs.declared.relex.{checkpoints.Checkpoints.{Checkpoints}, boundary.TokenStart.{TokenStart}}
 use Rattle.rustc_lexer.specs.declared.head.Head.{Head}
-use Rattle.rustc_lexer.specs.{declared.relex.relexing.{Change.Change, Relexed.Relexed, Relexing.Relexing}, Token}
+use Rattle.rustc_lexer.specs.{declared.relex.relexer.{Change.Change, Relexed.Relexed, RelexState.RelexState}, Token}
 use Rattle.rustc_lexer.specs.model.Document.{body_change, body_insert, counted, IsHeadIn, IsPut, tokens_of_head}
 use Rattle.rustc_lexer.specs.model.Document.{AreKeptOf, TakesFew, edit_change, text_left}
 use Rattle.rustc_lexer.specs.Partition.{Layout, tokens_in}
-use Rattle.rustc_lexer.specs.LexedText.{AreKept, Held, HasStepCount, IsEdited, layout_in}
-use Rattle.rustc_lexer.specs.{Offsets.{IsBound}, Relexing.{IsMadeOf, known, IsEditOf}, Locality.{IsGrammar}}
+use Rattle.rustc_lexer.specs.LexedText.{AreKept, LexedModel, HasStepCount, IsEdited, layout_in}
+use Rattle.rustc_lexer.specs.{Offsets.{IsBound}, Relexer.{IsMadeOf, known, IsEditOf}, Locality.{IsGrammar}}
 use Rattle.rustc_lexer.specs.{Tokens.{tokens_by}, model.Checkpoints.{IsMovable, IsReplaced, end_of}}
-use Rattle.rustc_lexer.specs.model.Relexing.{IsLexed}
+use Rattle.rustc_lexer.specs.model.Relexer.{IsLexed}
 use Rattle.rustc_lexer.proofs.lemmas.edits.{Bounds.{tokens_le_bytes}, Checkpoints.{movable_for}, FrontAndBack.{edited}}
 use Rattle.rustc_lexer.proofs.lemmas.edits.{Heads.{all_are, head_in}, KeptFront.{kept_none}}
 use Rattle.rustc_lexer.proofs.lemmas.edits.{UnderWay.{kept_old, lexed_whole, rest_met}, WholeEdits.{body_made, few_by}}
@@ -58,7 +58,7 @@ module _ {layout : (List ℕ → Token) → List ℕ → Layout} {first : List �
     made_here = body_made law p.edit_of p.kept.2 now_is decided
 
     -- The new list of tokens: the lexed tokens replace the old ones.
-    module _ {lexed : List Token} {at : Relexing} (l : IsLexed first (drop old.body before) change body lexed at)
+    module _ {lexed : List Token} {at : RelexState} (l : IsLexed first (drop old.body before) change body lexed at)
         {new : List Token}
         (put : new ≡ (if kept then take n tokens else tokens_of_head now)
         ++ (take at.front.index (drop n tokens) ++ (lexed ++ drop at.back.index (drop n tokens))))
@@ -240,7 +240,7 @@ counted_refused (Ok x) err rose few = absurd (cc)
 counted_refused (Err e) err rose few = record { count = search rules; rose = rose; few = few }
 
 -- The type of the error does not matter for a successful edit.
-pub made_as : {S A B : Type 0} {layout : List ℕ → Layout} {old new : Held S} {start stop : ℕ} {insert : List ℕ}
+pub made_as : {S A B : Type 0} {layout : List ℕ → Layout} {old new : LexedModel S} {start stop : ℕ} {insert : List ℕ}
     {r : Relexed}
     → IsEdited {E = A} layout old start stop insert (Ok r) new
     → IsEdited {E = B} layout old start stop insert (Ok r) new

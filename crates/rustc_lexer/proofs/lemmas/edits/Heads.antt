@@ -5,7 +5,7 @@ use Rattle.std.proofs.lemmas.{Grind.{common_steps}, Str.{IsCharBoundary-start}}
 use Rattle.rustc_lexer.specs.{Edition, Token, declared.head.Head.{Head}, Answers.{first_in}, Classes.{IsText}}
 use Rattle.rustc_lexer.specs.Document.{body_start, head_tokens, tokens_start, document_by}
 use Rattle.rustc_lexer.specs.{Edits.{body_in, KeepsHead, fragment_by}, LexedText.{edition_tokens_in, layout_in, start_in}}
-use Rattle.rustc_lexer.specs.{LanguageText.{newest}, Partition.{Layout, tokens_in}, Relexing.{IsHeadOf}}
+use Rattle.rustc_lexer.specs.{LanguageText.{newest}, Partition.{Layout, tokens_in}, Relexer.{IsHeadOf}}
 use Rattle.rustc_lexer.specs.Tokens.{bound, tokens_by}
 use Rattle.rustc_lexer.specs.model.Document.{by_head, front_tokens, IsHeadIn, tokens_of_head}
 use Rattle.rustc_lexer.proofs.lemmas.edits.FrontAndBack.{bound-take}

@@ -5,20 +5,20 @@ use Rattle.std.proofs.Common.{slice_range, refl, ap, subst, arith, drop-drop, ta
 use Rattle.std.proofs.Common.{drop_at, length-append, length-drop, length-take, length-take-le, IsUtf8, IsCharBoundary}
 use Rattle.std.proofs.lemmas.{List.{drop-take, Folds.{drop_split}}, Slice.Eq.{bytes_eq-Decides}}
 use Rattle.std.proofs.{lemmas.Str.{IsCharBoundary-from_take, IsCharBoundary-start, IsUtf8-take}, Math.Seq.{take-add}}
-use Rattle.rustc_lexer.specs.{Edits.{IsNarrowest, Makes, apply}, model.Relexing.{IsSameBack, IsSameFront}}
+use Rattle.rustc_lexer.specs.{Edits.{IsNarrowest, Makes, apply}, model.Relexer.{IsCommonSuffix, IsCommonPrefix}}
 use Rattle.rustc_lexer.proofs.lemmas.edits.FrontAndBack.{three_parts}
 
 -- ---- the common prefix
 
 -- A common prefix, followed by a slice that is equal in both texts, is a common prefix.
-pub front_more : (old new : List ℕ) (at to : ℕ) → IsSameFront old new at → at ≤ to → to ≤ length old
-    → to ≤ length new → slice_range old at to ≡ slice_range new at to → IsSameFront old new to
+pub front_more : (old new : List ℕ) (at to : ℕ) → IsCommonPrefix old new at → at ≤ to → to ≤ length old
+    → to ≤ length new → slice_range old at to ≡ slice_range new at to → IsCommonPrefix old new to
 front_more old new at to is less in_old in_new same =
     let there : at + (to - at) ≡ to = omega arith in
     let part = take-add at (to - at) in
     record { in_old = in_old; in_new = in_new; same = cc (part old, part new, is.same) }
 
-pub front_less : (old new : List ℕ) (at n : ℕ) → IsSameFront old new at → n ≤ at → IsSameFront old new n
+pub front_less : (old new : List ℕ) (at n : ℕ) → IsCommonPrefix old new at → n ≤ at → IsCommonPrefix old new n
 front_less old new at n is less = record {
   in_old = omega arith;
   in_new = omega arith;
@@ -26,14 +26,14 @@ front_less old new at n is less = record {
 }
 
 -- Every slice of a common prefix is equal in both texts.
-pub front_slice : (old new : List ℕ) (at to n : ℕ) → IsSameFront old new n → at ≤ to → to ≤ n
+pub front_slice : (old new : List ℕ) (at to n : ℕ) → IsCommonPrefix old new n → at ≤ to → to ≤ n
     → slice_range old at to ≡ slice_range new at to
 front_slice old new at to n is less in_front =
     let there : at + (to - at) ≡ to = omega arith in
     cc (drop-take at (to - at) old, (front_less old new n to is in_front).same, drop-take at (to - at) new)
 
 -- A char boundary of one text within the common prefix is a char boundary of both.
-pub front_boundary : (old new : List ℕ) (n : ℕ) → IsUtf8 old → IsUtf8 new → IsSameFront old new n
+pub front_boundary : (old new : List ℕ) (n : ℕ) → IsUtf8 old → IsUtf8 new → IsCommonPrefix old new n
     → IsCharBoundary old n → IsCharBoundary new n
 front_boundary old new n old_is new_is is at =
     grind (
@@ -54,16 +54,16 @@ shorter P test cut is less = grind (arith, test)
 
 -- ---- the common suffix
 
-pub back_more : (old new : List ℕ) (start at to : ℕ) → IsSameBack old new start at → at ≤ to
+pub back_more : (old new : List ℕ) (start at to : ℕ) → IsCommonSuffix old new start at → at ≤ to
     → start + to ≤ length old → start + to ≤ length new
     → slice_range old (length old - to) (length old - at) ≡ slice_range new (length new - to) (length new - at)
-    → IsSameBack old new start to
+    → IsCommonSuffix old new start to
 back_more old new start at to is less in_old in_new same =
     let parts = λ (xs : List ℕ). drop_split xs (length xs - to) (length xs - at) (omega arith) in
     record { in_old = in_old; in_new = in_new; same = cc (parts old, is.same, parts new) }
 
-pub back_less : (old new : List ℕ) (start at n : ℕ) → IsSameBack old new start at → n ≤ at
-    → IsSameBack old new start n
+pub back_less : (old new : List ℕ) (start at n : ℕ) → IsCommonSuffix old new start at → n ≤ at
+    → IsCommonSuffix old new start n
 back_less old new start at n is less =
     let part : (xs : List ℕ) → start + at ≤ length xs
     → drop (at - n) (drop (length xs - at) xs) ≡ drop (length xs - n) xs =
@@ -76,7 +76,7 @@ back_less old new start at n is less =
     }
 
 -- No common suffix extends over a slice that differs.
-pub back_differs : (old new : List ℕ) (start at to n : ℕ) → IsSameBack old new start n → at ≤ to
+pub back_differs : (old new : List ℕ) (start at to n : ℕ) → IsCommonSuffix old new start n → at ≤ to
     → (slice_range old (length old - to) (length old - at)
     ≡ slice_range new (length new - to) (length new - at) → ⊥)
     → n < to
@@ -91,12 +91,12 @@ back_differs old new start at to n is less differ =
 
 -- Each edit that turns the old text into the new one leaves a common prefix and a common suffix.
 pub front_left : {old new : List ℕ} {start stop : ℕ} {insert : List ℕ} → Makes old new start stop insert
-    → IsSameFront old new start
+    → IsCommonPrefix old new start
 unfolding apply
 front_left is = grind (arith, common_steps, length-take-le, take_at, length-take)
 
 pub back_left : {old new : List ℕ} {start stop : ℕ} {insert : List ℕ} → Makes old new start stop insert
-    → IsSameBack old new start (length old - stop)
+    → IsCommonSuffix old new start (length old - stop)
 unfolding apply
 back_left {old} {new} {start} {stop} {insert} is =
     let inside = is.valid.inside in
@@ -116,10 +116,10 @@ back_left {old} {new} {start} {stop} {insert} is =
     }
 
 pub narrowest : {old new insert : List ℕ} {start back : ℕ} → length new < 2 ^ 32
-    → IsSameFront old new start → IsCharBoundary old start
-    → ((n : ℕ) → IsSameFront old new n → IsCharBoundary old n → n ≤ start)
-    → IsSameBack old new start back → IsCharBoundary old (length old - back)
-    → ((n : ℕ) → IsSameBack old new start n → IsCharBoundary old (length old - n) → n ≤ back)
+    → IsCommonPrefix old new start → IsCharBoundary old start
+    → ((n : ℕ) → IsCommonPrefix old new n → IsCharBoundary old n → n ≤ start)
+    → IsCommonSuffix old new start back → IsCharBoundary old (length old - back)
+    → ((n : ℕ) → IsCommonSuffix old new start n → IsCharBoundary old (length old - n) → n ≤ back)
     → insert ≡ slice_range new start (length new - back)
     → IsNarrowest old new start (length old - back) insert
 unfolding apply

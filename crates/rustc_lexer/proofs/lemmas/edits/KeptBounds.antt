@@ -4,14 +4,14 @@ use Rattle.std.proofs.Common.{arith, length-append, length-drop, inl, inr, IsCha
 use Rattle.std.proofs.Common.{None}
 use Rattle.std.proofs.{Math.Seq.{drop-append_seam}, lemmas.{Bool.{cases_lt}, List.{take-append-le}}}
 use Rattle.std.proofs.lemmas.{Str.{IsCharBoundary-from_rest}, Grind.{common_steps}}
-use Rattle.rustc_lexer.specs.declared.relex.{checkpoints.Checkpoints.{Checkpoints}, front.TokenStart.{TokenStart}}
+use Rattle.rustc_lexer.specs.declared.relex.{checkpoints.Checkpoints.{Checkpoints}, boundary.TokenStart.{TokenStart}}
 use Rattle.rustc_lexer.specs.{declared.head.Head.{Head}, Token, Classes.{IsText}, Offsets.{IsBound}}
 use Rattle.rustc_lexer.specs.{model.Checkpoints.{IsBoundFrom}, Locality.{IsGrammar}, Tokens.{bound, tokens_by}}
 use Rattle.rustc_lexer.specs.{model.Document.{AreKeptOf, tokens_of_head}, Partition.{Layout}, model.Pieces.{AreCut}}
 use Rattle.rustc_lexer.proofs.lemmas.edits.Bounds.{bound-last, bound_mono, cuts, rest_is}
 use Rattle.rustc_lexer.proofs.lemmas.{heads.ByTokens.{bound-append}, edits.FrontAndBack.{bound-same}}
 use Rattle.rustc_lexer.proofs.lemmas.edits.{Heads.{all_are as tokens_are, start_is}, KeptFront.{bound-shift}}
-use Rattle.rustc_lexer.specs.LexedText.{Held, layout_in, start_in}
+use Rattle.rustc_lexer.specs.LexedText.{LexedModel, layout_in, start_in}
 
 module _ {first : List ℕ → Token} (law : IsGrammar first) {layout : (List ℕ → Token) → List ℕ → Layout} (text : List ℕ)
     (tokens : List Token) (head : Head) (checkpoints : Checkpoints)
@@ -82,7 +82,7 @@ module _ {first : List ℕ → Token} (law : IsGrammar first) {layout : (List �
 -- Consequences of the invariant for the view.
 module _ {S : Type 0} {first : List ℕ → Token} (law : IsGrammar first) (whole : Bool) (text : List ℕ)
     (tokens : List Token) (head : Head) (checkpoints : Checkpoints)
-    (are : AreKeptOf (layout_in whole) first text tokens head checkpoints) (held : Held S) (text_is : text ≡ held.text)
+    (are : AreKeptOf (layout_in whole) first text tokens head checkpoints) (held : LexedModel S) (text_is : text ≡ held.text)
     (tokens_is : tokens ≡ held.tokens) where
   pub start_seen : head.tokens_start ≡ start_in whole held.text
   start_seen = rw text_is at (start_is whole text head are.2)

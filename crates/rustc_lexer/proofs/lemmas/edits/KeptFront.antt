@@ -3,7 +3,7 @@ use Rattle.std.proofs.Common.{◌≡◌, ◌↔◌, refl, inl, inr, ℕ, zero, s
 use Rattle.std.proofs.Common.{List, [], ◌∷◌, length, get_or, drop, sym, ◌∙◌, arith, IsUtf8, drop-cons, inl}
 use Rattle.std.specs.List.{count_by}
 use Rattle.std.proofs.lemmas.{List.Sums.{count_by-le-length}, Bool.{cases_lt, false_from_ne_true}, Grind.{common_steps}}
-use Rattle.rustc_lexer.specs.{model.Relexing.{AreBoundaries, kept_front}, Token, Tokens.{bound}, Edits.{ends_from}}
+use Rattle.rustc_lexer.specs.{model.Relexer.{AreBoundaries, kept_front}, Token, Tokens.{bound}, Edits.{ends_from}}
 use Rattle.rustc_lexer.specs.Locality.{has_two}
 use Rattle.rustc_lexer.proofs.lemmas.edits.{Bounds.{bound_mono, count-cons}, FrontAndBack.{has_two-late, has_two-mono}}
 use Rattle.rustc_lexer.proofs.lemmas.tokens.Progress.{IsNext, next-from_drop}

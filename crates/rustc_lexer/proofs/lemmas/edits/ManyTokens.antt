@@ -3,8 +3,8 @@ use Rattle.std.proofs.Common.{◌≡◌, ℕ, ◌+◌, ◌<◌, ◌≤◌, List,
 use Rattle.std.proofs.Common.{length-append, length-drop, length-take-le, take_at, drop-drop, take-add, IsCharBoundary}
 use Rattle.std.proofs.Common.{false, ◌∷◌}
 use Rattle.std.proofs.lemmas.{Bool.{cases_lt}, List.{map-id}, Str.{IsCharBoundary-from_drop}, Grind.{common_steps}}
-use Rattle.rustc_lexer.specs.{declared.{relex.{relexing.Relexing.{Relexing}}}, Token}
-use Rattle.rustc_lexer.specs.{Classes.{IsText}, Relexing.{known, TakesSteps}, Locality.{IsGrammar}}
+use Rattle.rustc_lexer.specs.{declared.{relex.{relexer.RelexState.{RelexState}}}, Token}
+use Rattle.rustc_lexer.specs.{Classes.{IsText}, Relexer.{known, TakesSteps}, Locality.{IsGrammar}}
 use Rattle.rustc_lexer.specs.{Tokens.{IsFilledTo, bound, tokens_by}, laws.Cuts.{at_bound, tokens-cons}}
 use Rattle.rustc_lexer.proofs.lemmas.edits.Bounds.{number_le_bound, rest_is, rises, tokens_le_bytes}
 use Rattle.rustc_lexer.proofs.lemmas.{edits.KeptFront.{bound-shift}, tokens.Progress.{IsLexedTo, lexed_offset}}
@@ -32,7 +32,7 @@ module _ {first : List ℕ → Token} (law : IsGrammar first) (text left : List 
   block_count = omega (arith, bytes_is, number_le_bound (tokens_by first left) count few (rises law left left_text))
 
 -- The next `count` tokens follow the tokens that were lexed.
-pub more_lexed : (new left items block : List Token) (at past : Relexing) (count : ℕ) → past.front ≡ at.front
+pub more_lexed : (new left items block : List Token) (at past : RelexState) (count : ℕ) → past.front ≡ at.front
     → past.lexed ≡ at.lexed + count → items ≡ take at.lexed (drop at.front.index new) → left ≡ drop (known at) new
     → block ≡ take count left → items ++ block ≡ take past.lexed (drop past.front.index new)
 more_lexed new left items block at past count front lexed so left_is block_is =
@@ -97,16 +97,16 @@ block_more law {text} {left} {items} {buffer} {filled} {offset} {count} {bytes} 
 -- ---- tokens one by one
 
 -- Zero steps change nothing.
-pub no_step : (first : List ℕ → Token) (text : List ℕ) (past : ℕ) (at : Relexing) → TakesSteps first text past at 0 at
+pub no_step : (first : List ℕ → Token) (text : List ℕ) (past : ℕ) (at : RelexState) → TakesSteps first text past at 0 at
 no_step first text past at = grind (arith, common_steps)
 
 module _ {first : List ℕ → Token} (law : IsGrammar first) {text : List ℕ} (is : IsText text) (past : ℕ)
-    (begin : Relexing) (boundary : IsCharBoundary text begin.at) where
+    (begin : RelexState) (boundary : IsCharBoundary text begin.at) where
   abbrev rest : List ℕ
   rest = drop begin.at text
 
   -- Lexing the next token is one step.
-  pub one_step : {token : Token} {at : Relexing} → token ≡ first rest → begin.at < length text → at.front ≡ begin.front
+  pub one_step : {token : Token} {at : RelexState} → token ≡ first rest → begin.at < length text → at.front ≡ begin.front
       → at.lexed ≡ begin.lexed + 1 → at.at ≡ begin.at + token.len → (at.at < past → at.back ≡ begin.back)
       → (at.at < past → at.met ≡ false) → TakesSteps first text past begin 1 at
   one_step token_is more front lexed offset same_back not_met =
@@ -123,7 +123,7 @@ module _ {first : List ℕ → Token} (law : IsGrammar first) {text : List ℕ} 
       }
 
   -- One more step.
-  module _ {count : ℕ} {at : Relexing} (steps : TakesSteps first text past begin count at) where
+  module _ {count : ℕ} {at : RelexState} (steps : TakesSteps first text past begin count at) where
     there : drop (bound (tokens_by first rest) count) rest ≡ drop at.at text
     there = rw steps.offset (drop-drop (bound (tokens_by first rest) count) begin.at text)
 
@@ -136,7 +136,7 @@ module _ {first : List ℕ → Token} (law : IsGrammar first) {text : List ℕ} 
         let its = rw there at (at_bound law count rest (rest_is text begin.at is boundary)).past in
         left_is ∙ rw token_is (tokens-cons law _ its (omega (arith, tokens_le_bytes law _ its)))
 
-    pub step_more : {next : Relexing} → TakesSteps first text past at 1 next
+    pub step_more : {next : RelexState} → TakesSteps first text past at 1 next
         → TakesSteps first text past begin (count + 1) next
     step_more step = record {
       inside = omega (arith, step.inside, ap length left_is, length-drop count (tokens_by first rest));

@@ -2,7 +2,7 @@
 use Rattle.std.proofs.Common.{◌≡◌, ℕ, ◌+◌, ◌-◌, ◌^◌, ◌<◌, ◌≤◌, ◌↔◌, List, length, map, get_or, ap, arith, Option, None}
 use Rattle.std.proofs.Common.{Some, IfSome, IsSome, IsNone}
 use Rattle.std.proofs.lemmas.{Bool.{cases_lt}, Grind.{common_steps}}
-use Rattle.rustc_lexer.specs.{declared.relex.front.TokenStart.{TokenStart}, Token}
+use Rattle.rustc_lexer.specs.{declared.relex.boundary.TokenStart.{TokenStart}, Token}
 use Rattle.rustc_lexer.specs.Offsets.{AreTouched, ArePlaced, ContainsByte}
 use Rattle.rustc_lexer.specs.Tokens.{bound}
 use Rattle.rustc_lexer.proofs.lemmas.edits.{Bounds.{bound_mono}, ByLengths.{as_long, as_many, no_token}}

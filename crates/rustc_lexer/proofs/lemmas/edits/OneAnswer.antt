@@ -2,10 +2,10 @@
 use Rattle.std.proofs.Common.{◌≡◌, ◌⊎◌, ℕ, zero, suc, ◌+◌, ◌-◌, ◌<◌, ◌≤◌, List, length, take, refl, sym, ap, subst}
 use Rattle.std.proofs.Common.{arith, length-take, inl, inr, eq-or-lt_of_le, ◌↔◌, [], length-append}
 use Rattle.std.proofs.lemmas.{Bool.{cases_lt, eqb-false, eqb-true}, Grind.{common_steps}}
-use Rattle.rustc_lexer.specs.{declared.relex.relexing.{Change.Change, Relexed.Relexed}, Token}
+use Rattle.rustc_lexer.specs.{declared.relex.relexer.{Change.Change, Relexed.Relexed}, Token}
 use Rattle.rustc_lexer.specs.Edits.{IsMeeting, IsRelexedTo, fragment_by, body_in, IsRelexed, offset_in}
-use Rattle.rustc_lexer.specs.{Relexing.{IsEditOf}, Locality.{IsGrammar}, Tokens.{bound, tokens_by}}
-use Rattle.rustc_lexer.specs.model.Relexing.{kept_front}
+use Rattle.rustc_lexer.specs.{Relexer.{IsEditOf}, Locality.{IsGrammar}, Tokens.{bound, tokens_by}}
+use Rattle.rustc_lexer.specs.model.Relexer.{kept_front}
 use Rattle.rustc_lexer.proofs.lemmas.edits.{Bounds.{bound-last, cuts}, FrontAndBack.{edited, kept_same}}
 use Rattle.rustc_lexer.proofs.lemmas.edits.KeptFront.{kept_few, kept_tells, bound-shift}
 use Rattle.std.proofs.Math.Seq.{drop-append_seam}

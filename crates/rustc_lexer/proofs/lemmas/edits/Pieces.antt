@@ -3,9 +3,9 @@ use Rattle.std.proofs.Common.{◌≡◌, ℕ, zero, suc, ◌+◌, ◌-◌, ◌�
 use Rattle.std.proofs.Common.{refl, ap, ◌∙◌, arith, length-append, length-take, length-take-le, length-drop}
 use Rattle.std.proofs.Common.{take-take, IsCharBoundary, Option, Some, None, IfSome, IsSome}
 use Rattle.std.proofs.lemmas.{Grind.{common_steps}, List.{take-append-le}}
-use Rattle.rustc_lexer.specs.{declared.relex.{front.TokenStart.TokenStart, pieces.Piece.Piece}, Token, Tokens.{bound}}
+use Rattle.rustc_lexer.specs.{declared.relex.{boundary.TokenStart.TokenStart, pieces.Piece.Piece}, Token, Tokens.{bound}}
 use Rattle.rustc_lexer.specs.model.Pieces.{AreBoundariesFrom, AreCut}
-use Rattle.rustc_lexer.specs.LexedText.{Placed, YieldsPiece, pieces_from, placed}
+use Rattle.rustc_lexer.specs.LexedText.{PieceModel, YieldsPiece, pieces_from, piece_model}
 use Rattle.rustc_lexer.specs.Offsets.{ContainsByte}
 use Rattle.rustc_lexer.proofs.lemmas.edits.{Bounds.{bound-end}, FrontAndBack.{bound-same, bound-take}}
 use Rattle.rustc_lexer.proofs.lemmas.edits.KeptFront.{bound-shift}
@@ -43,7 +43,7 @@ length-pieces text start [] = refl
 length-pieces text start (t ∷ ts) = ap suc (length-pieces text (start + t.len) ts)
 
 -- As many pieces as tokens remain.
-pub as_many_left : (text : List ℕ) (start : ℕ) (tokens : List Token) {left : List Placed}
+pub as_many_left : (text : List ℕ) (start : ℕ) (tokens : List Token) {left : List PieceModel}
     → pieces_from text start tokens ≡ left → length tokens ≡ length left
 as_many_left text start tokens is = cc (length-pieces text start tokens)
 
@@ -93,7 +93,7 @@ pub pieces-part : (text : List ℕ) (start offset : ℕ) (tokens : List Token) (
 pieces-part text start offset tokens from n at = grind (arith, common_steps, drop-pieces, take-pieces)
 
 -- Returns the piece with this start and length.
-abbrev piece_at : List ℕ → Token → ℕ → ℕ → Placed
+abbrev piece_at : List ℕ → Token → ℕ → ℕ → PieceModel
 piece_at text token start long = record { start = start; token = token; text = take long (drop start text) }
 
 pieces-last : (text : List ℕ) (start : ℕ) (ts : List Token) (t : Token) → pieces_from text start (ts ++ t ∷ []) ≡
@@ -112,21 +112,21 @@ last_piece text start end all tokens t e are =
 
 -- The first piece from this token on contains the byte.
 pub piece_is : (piece : Option Piece) (text : List ℕ) (first offset : ℕ) (tokens : List Token) (at : TokenStart)
-    (rest : List Placed)
+    (rest : List PieceModel)
     → ContainsByte first tokens offset at
     → YieldsPiece (pieces_from text at.offset (take (length tokens - at.index) (drop at.index tokens))) piece rest
     → IfSome piece (λ piece. (at : TokenStart) × ContainsByte first tokens offset at
-    × (take 1 (drop at.index (pieces_from text first tokens)) ≡ placed piece ∷ []))
+    × (take 1 (drop at.index (pieces_from text first tokens)) ≡ piece_model piece ∷ []))
 piece_is None text first offset tokens at rest is yields = tt
 piece_is (Some piece) text first offset tokens at rest is yields =
     let n : ℕ = length tokens - at.index in
-    let left : List Placed = drop at.index (pieces_from text first tokens) in
-    let begin : take n left ≡ placed piece ∷ rest =
+    let left : List PieceModel = drop at.index (pieces_from text first tokens) in
+    let begin : take n left ≡ piece_model piece ∷ rest =
     cc (pieces-part text first at.offset tokens at.index n is.start, yields.0) in
     (at, is, cc (take-take 1 n left (omega arith), ap (take 1) begin))
 
 pub piece_some : (piece : Option Piece) (text : List ℕ) (first offset : ℕ) (tokens : List Token) (at : TokenStart)
-    (rest : List Placed)
+    (rest : List PieceModel)
     → ContainsByte first tokens offset at
     → YieldsPiece (pieces_from text at.offset (take (length tokens - at.index) (drop at.index tokens))) piece rest
     → IsSome piece

@@ -3,9 +3,9 @@ use Rattle.std.proofs.Common.{◌≡◌, ℕ, zero, suc, ◌+◌, ◌<◌, ◌�
 use Rattle.std.proofs.Common.{drop, refl, sym, ap, ◌∙◌, arith, take_at, length-append, IsCharBoundary}
 use Rattle.std.proofs.lemmas.Str.{IsCharBoundary-from_drop, IsCharBoundary-end, IsUtf8-between}
 use Rattle.std.proofs.{Math.Seq.{take-length}, lemmas.Grind.{common_steps}}
-use Rattle.rustc_lexer.specs.{declared.relex.front.TokenStart.{TokenStart}, Token, Offsets.{IsBound}}
+use Rattle.rustc_lexer.specs.{declared.relex.boundary.TokenStart.{TokenStart}, Token, Offsets.{IsBound}}
 use Rattle.rustc_lexer.specs.{Tokens.{bound, tokens_by}, Locality.{has_two, AreLocal, IsSettled, StaysUpTo, IsGrammar}}
-use Rattle.rustc_lexer.specs.{Classes.{IsText}, model.Relexing.{kept_front}}
+use Rattle.rustc_lexer.specs.{Classes.{IsText}, model.Relexer.{kept_front}}
 use Rattle.rustc_lexer.proofs.lemmas.edits.{Bounds.{bound_mono, cuts, rises}, KeptFront.{kept_is, kept_tells}}
 use Rattle.rustc_lexer.specs.laws.Cuts.{at_bound, tokens_local}
 use Rattle.rustc_lexer.proofs.lemmas.edits.FrontAndBack.{has_two-agree, has_two-mono}

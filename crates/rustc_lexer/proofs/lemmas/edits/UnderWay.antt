@@ -3,11 +3,11 @@ use Rattle.std.proofs.Common.{◌≡◌, ◌↔◌, ℕ, ◌+◌, ◌-◌, ◌<�
 use Rattle.std.proofs.Common.{◌++◌, length, take, drop, refl, sym, ap, ◌∙◌, suc, arith, inl, inr}
 use Rattle.std.proofs.Common.{length-drop, drop-drop, take-append-drop, max, eq-or-lt_of_le}
 use Rattle.std.proofs.lemmas.{Bool.{cases_lt}, Grind.{common_steps}}
-use Rattle.rustc_lexer.specs.declared.relex.front.{Meeting.Meeting, TokenStart.TokenStart}
-use Rattle.rustc_lexer.specs.{declared.relex.relexing.{Change.Change, Relexed.Relexed, Relexing.Relexing}, Token}
+use Rattle.rustc_lexer.specs.declared.relex.boundary.{Meeting.Meeting, TokenStart.TokenStart}
+use Rattle.rustc_lexer.specs.{declared.relex.relexer.{Change.Change, Relexed.Relexed, RelexState.RelexState}, Token}
 use Rattle.rustc_lexer.specs.{Classes.{IsText}, Edits.{IsMeeting, IsRelexed, fragment_by}, Locality.{IsGrammar, has_two}}
-use Rattle.rustc_lexer.specs.{Offsets.{IsBound}, Relexing.{IsMadeOf, IsUnderWay, IsWhole, TakesSteps, known}}
-use Rattle.rustc_lexer.specs.{Tokens.{bound, tokens_by}, model.Relexing.{IsFollowed, IsLexed, kept_front}}
+use Rattle.rustc_lexer.specs.{Offsets.{IsBound}, Relexer.{IsMadeOf, IsUnderWay, IsWhole, TakesSteps, known}}
+use Rattle.rustc_lexer.specs.{Tokens.{bound, tokens_by}, model.Relexer.{IsFollowed, IsLexed, kept_front}}
 use Rattle.rustc_lexer.specs.laws.Cuts.{at_bound, tokens-cons}
 use Rattle.rustc_lexer.proofs.lemmas.edits.Bounds.{bound_mono, rises}
 use Rattle.rustc_lexer.proofs.lemmas.edits.FrontAndBack.{bound-same, edited, has_two-before, met_rest}
@@ -35,7 +35,7 @@ module _ (old new : List Token) (old_end new_end number offset : ℕ) (back : To
   )
 
 -- Holds if the new tokens cannot meet, before `end`, an old boundary that was not followed yet.
-abbrev pub IsClear : Change → Relexing → ℕ → Type 0
+abbrev pub IsClear : Change → RelexState → ℕ → Type 0
 IsClear change at end = (offset : ℕ) → at.at < offset → offset < end → change.new_end ≤ offset
     → (change.new_end ≤ at.at) × (offset + change.old_end < at.back.offset + change.new_end)
 
@@ -92,7 +92,7 @@ module _ {first : List ℕ → Token} (law : IsGrammar first) {before lengths in
         reached = followed.reached;
       }
 
-  module _ {at : Relexing} (u : IsUnderWay first before change text at) where
+  module _ {at : RelexState} (u : IsUnderWay first before change text at) where
     -- The remaining tokens are the tokens of the remaining text.
     pub left_at : tokens_by first (drop at.at text) ≡ drop (known at) new
     left_at = cc (u.offset, (at_bound law (known at) text made_text).rest)
@@ -159,7 +159,7 @@ module _ {first : List ℕ → Token} (law : IsGrammar first) {before lengths in
         )
 
     -- After `count` steps.
-    module _ {count : ℕ} {past : Relexing} (steps : TakesSteps first text change.new_end at count past) where
+    module _ {count : ℕ} {past : RelexState} (steps : TakesSteps first text change.new_end at count past) where
       abbrev left : List Token
       left = tokens_by first (drop at.at text)
 
@@ -217,7 +217,7 @@ module _ {first : List ℕ → Token} (law : IsGrammar first) {before lengths in
           ]
 
     -- A step returns the next token of the new text.
-    pub gives_next : {token : Token} {past : Relexing} → at.met ≡ false → token ≡ first (drop at.at text)
+    pub gives_next : {token : Token} {past : RelexState} → at.met ≡ false → token ≡ first (drop at.at text)
         → TakesSteps first text change.new_end at 1 past → drop (known at) new ≡ token ∷ drop (known past) new
     gives_next {token} {past} out token_is steps =
         let rest : List ℕ = drop at.at text in
@@ -226,6 +226,6 @@ module _ {first : List ℕ → Token} (law : IsGrammar first) {before lengths in
         cc (cons, ap (drop 1) cons, known_past steps, drop-drop 1 (known at) new, token_is)
 
   -- The lexed tokens, between the kept tokens, are the new tokens.
-  pub lexed_whole : {tokens : List Token} {at : Relexing} → IsLexed first before change text tokens at
+  pub lexed_whole : {tokens : List Token} {at : RelexState} → IsLexed first before change text tokens at
       → take at.front.index old ++ (tokens ++ drop at.back.index old) ≡ new
   lexed_whole l = grind (arith, common_steps, counts_met)

@@ -9,7 +9,7 @@ use Rattle.rustc_lexer.specs.Document.{is_frontmatter, tokens_start, document_to
 use Rattle.rustc_lexer.specs.model.Document.{front_tokens}
 use Rattle.rustc_lexer.specs.LanguageText as grammar
 use Rattle.rustc_lexer.specs.LanguageText.{AreTokens, IsTokenIn, Mode, is_source, mode_after, newest, part, source}
-use Rattle.rustc_lexer.specs.{Partition.{tokens_in}, Relexing.{IsHeadOf}, Tokens.{bound}}
+use Rattle.rustc_lexer.specs.{Partition.{tokens_in}, Relexer.{IsHeadOf}, Tokens.{bound}}
 use Rattle.rustc_lexer.specs.laws.{Choice.{by_either, by_symbol}, LanguageTokens.{language}, Tokens.{partitions}}
 use Rattle.rustc_lexer.specs.model.{Frontmatter.{frontmatter, opens, spaces_len}, Scan.{past}, Tokens.{read_tokens}}
 use Rattle.rustc_lexer.proofs.lemmas.heads.DocumentTokens.{start-boundary, with-front, with-spaced, without-front}

@@ -10,7 +10,7 @@ use Rattle.rustc_lexer.specs.{Edition, Token, Answers.{first_in}, Classes.{IsTex
 use Rattle.rustc_lexer.specs.Joined as the
 use Rattle.rustc_lexer.specs.{Joined.{IsJoined, IsSeparated, MayTouch, AreInseparable}, Locality.{has_two, IsGrammar}}
 use Rattle.rustc_lexer.specs.{Partition.{bound, tokens_by}, laws.Cuts.{IsCutAt, at_bound, tokens-cons, tokens-nil}}
-use Rattle.rustc_lexer.specs.{laws.Edition.{edition_grammar}, model.Joined.{IsSure}}
+use Rattle.rustc_lexer.specs.{laws.Edition.{edition_grammar}, model.Joined.{IsFinalBoundary}}
 use Rattle.std.proofs.lemmas.List.Folds.{drop_split}
 use Rattle.rustc_lexer.proofs.lemmas.{edits.Bounds.{bound_mono, bound-last, rises}, heads.ByTokens.{bound-append}}
 use Rattle.rustc_lexer.proofs.lemmas.edits.{Settled.{stays_at}, FrontAndBack.{bound-same, drop_of-take}}
@@ -70,9 +70,9 @@ module _ {first : List ℕ → Token} (law : IsGrammar first) where
       stays_at law left is more (suc k) whole few (rw at (two positive))
 
   -- So a text touches another exactly if the part after a final boundary does.
-  pub sure_touch : (left more : List ℕ) (from : ℕ) → IsText left → IsText (left ++ more) → IsSure first left from
+  pub final_touch : (left more : List ℕ) (from : ℕ) → IsText left → IsText (left ++ more) → IsFinalBoundary first left from
       → (from ≤ length left) × (Touch left more ↔ Touch (drop from left) more)
-  sure_touch left more from is whole at =
+  final_touch left more from is whole at =
       let k : ℕ = at.number in
       let cut : IsCutAt first left (tokens_by first left) k = at_bound law k left is in
       let its_cut : IsCutAt first (left ++ more) (tokens_by first (left ++ more)) k =

@@ -5,7 +5,7 @@ ghost use Rattle.rustc_lexer.specs.Tokens.{tokens_by};
 
 use crate::entry::stepper::Stepper;
 use crate::head::Document;
-use crate::relex::front::TokenStart;
+use crate::relex::boundary::TokenStart;
 use crate::relex::lexed::Lexed;
 
 impl<S: Stepper> Lexed<S, Document> {
@@ -14,7 +14,7 @@ impl<S: Stepper> Lexed<S, Document> {
         ensures start { result ≡ spec.tokens_start self.now.text }
         ensures inside { result ≤ length self.now.text }
     {
-        self.kept.head.tokens_start
+        self.parts.head.tokens_start
     }
 
     /// Returns the start of the body: its offset in bytes, and the number of tokens before it. These are the tokens up
@@ -26,8 +26,8 @@ impl<S: Stepper> Lexed<S, Document> {
             ≡ tokens_by (S.grammar self.now.stepper).first (drop result.offset self.now.text) }
     {
         TokenStart {
-            index: self.kept.head.count(),
-            offset: self.kept.head.body,
+            index: self.parts.head.count(),
+            offset: self.parts.head.body,
         }
     }
 }

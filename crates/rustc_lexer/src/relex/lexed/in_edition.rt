@@ -61,7 +61,7 @@ impl<E: Extent> Lexed<Steps, E> {
         ensures grammar { ⟦<Steps as Stepper>⟧.grammar self.now.stepper ≡ grammar_of result }
         ensures from_scratch { self.now.tokens ≡ edition_tokens_in E.whole result self.now.text }
     {
-        self.kept.stepper.edition()
+        self.parts.stepper.edition()
     }
 
     /// Lexes the text again in another edition. The head is kept, since it is the same in all editions.

@@ -1,14 +1,14 @@
 //! Finds tokens of a lexed text by offset or index, and returns pieces.
 ghost use Rattle.std.specs.Prelude.{[], ◌∷◌, ◌≡◌, ◌+◌, ◌-◌, ◌^◌, ◌<◌, ◌≤◌, ◌↔◌, IfSome, IsNone, IsSome, ℕ, drop};
 ghost use Rattle.std.specs.Prelude.{length, take};
-ghost use Rattle.rustc_lexer.specs.LexedText.{pieces_from, placed, start_in};
+ghost use Rattle.rustc_lexer.specs.LexedText.{pieces_from, piece_model, start_in};
 ghost use Rattle.rustc_lexer.specs.Offsets.{AreTouched, ContainsByte};
 ghost use Rattle.rustc_lexer.specs.Tokens.{bound};
 ghost use Rattle.rustc_lexer.specs.model.Checkpoints.{IsBoundFrom};
 
 use crate::entry::stepper::Stepper;
 use crate::head::Extent;
-use crate::relex::front::{TokenStart, token_around};
+use crate::relex::boundary::{TokenStart, find_token};
 use crate::relex::lexed::Lexed;
 use crate::relex::pieces::{Piece, Pieces};
 use crate::token::Token;
@@ -22,14 +22,14 @@ impl<S: Stepper, E: Extent> Lexed<S, E> {
             ≡ pieces_from self.now.text (start_in E.whole self.now.text) self.now.tokens }
         ensures number { length result ≡ length self.now.tokens }
     {
-        let text = self.kept.text.as_str();
-        let start = self.kept.head.tokens_start as u32;
+        let text = self.parts.text.as_str();
+        let start = self.parts.head.tokens_start as u32;
         let end = text.len() as u32;
         Pieces {
             text,
             start,
             end,
-            tokens: self.kept.tokens.as_slice(),
+            tokens: self.parts.tokens.as_slice(),
         }
     }
 
@@ -54,7 +54,7 @@ impl<S: Stepper, E: Extent> Lexed<S, E> {
     {
         let first = TokenStart {
             index: 0,
-            offset: self.kept.head.tokens_start,
+            offset: self.parts.head.tokens_start,
         };
         let start = self.offset_of(from, first);
         let known = TokenStart {
@@ -62,9 +62,9 @@ impl<S: Stepper, E: Extent> Lexed<S, E> {
             offset: start as usize,
         };
         let end = self.offset_of(to, known);
-        let tokens = &self.kept.tokens.as_slice()[from..to];
+        let tokens = &self.parts.tokens.as_slice()[from..to];
         Pieces {
-            text: self.kept.text.as_str(),
+            text: self.parts.text.as_str(),
             start,
             end,
             tokens,
@@ -80,7 +80,7 @@ impl<S: Stepper, E: Extent> Lexed<S, E> {
             ≡ take (to - from) (drop from
             (pieces_from self.now.text (start_in E.whole self.now.text) self.now.tokens))) }
     {
-        let (from, to) = self.numbers_in(start, stop);
+        let (from, to) = self.index_range(start, stop);
         self.pieces_by_index(from, to)
     }
 
@@ -94,17 +94,17 @@ impl<S: Stepper, E: Extent> Lexed<S, E> {
         ensures offset { result.offset
             ≡ start_in E.whole self.now.text + bound self.now.tokens result.index }
     {
-        let count = self.kept.head.count();
+        let count = self.parts.head.count();
         if number < count {
             return known;
         }
-        let near = self.kept.checkpoints.before_number(number - count);
+        let near = self.parts.checkpoints.before_number(number - count);
         if count + near.index < known.index {
             return known;
         }
         TokenStart {
             index: count + near.index,
-            offset: self.kept.head.body + near.offset,
+            offset: self.parts.head.body + near.offset,
         }
     }
 
@@ -116,7 +116,7 @@ impl<S: Stepper, E: Extent> Lexed<S, E> {
         requires known { IsBoundFrom (start_in E.whole self.now.text) self.now.tokens known }
         ensures { result ≡ start_in E.whole self.now.text + bound self.now.tokens number }
     {
-        let tokens = self.kept.tokens.as_slice();
+        let tokens = self.parts.tokens.as_slice();
         let near = self.bound_before(number, known);
         let start = near.offset as u32;
         end_from(start, &tokens[near.index..number])
@@ -127,16 +127,19 @@ impl<S: Stepper, E: Extent> Lexed<S, E> {
     fn bound_near(&self, offset: usize) -> TokenStart
         ensures { IsBoundFrom (start_in E.whole self.now.text) self.now.tokens result }
     {
-        if offset < self.kept.head.body {
+        if offset < self.parts.head.body {
             return TokenStart {
                 index: 0,
-                offset: self.kept.head.tokens_start,
+                offset: self.parts.head.tokens_start,
             };
         }
-        let near = self.kept.checkpoints.nearest(offset - self.kept.head.body);
+        let near = self
+            .parts
+            .checkpoints
+            .nearest(offset - self.parts.head.body);
         TokenStart {
-            index: self.kept.head.count() + near.index,
-            offset: self.kept.head.body + near.offset,
+            index: self.parts.head.count() + near.index,
+            offset: self.parts.head.body + near.offset,
         }
     }
 
@@ -149,7 +152,7 @@ impl<S: Stepper, E: Extent> Lexed<S, E> {
             × (offset < length self.now.text) }
     {
         let near = self.bound_near(offset);
-        token_around(self.kept.tokens.as_slice(), near, offset)
+        find_token(self.parts.tokens.as_slice(), near, offset)
     }
 
     /// Returns the piece that contains the byte at `offset`. Returns `None` in a byte order mark and a shebang line,
@@ -159,13 +162,13 @@ impl<S: Stepper, E: Extent> Lexed<S, E> {
             × ContainsByte (start_in E.whole self.now.text) self.now.tokens offset at
             × (take 1 (drop at.index
             (pieces_from self.now.text (start_in E.whole self.now.text) self.now.tokens))
-            ≡ placed piece ∷ [])) }
+            ≡ piece_model piece ∷ [])) }
         ensures some { IsSome result ↔ (start_in E.whole self.now.text ≤ offset)
             × (offset < length self.now.text) }
     {
         let at = self.token_start_at(offset)?;
-        let text = self.kept.text.as_str();
-        let tokens = &self.kept.tokens.as_slice()[at.index..];
+        let text = self.parts.text.as_str();
+        let tokens = &self.parts.tokens.as_slice()[at.index..];
         let start = at.offset as u32;
         let end = text.len() as u32;
         let mut pieces = Pieces {
@@ -178,49 +181,49 @@ impl<S: Stepper, E: Extent> Lexed<S, E> {
     }
 
     /// Returns how many tokens end at or before the offset.
-    fn ended_at(&self, offset: usize) -> usize
+    fn count_ended_at(&self, offset: usize) -> usize
         ensures inside { result ≤ length self.now.tokens }
         ensures ended { (k : ℕ) → k < result
             → start_in E.whole self.now.text + bound self.now.tokens (k + 1) ≤ offset }
         ensures others { (k : ℕ) → result ≤ k → k < length self.now.tokens
             → offset < start_in E.whole self.now.text + bound self.now.tokens (k + 1) }
     {
-        if offset < self.kept.head.tokens_start {
+        if offset < self.parts.head.tokens_start {
             return 0;
         }
         match self.token_start_at(offset) {
             Some(at) => at.index,
-            None => self.kept.tokens.len(),
+            None => self.parts.tokens.len(),
         }
     }
 
     /// Returns how many tokens start before the offset.
-    fn begun_before(&self, offset: usize) -> usize
+    fn count_started_before(&self, offset: usize) -> usize
         ensures inside { result ≤ length self.now.tokens }
         ensures begun { (k : ℕ) → k < result
             → start_in E.whole self.now.text + bound self.now.tokens k < offset }
         ensures others { (k : ℕ) → result ≤ k → k < length self.now.tokens
             → offset ≤ start_in E.whole self.now.text + bound self.now.tokens k }
     {
-        if offset <= self.kept.head.tokens_start {
+        if offset <= self.parts.head.tokens_start {
             return 0;
         }
         match self.token_start_at(offset - 1) {
             Some(at) => at.index + 1,
-            None => self.kept.tokens.len(),
+            None => self.parts.tokens.len(),
         }
     }
 
     /// Returns the range of the tokens that contain a byte of `start..stop`: the index of the first one, and the index
     /// after the last one.
-    fn numbers_in(&self, start: usize, stop: usize) -> (usize, usize)
+    fn index_range(&self, start: usize, stop: usize) -> (usize, usize)
         ensures { AreTouched (start_in E.whole self.now.text) self.now.tokens start stop result.0
             result.1 }
     {
         if start >= stop {
             return (0, 0);
         }
-        (self.ended_at(start), self.begun_before(stop))
+        (self.count_ended_at(start), self.count_started_before(stop))
     }
 }
 

@@ -1,14 +1,14 @@
 //! Replaces a lexed text by one edit of the part that differs.
 ghost use Rattle.std.specs.Prelude.{◌≡◌, List, Ok, OnOk, ℕ, length};
 ghost use Rattle.rustc_lexer.specs.Classes.{Fits};
-ghost use Rattle.rustc_lexer.specs.Edits.{IsNarrowest, all_stay};
+ghost use Rattle.rustc_lexer.specs.Edits.{IsNarrowest, all_kept};
 ghost use Rattle.rustc_lexer.specs.LexedText.{HasStepCount, IsEdited, layout_in};
 
 use crate::entry::stepper::Stepper;
 use crate::head::Extent;
-use crate::relex::common::{common_back, common_front};
+use crate::relex::diff::{common_prefix, common_suffix};
 use crate::relex::lexed::Lexed;
-use crate::relex::relexing::Relexed;
+use crate::relex::relexer::Relexed;
 use std::alloc::AllocError;
 
 impl<S: Stepper, E: Extent> Lexed<S, E> {
@@ -24,7 +24,7 @@ impl<S: Stepper, E: Extent> Lexed<S, E> {
         requires fits { Fits text.now }
         ensures text { OnOk result (self.new.text ≡ text.now) }
         ensures same { self.old.text ≡ text.now
-            → (self.new ≡ self.old) × (result ≡ Ok (all_stay (length self.old.tokens))) }
+            → (self.new ≡ self.old) × (result ≡ Ok (all_kept (length self.old.tokens))) }
         ensures edit { (self.old.text ≡ text.now → ⊥) → (start stop : ℕ) × (insert : List ℕ)
             × IsNarrowest self.old.text text.now start stop insert
             × IsEdited (layout_in E.whole (S.grammar self.old.stepper).first) self.old start stop insert
@@ -41,8 +41,8 @@ impl<S: Stepper, E: Extent> Lexed<S, E> {
                 kept_back: 0,
             });
         }
-        let start = common_front(old, text);
-        let back = common_back(old, text, start);
+        let start = common_prefix(old, text);
+        let back = common_suffix(old, text, start);
         let stop = old.len() - back;
         self.edit(start, stop, &text[start..text.len() - back])
     }

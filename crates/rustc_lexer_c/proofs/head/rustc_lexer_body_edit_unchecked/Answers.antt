@@ -1,5 +1,5 @@
 use Rattle.std.proofs.Common.{ℕ, List, sym}
-use Rattle.rustc_lexer.specs.{Classes.{IsText}, Relexing.{IsChange}}
+use Rattle.rustc_lexer.specs.{Classes.{IsText}, Relexer.{IsChange}}
 use Rattle.rustc_lexer_c.proofs.HeadLemmas.{Changes, found, refused_body, refused_edit}
 use Rattle.rustc_lexer_c.specs.Relex.{change_of}
 use Rattle.rustc_lexer_c.proofs.head.rustc_lexer_body_edit_unchecked.Goals as goal
@@ -17,9 +17,9 @@ pub returns-then-not-is_valid_for-2 : goal.returns-then-not-is_valid_for-2
 returns-then-not-is_valid_for-2 c =
     let text : List ℕ = c.in-Ok.text.now in
     let is : IsText text = rw c.in-Ok.ensures.0 c.in-Ok.ensures.1 in
-    let body = c.change_to-body.result in
+    let body = c.body_change-body.result in
     let all : Changes c.args.head.now c.args.edit.now c.find-now.result body.keeps_head body.change =
-    rw (sym c.head_of.ensures.head, sym c.change_of-change.ensures) c.change_to-body.ensures.body in
+    rw (sym c.head_of.ensures.head, sym c.change_of-change.ensures) c.body_change-body.ensures.body in
     let not : ¬ (IsChange c.range_from.result.now body.change) =
     λ may. let valid = c.is_valid_for-2.ensures.1 may in cc in
     rw (← c.in-Ok.ensures.0, c.number-then-not-is_valid_for-2.ensures)
@@ -29,9 +29,9 @@ pub returns : goal.returns
 returns c =
     let text : List ℕ = c.in-Ok.text.now in
     let is : IsText text = rw c.in-Ok.ensures.0 c.in-Ok.ensures.1 in
-    let body = c.change_to-body.result in
+    let body = c.body_change-body.result in
     let all : Changes c.args.head.now c.args.edit.now c.find-now.result body.keeps_head body.change =
-    rw (sym c.head_of.ensures.head, sym c.change_of-change.ensures) c.change_to-body.ensures.body in
+    rw (sym c.head_of.ensures.head, sym c.change_of-change.ensures) c.body_change-body.ensures.body in
     let fine = rw c.change_of-change.ensures at (c.is_valid_for.ensures.0 c.if-not-is_valid_for.false) in
     let may = rw c.range_from.ensures.value at (c.is_valid_for-2.ensures.0 c.if-not-is_valid_for-2.false) in
     rw (← c.in-Ok.ensures.0, c.numbers_of_head.ensures, c.edit_of.ensures, c.from.ensures)

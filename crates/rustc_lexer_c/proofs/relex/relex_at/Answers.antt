@@ -1,6 +1,6 @@
 use Rattle.std.proofs.Common.{ap, refl, sym, ◌∙◌, arith}
 use Rattle.std.proofs.lemmas.Grind.{common_steps}
-use Rattle.rustc_lexer.specs.Relexing.{RelexModel}
+use Rattle.rustc_lexer.specs.Relexer.{RelexerModel}
 use Rattle.rustc_lexer_c.proofs.RelexLemmas.{if_each, if_some}
 use Rattle.rustc_lexer_c.proofs.relex.relex_at.Goals as goal
 
@@ -38,7 +38,7 @@ returns-clause-some c =
     let later = c.if-relexing-eq-STAGE_BEGIN.false in
     let state = c.in-Some.ensures.some.1 in
     if_some c.resume.result c.resume.ensures.some (λ r is.
-    let at = ap (λ (m : RelexModel). m.at) is ∙ state in (
+    let at = ap (λ (m : RelexerModel). m.at) is ∙ state in (
       rw is refl,
       rw is refl,
       rw is refl,

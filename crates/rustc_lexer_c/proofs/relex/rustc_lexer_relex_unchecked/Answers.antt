@@ -1,7 +1,7 @@
 use Rattle.std.proofs.Common.{◌≡◌, ◌<◌, List, ℕ, ◌++◌, length, map, take, drop, subst, true, ◌∙◌, Some}
 use Rattle.std.proofs.lemmas.List.{length-map}
-use Rattle.rustc_lexer.specs.{declared.relex.relexing.Change.{Change}, Classes.{IsText}, Relexing.{known}}
-use Rattle.rustc_lexer.specs.{Relexing.{IsMadeOf, IsUnderWay, TakesSteps, is_done}}
+use Rattle.rustc_lexer.specs.{declared.relex.relexer.Change.{Change}, Classes.{IsText}, Relexer.{known}}
+use Rattle.rustc_lexer.specs.{Relexer.{IsMadeOf, IsUnderWay, TakesSteps, is_done}}
 use Rattle.rustc_lexer.specs.{LanguageCalls.{edition_of_year}, Locality.{Grammar}, Tokens.{tokens_by}}
 use Rattle.rustc_lexer_c.specs.{declared.token.CToken.{CToken}, Numbers.{token_numbers}, Relex.{change_of}}
 use Rattle.rustc_lexer_c.proofs.RelexLemmas.{none_some, relexed}

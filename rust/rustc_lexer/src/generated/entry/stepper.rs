@@ -14,7 +14,7 @@ use core::iter::Iterator;
 /// it. `step` returns the first token of the text that it is called with, and always the same token for the same text.
 /// In Rattle, every implementation proves this. In Rust, a lexed text calls only `step` of your stepper, and checks
 /// where its tokens end; if the stepper breaks another rule, the tokens of an edited text can be wrong.
-/// [`Relex`](crate::Relex) does not check a stepper: with tokens of length 0 it never finishes.
+/// [`Relexer`](crate::Relexer) does not check a stepper: with tokens of length 0 it never finishes.
 ///
 /// For this stepper, each character is a token:
 ///

@@ -2,8 +2,8 @@
 //! The change of a document's body by an edit of the document.
 
 use crate::generated::head::Head;
-use crate::generated::relex::document_edit::HeadEdit;
-use crate::generated::relex::relexing::Change;
+use crate::generated::relex::head_change::HeadChange;
+use crate::generated::relex::relexer::Change;
 
 /// The change of a document's body by an edit of the document.
 #[derive(Clone, Copy, Debug, PartialEq, Eq, Hash)]
@@ -22,8 +22,8 @@ impl Head {
     /// start of the body. Otherwise it extends from the start of the body to the first offset after the edit at which
     /// both bodies have started, so no token of the body is kept before it.
     #[must_use]
-    pub fn change_to(self, now: Head, edit: Change) -> BodyChange {
-        let head = HeadEdit::between(self, now, edit.start);
+    pub fn body_change(self, now: Head, edit: Change) -> BodyChange {
+        let head = HeadChange::between(self, now, edit.start);
         BodyChange {
             keeps_head: head.keeps,
             change: head.body_change(edit),

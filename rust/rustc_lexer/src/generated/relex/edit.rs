@@ -3,11 +3,11 @@
 use crate::support::{String, Vec};
 
 use crate::generated::entry::stepper::Stepper;
+use crate::generated::relex::boundary::TokenStart;
 use crate::generated::relex::checkpoints::Checkpoints;
-use crate::generated::relex::document_edit::HeadEdit;
-use crate::generated::relex::front::TokenStart;
-use crate::generated::relex::lex::BUFFER_LEN;
-use crate::generated::relex::relexing::{EditedText, Relexing};
+use crate::generated::relex::head_change::HeadChange;
+use crate::generated::relex::lex_all::BUFFER_LEN;
+use crate::generated::relex::relexer::{EditedText, RelexState};
 use crate::generated::relex::replace::replace;
 use crate::generated::token::{Token, TokenKind};
 use crate::support::{AllocError, Global};
@@ -39,7 +39,7 @@ pub(crate) fn accepts(text: &str, start: usize, stop: usize, insert: &str) -> bo
 }
 
 /// Replaces the bytes from `start` up to `stop` with `insert`. The text already has capacity for it.
-pub(crate) fn put_in_place(text: &mut String, start: usize, stop: usize, insert: &str) {
+pub(crate) fn apply_in_place(text: &mut String, start: usize, stop: usize, insert: &str) {
     let put = text.replace_range(start..stop, insert);
     // There is room, so it does not allocate.
     debug_assert!(put.is_ok());
@@ -49,7 +49,7 @@ pub(crate) fn put_in_place(text: &mut String, start: usize, stop: usize, insert:
 pub(crate) struct Replacement {
     pub tokens: Vec<Token>,
     /// The old tokens from `at.front` up to `at.back` are replaced.
-    pub at: Relexing,
+    pub at: RelexState,
 }
 
 /// Lexes the text from the end of the kept front until it meets the old tokens. The search for the front starts at
@@ -62,7 +62,7 @@ pub(crate) fn relex<S: Stepper>(
     lexed_bounds: &mut Checkpoints,
 ) -> Result<Replacement, AllocError> {
     let mut tokens = Vec::new(alloc);
-    let mut at = Relexing::begin(edited, near);
+    let mut at = RelexState::begin(edited, near);
     let Some(token) = at.next(stepper, edited) else {
         return Ok(Replacement { tokens, at });
     };
@@ -80,7 +80,7 @@ pub(crate) fn relex<S: Stepper>(
 }
 
 /// Returns the end of the last token that was lexed.
-fn end_of(at: Relexing) -> TokenStart {
+fn end_of(at: RelexState) -> TokenStart {
     TokenStart {
         index: at.front.index + at.lexed,
         offset: at.at,
@@ -112,11 +112,11 @@ impl Replacement {
 
     /// Replaces the old tokens with the new ones, and the tokens of the head unless `head.keeps` is true. If an
     /// allocation fails, nothing changes.
-    pub(crate) fn put_into(
+    pub(crate) fn splice_into(
         self,
         alloc: Global,
         tokens: &mut Vec<Token>,
-        head: HeadEdit,
+        head: HeadChange,
     ) -> Result<(), AllocError> {
         let old_count = head.before.count();
         let from = old_count + self.at.front.index;

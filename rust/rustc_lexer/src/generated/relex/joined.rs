@@ -3,7 +3,7 @@
 use crate::support::String;
 
 use crate::generated::edition::{Edition, token_in};
-use crate::generated::relex::front::{stand_before, two_stand};
+use crate::generated::relex::boundary::{has_two_chars_between, is_boundary_two_chars_before};
 use crate::generated::relex::settle::settled_in;
 use crate::support::Global;
 use core::error::Error;
@@ -63,7 +63,7 @@ pub struct JoinedText {
     edition: Edition,
     /// A token boundary that at least two characters follow, or 0. The tokens before it are final, whatever is
     /// appended.
-    sure: usize,
+    settled: usize,
 }
 
 impl JoinedText {
@@ -72,7 +72,7 @@ impl JoinedText {
         JoinedText {
             text: String::new(alloc),
             edition,
-            sure: 0,
+            settled: 0,
         }
     }
 
@@ -106,12 +106,12 @@ impl JoinedText {
         if self.text.reserve(piece.len() + 1).is_err() {
             return Err(JoinError::Memory);
         }
-        if !append_separated(&mut self.text, self.sure, self.edition, piece) {
+        if !append_separated(&mut self.text, self.settled, self.edition, piece) {
             return Err(JoinError::Inseparable);
         }
         let text = self.text.as_str();
-        let sure = sure_joined(text, self.sure, at);
-        self.sure = sure_later(text, sure, self.edition);
+        let settled = settled_joined(text, self.settled, at);
+        self.settled = settled_later(text, settled, self.edition);
         Ok(())
     }
 
@@ -122,21 +122,25 @@ impl JoinedText {
         if !text.is_char_boundary(len) {
             return false;
         }
-        let Some(sure) = sure_before(text, self.sure, len, self.edition) else {
+        let Some(settled) = settled_before(text, self.settled, len, self.edition) else {
             return false;
         };
         self.text.truncate(len);
-        self.sure = sure;
+        self.settled = settled;
         true
     }
 }
 
 /// Returns a final boundary of the text up to `at`, from a final boundary of the whole text, or `None` if the text
 /// cannot be split at `at`.
-fn sure_before(text: &str, sure: usize, at: usize, edition: Edition) -> Option<usize> {
-    let sure = if two_stand(text, sure, at) { sure } else { 0 };
-    if is_prefix_stable(text, sure, at, edition) {
-        Some(sure)
+fn settled_before(text: &str, settled: usize, at: usize, edition: Edition) -> Option<usize> {
+    let settled = if has_two_chars_between(text, settled, at) {
+        settled
+    } else {
+        0
+    };
+    if is_prefix_stable(text, settled, at, edition) {
+        Some(settled)
     } else {
         None
     }
@@ -144,22 +148,28 @@ fn sure_before(text: &str, sure: usize, at: usize, edition: Edition) -> Option<u
 
 /// Appends the piece with the first separator that keeps all tokens. Returns whether there is one; if not, the text is
 /// unchanged. The text already has capacity for a separator of one byte.
-fn append_separated(text: &mut String, sure: usize, edition: Edition, piece: &str) -> bool {
-    if append(text, sure, edition, "", piece) {
+fn append_separated(text: &mut String, settled: usize, edition: Edition, piece: &str) -> bool {
+    if append(text, settled, edition, "", piece) {
         return true;
     }
-    if append(text, sure, edition, " ", piece) {
+    if append(text, settled, edition, " ", piece) {
         return true;
     }
-    append(text, sure, edition, "\n", piece)
+    append(text, settled, edition, "\n", piece)
 }
 
 /// Appends the separator and the piece if that keeps all tokens. Returns whether it does. The text already has capacity
 /// for them.
-fn append(text: &mut String, sure: usize, edition: Edition, separator: &str, piece: &str) -> bool {
+fn append(
+    text: &mut String,
+    settled: usize,
+    edition: Edition,
+    separator: &str,
+    piece: &str,
+) -> bool {
     let at = text.as_str().len();
     append_both(text, separator, piece);
-    let separated = separates(text.as_str(), sure, at, separator.len(), edition);
+    let separated = separates(text.as_str(), settled, at, separator.len(), edition);
     if !separated {
         text.truncate(at);
     }
@@ -186,29 +196,29 @@ fn keeps_separator(text: &str, at: usize, len: usize, edition: Edition) -> bool 
 }
 
 /// Returns whether the `len` bytes from `at` on separate the texts before and after them without changing any token.
-fn separates(text: &str, sure: usize, at: usize, len: usize, edition: Edition) -> bool {
-    keeps_separator(text, at, len, edition) && is_prefix_stable(text, sure, at, edition)
+fn separates(text: &str, settled: usize, at: usize, len: usize, edition: Edition) -> bool {
+    keeps_separator(text, at, len, edition) && is_prefix_stable(text, settled, at, edition)
 }
 
-/// Returns whether the tokens before `at` are also the first tokens of the whole text. The tokens before `sure` are.
-fn is_prefix_stable(text: &str, sure: usize, at: usize, edition: Edition) -> bool {
-    is_token_boundary(&text[sure..], at - sure, edition)
+/// Returns whether the tokens before `at` are also the first tokens of the whole text. The tokens before `settled` are.
+fn is_prefix_stable(text: &str, settled: usize, at: usize, edition: Edition) -> bool {
+    is_token_boundary(&text[settled..], at - settled, edition)
 }
 
 /// Returns a final boundary of a joined text: the end of the text before the piece, if two characters follow it, and
-/// otherwise `sure`.
-fn sure_joined(text: &str, sure: usize, at: usize) -> usize {
-    if stand_before(text, at, text.len()) {
+/// otherwise `settled`.
+fn settled_joined(text: &str, settled: usize, at: usize) -> usize {
+    if is_boundary_two_chars_before(text, at, text.len()) {
         at
     } else {
-        sure
+        settled
     }
 }
 
-/// Returns the last final boundary of the text, or `sure` itself if only few bytes follow it.
-fn sure_later(text: &str, sure: usize, edition: Edition) -> usize {
-    if text.len().saturating_sub(sure) <= SHORT {
-        return sure;
+/// Returns the last final boundary of the text, or `settled` itself if only few bytes follow it.
+fn settled_later(text: &str, settled: usize, edition: Edition) -> usize {
+    if text.len().saturating_sub(settled) <= SHORT {
+        return settled;
     }
-    sure + settled_in(&text[sure..], edition)
+    settled + settled_in(&text[settled..], edition)
 }

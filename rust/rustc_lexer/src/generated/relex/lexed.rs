@@ -4,20 +4,21 @@ use crate::support::String;
 
 use crate::generated::entry::stepper::Stepper;
 use crate::generated::head::{Document, Extent, Fragment};
-use crate::generated::relex::edit::{accepts, put_in_place};
-use crate::generated::relex::kept::{Kept, lex_body, renew};
-use crate::generated::relex::relexing::{Change, Relexed};
+use crate::generated::relex::edit::{accepts, apply_in_place};
+use crate::generated::relex::lexed::parts::{LexedParts, lex_body, update};
+use crate::generated::relex::relexer::{Change, Relexed};
 use crate::generated::token::Token;
 use crate::support::{AllocError, Global};
 use core::marker::PhantomData;
 
-mod at_once;
 mod document;
-mod edits;
+mod edit_batch;
+mod edit_sequence;
 mod in_edition;
 mod look_up;
+mod parts;
 mod set_text;
-mod stream;
+mod settled;
 
 /// A text with its tokens, which are kept up to date as it is edited, and with the stepper that lexed them.
 ///
@@ -25,7 +26,7 @@ mod stream;
 /// less than two characters before it, up to the offset at which old and new tokens meet.
 #[derive(Clone)]
 pub struct Lexed<S: Stepper, E: Extent> {
-    kept: Kept<S, E>,
+    parts: LexedParts<S, E>,
 }
 
 /// A fragment of a file, with tokens that are kept up to date as it is edited. It has no head: a shebang line or a
@@ -58,7 +59,7 @@ impl<S: Stepper, E: Extent> Lexed<S, E> {
         let head = E::find_head(text.as_str());
         let (tokens, checkpoints) = lex_body(alloc, head, &mut stepper, text.as_str())?;
         Ok(Lexed {
-            kept: Kept {
+            parts: LexedParts {
                 alloc,
                 extent: PhantomData,
                 text,
@@ -72,31 +73,31 @@ impl<S: Stepper, E: Extent> Lexed<S, E> {
 
     /// Returns the text.
     pub fn text(&self) -> &str {
-        self.kept.text.as_str()
+        self.parts.text.as_str()
     }
 
     /// Returns the tokens of the text, in order. A byte order mark and a shebang line are not tokens.
     pub fn tokens(&self) -> &[Token] {
-        self.kept.tokens.as_slice()
+        self.parts.tokens.as_slice()
     }
 
     /// Returns the stepper that lexed the tokens.
     pub fn stepper(&self) -> &S {
-        &self.kept.stepper
+        &self.parts.stepper
     }
 
     /// Returns the text, without copying it, and drops its tokens.
     pub fn into_string(self) -> String {
-        let Lexed { kept } = self;
-        let Kept { text, .. } = kept;
+        let Lexed { parts } = self;
+        let LexedParts { text, .. } = parts;
         text
     }
 
     /// Frees memory that edits have left unused, like `Vec::shrink_to_fit`. Text, tokens and stepper do not change. If
     /// an allocation fails, the unused memory is kept.
     pub fn shrink_to_fit(&mut self) {
-        self.kept.text.shrink_to_fit();
-        self.kept.tokens.shrink_to_fit();
+        self.parts.text.shrink_to_fit();
+        self.parts.tokens.shrink_to_fit();
     }
 
     /// Lexes the text again with another stepper. The head of a document is kept.
@@ -106,31 +107,32 @@ impl<S: Stepper, E: Extent> Lexed<S, E> {
     /// Returns an error if an allocation fails. Text and tokens are then unchanged.
     pub fn set_stepper(&mut self, stepper: S) -> Result<(), AllocError> {
         let mut stepper = stepper;
-        let text = self.kept.text.as_str();
-        let (tokens, checkpoints) = lex_body(self.kept.alloc, self.kept.head, &mut stepper, text)?;
-        self.kept.tokens = tokens;
-        self.kept.stepper = stepper;
-        self.kept.checkpoints = checkpoints;
+        let text = self.parts.text.as_str();
+        let (tokens, checkpoints) =
+            lex_body(self.parts.alloc, self.parts.head, &mut stepper, text)?;
+        self.parts.tokens = tokens;
+        self.parts.stepper = stepper;
+        self.parts.checkpoints = checkpoints;
         Ok(())
     }
 
     /// Replaces the text and lexes the new one from scratch with the stepper, whatever the old text and tokens are. If
     /// an allocation fails, both texts are left as they were.
-    pub(crate) fn lex_anew(&mut self, text: &mut String) -> Result<(), AllocError> {
-        let stepper = &mut self.kept.stepper;
+    pub(crate) fn lex_from_scratch(&mut self, text: &mut String) -> Result<(), AllocError> {
+        let stepper = &mut self.parts.stepper;
         let now = E::find_head(text.as_str());
-        let (lexed, checkpoints) = lex_body(self.kept.alloc, now, stepper, text.as_str())?;
-        self.kept.text = core::mem::replace(text, String::new(self.kept.alloc));
-        self.kept.tokens = lexed;
-        self.kept.head = now;
-        self.kept.checkpoints = checkpoints;
+        let (lexed, checkpoints) = lex_body(self.parts.alloc, now, stepper, text.as_str())?;
+        self.parts.text = core::mem::replace(text, String::new(self.parts.alloc));
+        self.parts.tokens = lexed;
+        self.parts.head = now;
+        self.parts.checkpoints = checkpoints;
         Ok(())
     }
 
     /// Returns whether an edit is valid: its range is in bounds and on character boundaries, and the new text has at
     /// most `u32::MAX` bytes.
     pub fn accepts(&self, start: usize, stop: usize, insert: &str) -> bool {
-        accepts(self.kept.text.as_str(), start, stop, insert)
+        accepts(self.parts.text.as_str(), start, stop, insert)
     }
 
     /// Replaces the bytes in `start..stop` with `insert`. The edit must be [accepted](Lexed::accepts).
@@ -142,18 +144,18 @@ impl<S: Stepper, E: Extent> Lexed<S, E> {
     ///
     /// Returns an error if an allocation fails. Text and tokens are then unchanged.
     pub fn edit(&mut self, start: usize, stop: usize, insert: &str) -> Result<Relexed, AllocError> {
-        let removed = String::from_str(self.kept.alloc, &self.kept.text[start..stop])?;
-        self.kept.text.reserve(insert.len())?;
-        put_in_place(&mut self.kept.text, start, stop, insert);
+        let removed = String::from_str(self.parts.alloc, &self.parts.text[start..stop])?;
+        self.parts.text.reserve(insert.len())?;
+        apply_in_place(&mut self.parts.text, start, stop, insert);
         let edit = Change {
             start,
             old_end: stop,
             new_end: start + insert.len(),
         };
-        match renew(&mut self.kept, edit) {
+        match update(&mut self.parts, edit) {
             Ok(counts) => Ok(counts),
             Err(refused) => {
-                put_in_place(&mut self.kept.text, start, edit.new_end, removed.as_str());
+                apply_in_place(&mut self.parts.text, start, edit.new_end, removed.as_str());
                 Err(refused)
             }
         }

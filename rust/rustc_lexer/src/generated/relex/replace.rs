@@ -2,7 +2,7 @@
 //! Replaces the middle of a list of tokens in place.
 use crate::support::Vec;
 
-use crate::generated::relex::lex::make_room;
+use crate::generated::relex::lex_all::make_room;
 use crate::generated::token::{Token, TokenKind};
 use crate::support::AllocError;
 

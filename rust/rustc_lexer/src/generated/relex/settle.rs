@@ -3,7 +3,7 @@
 
 use crate::generated::edition::Edition;
 use crate::generated::entry::stepper::{Stepper, Steps};
-use crate::generated::relex::front::two_stand;
+use crate::generated::relex::boundary::has_two_chars_between;
 
 /// Returns the byte offset up to which tokens are final, whatever is appended to the text, or 0 if none are.
 ///
@@ -27,7 +27,7 @@ fn settled_by<S: Stepper>(stepper: &mut S, text: &str) -> usize {
     while offset < text.len() {
         let token = stepper.step(&text[offset..]);
         let next = offset + token.len as usize;
-        if !two_stand(text, next, text.len()) {
+        if !has_two_chars_between(text, next, text.len()) {
             break;
         }
         offset = next;

@@ -1,7 +1,7 @@
 use Rattle.std.proofs.Common.{◌≡◌, ◌∷◌, ◌++◌, List, ℕ, length, map, drop, take, refl, sym, ap, ◌∙◌, subst, arith}
 use Rattle.std.proofs.Common.{length-append, length-take-le, []}
-use Rattle.rustc_lexer.specs.{declared.{relex.{front.TokenStart.{TokenStart}, relexing.Relexing.{Relexing}}}, Token}
-use Rattle.rustc_lexer.specs.{Tokens.{tokens_by}, Offsets.{IsBound}, Relexing.{GoesOn}}
+use Rattle.rustc_lexer.specs.{declared.{relex.{boundary.TokenStart.{TokenStart}, relexer.RelexState.{RelexState}}}, Token}
+use Rattle.rustc_lexer.specs.{Tokens.{tokens_by}, Offsets.{IsBound}, Relexer.{GoesOn}}
 use Rattle.rustc_lexer.proofs.lemmas.edits.{FrontAndBack.{IfErr-always}, ManyTokens.{front_of, more_lexed}}
 use Rattle.rustc_lexer.proofs.lemmas.edits.UnderWay.{few_lexed}
 use Rattle.rustc_lexer.proofs.lemmas.tokens.Progress.{same_first}
@@ -13,7 +13,7 @@ returns-in_default-clause-lexed g c = λ before insert is near.
     let none = c.new-tokens.ensures.items in
     let last = c.in_default.ensures.under_way before insert is
     (c.begin-at.ensures.under_way first before insert (g.S.Stepper.law c.args.stepper.now) is near) in
-    let lexed : c.next.new.self.lexed ≡ 0 = ap (λ (a : Relexing). a.lexed) c.in_default.ensures.step.0
+    let lexed : c.next.new.self.lexed ≡ 0 = ap (λ (a : RelexState). a.lexed) c.in_default.ensures.step.0
     ∙ c.begin-at.ensures.none in
     record {
       under_way = last.0;

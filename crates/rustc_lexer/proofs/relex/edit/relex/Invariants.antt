@@ -1,6 +1,6 @@
 use Rattle.std.proofs.Common.{length, ◌-◌, ◌≡◌, ◌+◌, drop, take}
-use Rattle.rustc_lexer.specs.{Tokens.{tokens_by}, Relexing.{IsUnderWay, CanContinue}}
-use Rattle.rustc_lexer.specs.model.{Checkpoints.{AreBounds}, Relexing.{ForEachOldText}}
+use Rattle.rustc_lexer.specs.{Tokens.{tokens_by}, Relexer.{IsUnderWay, CanContinue}}
+use Rattle.rustc_lexer.specs.model.{Checkpoints.{AreBounds}, Relexer.{ForEachOldText}}
 use Rattle.rustc_lexer.proofs.relex.edit.relex.Given as goal
 
 abbrev pub invariant-left : goal.invariant-left

@@ -3,21 +3,21 @@
 
 use crate::generated::entry::stepper::Stepper;
 use crate::generated::head::Document;
-use crate::generated::relex::front::TokenStart;
+use crate::generated::relex::boundary::TokenStart;
 use crate::generated::relex::lexed::Lexed;
 
 impl<S: Stepper> Lexed<S, Document> {
     /// Returns the offset of the first token, in bytes: only a byte order mark and a shebang line come before it.
     pub fn tokens_start(&self) -> usize {
-        self.kept.head.tokens_start
+        self.parts.head.tokens_start
     }
 
     /// Returns the start of the body: its offset in bytes, and the number of tokens before it. These are the tokens up
     /// to and including the frontmatter, or none if there is no frontmatter.
     pub fn body_start(&self) -> TokenStart {
         TokenStart {
-            index: self.kept.head.count(),
-            offset: self.kept.head.body,
+            index: self.parts.head.count(),
+            offset: self.parts.head.body,
         }
     }
 }

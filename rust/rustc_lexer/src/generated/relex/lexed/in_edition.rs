@@ -32,7 +32,7 @@ impl<E: Extent> Lexed<Steps, E> {
 
     /// Returns the edition in which the text is lexed. Edits do not change it.
     pub fn edition(&self) -> Edition {
-        self.kept.stepper.edition()
+        self.parts.stepper.edition()
     }
 
     /// Lexes the text again in another edition. The head is kept, since it is the same in all editions.

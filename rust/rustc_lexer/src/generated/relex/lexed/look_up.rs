@@ -3,7 +3,7 @@
 
 use crate::generated::entry::stepper::Stepper;
 use crate::generated::head::Extent;
-use crate::generated::relex::front::{TokenStart, token_around};
+use crate::generated::relex::boundary::{TokenStart, find_token};
 use crate::generated::relex::lexed::Lexed;
 use crate::generated::relex::pieces::{Piece, Pieces};
 use crate::generated::token::Token;
@@ -13,14 +13,14 @@ impl<S: Stepper, E: Extent> Lexed<S, E> {
     /// Returns an iterator over the pieces of the text, one for each token, in order. The first piece starts after a
     /// byte order mark and a shebang line, which are not pieces.
     pub fn pieces(&self) -> Pieces<'_> {
-        let text = self.kept.text.as_str();
-        let start = self.kept.head.tokens_start as u32;
+        let text = self.parts.text.as_str();
+        let start = self.parts.head.tokens_start as u32;
         let end = text.len() as u32;
         Pieces {
             text,
             start,
             end,
-            tokens: self.kept.tokens.as_slice(),
+            tokens: self.parts.tokens.as_slice(),
         }
     }
 
@@ -29,7 +29,7 @@ impl<S: Stepper, E: Extent> Lexed<S, E> {
     pub fn pieces_by_index(&self, from: usize, to: usize) -> Pieces<'_> {
         let first = TokenStart {
             index: 0,
-            offset: self.kept.head.tokens_start,
+            offset: self.parts.head.tokens_start,
         };
         let start = self.offset_of(from, first);
         let known = TokenStart {
@@ -37,9 +37,9 @@ impl<S: Stepper, E: Extent> Lexed<S, E> {
             offset: start as usize,
         };
         let end = self.offset_of(to, known);
-        let tokens = &self.kept.tokens.as_slice()[from..to];
+        let tokens = &self.parts.tokens.as_slice()[from..to];
         Pieces {
-            text: self.kept.text.as_str(),
+            text: self.parts.text.as_str(),
             start,
             end,
             tokens,
@@ -49,31 +49,31 @@ impl<S: Stepper, E: Extent> Lexed<S, E> {
     /// Returns an iterator over the pieces of the tokens that contain a byte of `start..stop`, for example of the
     /// visible lines. The range may end anywhere, even after the end of the text. An empty range contains no pieces.
     pub fn pieces_in_bytes(&self, start: usize, stop: usize) -> Pieces<'_> {
-        let (from, to) = self.numbers_in(start, stop);
+        let (from, to) = self.index_range(start, stop);
         self.pieces_by_index(from, to)
     }
 
     /// Returns the last boundary known without a search that has at most `number` tokens before it: `known`, or a
     /// remembered one. Its offset is in bytes from the start of the text.
     fn bound_before(&self, number: usize, known: TokenStart) -> TokenStart {
-        let count = self.kept.head.count();
+        let count = self.parts.head.count();
         if number < count {
             return known;
         }
-        let near = self.kept.checkpoints.before_number(number - count);
+        let near = self.parts.checkpoints.before_number(number - count);
         if count + near.index < known.index {
             return known;
         }
         TokenStart {
             index: count + near.index,
-            offset: self.kept.head.body + near.offset,
+            offset: self.parts.head.body + near.offset,
         }
     }
 
     /// Returns the offset of token boundary `number`, in bytes from the start of the text. `known` is a boundary with
     /// at most `number` tokens before it.
     fn offset_of(&self, number: usize, known: TokenStart) -> u32 {
-        let tokens = self.kept.tokens.as_slice();
+        let tokens = self.parts.tokens.as_slice();
         let near = self.bound_before(number, known);
         let start = near.offset as u32;
         end_from(start, &tokens[near.index..number])
@@ -82,16 +82,19 @@ impl<S: Stepper, E: Extent> Lexed<S, E> {
     /// Returns a boundary near the offset that is known without a search: the nearest remembered one, or the first one
     /// if the offset is in the head.
     fn bound_near(&self, offset: usize) -> TokenStart {
-        if offset < self.kept.head.body {
+        if offset < self.parts.head.body {
             return TokenStart {
                 index: 0,
-                offset: self.kept.head.tokens_start,
+                offset: self.parts.head.tokens_start,
             };
         }
-        let near = self.kept.checkpoints.nearest(offset - self.kept.head.body);
+        let near = self
+            .parts
+            .checkpoints
+            .nearest(offset - self.parts.head.body);
         TokenStart {
-            index: self.kept.head.count() + near.index,
-            offset: self.kept.head.body + near.offset,
+            index: self.parts.head.count() + near.index,
+            offset: self.parts.head.body + near.offset,
         }
     }
 
@@ -99,15 +102,15 @@ impl<S: Stepper, E: Extent> Lexed<S, E> {
     /// mark and a shebang line, which are not tokens, and at and after the end of the text. It reads few of the tokens.
     pub fn token_start_at(&self, offset: usize) -> Option<TokenStart> {
         let near = self.bound_near(offset);
-        token_around(self.kept.tokens.as_slice(), near, offset)
+        find_token(self.parts.tokens.as_slice(), near, offset)
     }
 
     /// Returns the piece that contains the byte at `offset`. Returns `None` in a byte order mark and a shebang line,
     /// and at and after the end of the text. It reads few of the tokens.
     pub fn piece_at(&self, offset: usize) -> Option<Piece<'_>> {
         let at = self.token_start_at(offset)?;
-        let text = self.kept.text.as_str();
-        let tokens = &self.kept.tokens.as_slice()[at.index..];
+        let text = self.parts.text.as_str();
+        let tokens = &self.parts.tokens.as_slice()[at.index..];
         let start = at.offset as u32;
         let end = text.len() as u32;
         let mut pieces = Pieces {
@@ -120,34 +123,34 @@ impl<S: Stepper, E: Extent> Lexed<S, E> {
     }
 
     /// Returns how many tokens end at or before the offset.
-    fn ended_at(&self, offset: usize) -> usize {
-        if offset < self.kept.head.tokens_start {
+    fn count_ended_at(&self, offset: usize) -> usize {
+        if offset < self.parts.head.tokens_start {
             return 0;
         }
         match self.token_start_at(offset) {
             Some(at) => at.index,
-            None => self.kept.tokens.len(),
+            None => self.parts.tokens.len(),
         }
     }
 
     /// Returns how many tokens start before the offset.
-    fn begun_before(&self, offset: usize) -> usize {
-        if offset <= self.kept.head.tokens_start {
+    fn count_started_before(&self, offset: usize) -> usize {
+        if offset <= self.parts.head.tokens_start {
             return 0;
         }
         match self.token_start_at(offset - 1) {
             Some(at) => at.index + 1,
-            None => self.kept.tokens.len(),
+            None => self.parts.tokens.len(),
         }
     }
 
     /// Returns the range of the tokens that contain a byte of `start..stop`: the index of the first one, and the index
     /// after the last one.
-    fn numbers_in(&self, start: usize, stop: usize) -> (usize, usize) {
+    fn index_range(&self, start: usize, stop: usize) -> (usize, usize) {
         if start >= stop {
             return (0, 0);
         }
-        (self.ended_at(start), self.begun_before(stop))
+        (self.count_ended_at(start), self.count_started_before(stop))
     }
 }
 

@@ -3,9 +3,9 @@
 
 use crate::generated::entry::stepper::Stepper;
 use crate::generated::head::Extent;
-use crate::generated::relex::common::{common_back, common_front};
+use crate::generated::relex::diff::{common_prefix, common_suffix};
 use crate::generated::relex::lexed::Lexed;
-use crate::generated::relex::relexing::Relexed;
+use crate::generated::relex::relexer::Relexed;
 use crate::support::AllocError;
 
 impl<S: Stepper, E: Extent> Lexed<S, E> {
@@ -26,8 +26,8 @@ impl<S: Stepper, E: Extent> Lexed<S, E> {
                 kept_back: 0,
             });
         }
-        let start = common_front(old, text);
-        let back = common_back(old, text, start);
+        let start = common_prefix(old, text);
+        let back = common_suffix(old, text, start);
         let stop = old.len() - back;
         self.edit(start, stop, &text[start..text.len() - back])
     }

@@ -1,5 +1,5 @@
 use Rattle.std.proofs.Common.{◌<◌, ◌≤◌, ℕ, List, get_or}
-use Rattle.rustc_lexer.specs.{declared.relex.front.TokenStart.{TokenStart}, Token, model.Checkpoints.{AreBounds}}
+use Rattle.rustc_lexer.specs.{declared.relex.boundary.TokenStart.{TokenStart}, Token, model.Checkpoints.{AreBounds}}
 use Rattle.rustc_lexer.specs.Offsets.{IsBound}
 use Rattle.rustc_lexer.proofs.relex.checkpoints.Checkpoints.before_number.Given as goal
 

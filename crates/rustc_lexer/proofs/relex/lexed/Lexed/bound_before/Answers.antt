@@ -6,13 +6,13 @@ use Rattle.rustc_lexer.proofs.relex.lexed.Lexed.bound_before.Goals as goal
 
 pub overflow_add-result-2 : goal.overflow_add-result-2
 overflow_add-result-2 g c =
-    let at = near_at (g.S.Stepper.law c.self.inside.kept.stepper) _ _ _ _ c.self.invariant
+    let at = near_at (g.S.Stepper.law c.self.inside.parts.stepper) _ _ _ _ c.self.invariant
     c.before_number-near.result c.count-count.result c.count-count.ensures
     (c.before_number-near.ensures.bound _ c.self.invariant.4) in
     omega (
       arith,
       at,
-      offset_fits (g.S.Stepper.law c.self.inside.kept.stepper) _ _ _ _ c.self.invariant
+      offset_fits (g.S.Stepper.law c.self.inside.parts.stepper) _ _ _ _ c.self.invariant
           (c.count-count.result + c.before_number-near.result.index)
           (omega (
             arith,
@@ -25,13 +25,13 @@ overflow_add-result-2 g c =
 
 pub returns-clause-offset : goal.returns-clause-offset
 returns-clause-offset g c =
-    let at = near_at (g.S.Stepper.law c.self.inside.kept.stepper) _ _ _ _ c.self.invariant
+    let at = near_at (g.S.Stepper.law c.self.inside.parts.stepper) _ _ _ _ c.self.invariant
     c.before_number-near.result c.count-count.result c.count-count.ensures
     (c.before_number-near.ensures.bound _ c.self.invariant.4) in
     omega (
       arith,
       at,
-      start_seen (g.S.Stepper.law c.self.inside.kept.stepper) g.E.Extent.whole
+      start_seen (g.S.Stepper.law c.self.inside.parts.stepper) g.E.Extent.whole
           _ _ _ _ c.self.invariant c.args.self.now (ap (λ h. h.text) c.self.view_is)
           (ap (λ h. h.tokens) c.self.view_is),
       ap (λ h. bound h.tokens (c.count-count.result + c.before_number-near.result.index)) c.self.view_is,

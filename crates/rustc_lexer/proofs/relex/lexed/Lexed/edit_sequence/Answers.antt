@@ -1,5 +1,5 @@
 use Rattle.std.proofs.{Common.{arith, take_all}, lemmas.Grind.{common_steps}}
-use Rattle.rustc_lexer.proofs.lemmas.edits.Lists.{kept_through}
+use Rattle.rustc_lexer.proofs.lemmas.edits.EditSequence.{kept_through}
 use Rattle.rustc_lexer.proofs.relex.lexed.Lexed.edit_sequence.Goals as goal
 
 pub returns-in-Ok-clause-kept : goal.returns-in-Ok-clause-kept

@@ -1,7 +1,7 @@
 use Rattle.std.proofs.{Common.{◌∙◌, rules, List, ℕ, refl, subst, get_or, arith}, lemmas.Grind.{common_steps}}
-use Rattle.rustc_lexer.specs.{declared.relex.edit_list.EditStop.TheVariants.{Range, TooLong}, Edits.{IsRefusedOn}}
-use Rattle.rustc_lexer.proofs.lemmas.edits.Lists.{counted_more, counted_refused, none, kept_more, kept_none}
-use Rattle.rustc_lexer.proofs.lemmas.edits.Lists.{kept_refused, made_more, made_none, made_refused, made_stop}
+use Rattle.rustc_lexer.specs.{declared.relex.edit_error.EditStop.TheVariants.{Range, TooLong}, Edits.{IsRefusedOn}}
+use Rattle.rustc_lexer.proofs.lemmas.edits.EditSequence.{counted_more, counted_refused, none, kept_more, kept_none}
+use Rattle.rustc_lexer.proofs.lemmas.edits.EditSequence.{kept_refused, made_more, made_none, made_refused, made_stop}
 use Rattle.rustc_lexer.proofs.relex.lexed.Lexed.make.Goals as goal
 
 pub list-init : goal.list-init

@@ -1,5 +1,5 @@
 use Rattle.std.proofs.Common.{◌≡◌, length, ◌-◌, take}
-use Rattle.rustc_lexer.specs.{Edits.{AreStepped}, LexedText.{layout_in}, model.EditList.{AreKeptTo, AreMadeTo}}
+use Rattle.rustc_lexer.specs.{Edits.{AreStepped}, LexedText.{layout_in}, model.EditSequence.{AreKeptTo, AreMadeTo}}
 use Rattle.rustc_lexer.proofs.relex.lexed.Lexed.make.Given as goal
 
 abbrev pub invariant-list : goal.invariant-list

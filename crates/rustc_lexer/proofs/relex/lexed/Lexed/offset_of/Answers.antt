@@ -8,7 +8,7 @@ overflow_cast-start g c =
     omega (
       arith,
       c.bound_before-near.ensures.offset,
-      fits_seen (g.S.Stepper.law c.self.inside.kept.stepper) g.E.Extent.whole _ _ _ _ c.self.invariant
+      fits_seen (g.S.Stepper.law c.self.inside.parts.stepper) g.E.Extent.whole _ _ _ _ c.self.invariant
           c.args.self.now (ap (λ h. h.text) c.self.view_is)
           (ap (λ h. h.tokens) c.self.view_is) c.bound_before-near.result.index
           (omega (arith, c.bound_before-near.ensures.number, c.requires.inside)),
@@ -28,7 +28,7 @@ end_from-requires g c =
       arith,
       c.bound_before-near.ensures.offset,
       part,
-      fits_seen (g.S.Stepper.law c.self.inside.kept.stepper) g.E.Extent.whole _ _ _ _ c.self.invariant
+      fits_seen (g.S.Stepper.law c.self.inside.parts.stepper) g.E.Extent.whole _ _ _ _ c.self.invariant
           c.args.self.now (ap (λ h. h.text) c.self.view_is) (ap (λ h. h.tokens) c.self.view_is) c.args.number
           c.requires.inside,
     )

@@ -11,7 +11,7 @@ overflow_cast-end g c =
     omega (
       arith,
       ap length c.as_str-text.ensures.value,
-      (kept_cuts (g.S.Stepper.law c.self.inside.kept.stepper) _ _ _ _ c.self.invariant).0,
+      (kept_cuts (g.S.Stepper.law c.self.inside.parts.stepper) _ _ _ _ c.self.invariant).0,
     )
 
 pub invariant_of-pieces : goal.invariant_of-pieces
@@ -19,7 +19,7 @@ invariant_of-pieces g c =
     let is = c.in_ok-at.ensures.token in
     let text = c.as_str-text.ensures.value ∙ ap (λ h. h.text) c.self.view_is in
     let tokens = c.as_slice.ensures.value ∙ ap (λ h. h.tokens) c.self.view_is in
-    let all = cut_seen (g.S.Stepper.law c.self.inside.kept.stepper) g.E.Extent.whole
+    let all = cut_seen (g.S.Stepper.law c.self.inside.parts.stepper) g.E.Extent.whole
     _ _ _ _ c.self.invariant c.args.self.now (ap (λ h. h.text) c.self.view_is)
     (ap (λ h. h.tokens) c.self.view_is) in
     rw (text, tokens)

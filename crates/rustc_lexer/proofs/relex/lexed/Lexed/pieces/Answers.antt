@@ -13,7 +13,7 @@ overflow_cast-end g c = grind (arith, common_steps, kept_cuts)
 pub invariant_of-result : goal.invariant_of-result
 invariant_of-result g c =
     rw (c.as_str-text.ensures.value, c.as_slice.ensures.value)
-    (kept_cuts (g.S.Stepper.law c.self.inside.kept.stepper) _ _ _ _ c.self.invariant)
+    (kept_cuts (g.S.Stepper.law c.self.inside.parts.stepper) _ _ _ _ c.self.invariant)
 
 pub returns-clause-pieces : goal.returns-clause-pieces
 returns-clause-pieces g c = grind (arith, common_steps, start_is)

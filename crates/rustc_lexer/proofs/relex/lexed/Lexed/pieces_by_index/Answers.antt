@@ -14,7 +14,7 @@ invariant_of-result g c =
     rw (text, tokens)
     (cut_part _ _ _ _ _ _ c.args.from c.args.to c.requires.from_le_to c.requires.to_inside c.offset_of-start.ensures
     c.offset_of-end.ensures
-    (cut_seen (g.S.Stepper.law c.self.inside.kept.stepper) g.E.Extent.whole _ _ _ _ c.self.invariant
+    (cut_seen (g.S.Stepper.law c.self.inside.parts.stepper) g.E.Extent.whole _ _ _ _ c.self.invariant
     c.args.self.now (ap (λ h. h.text) c.self.view_is) (ap (λ h. h.tokens) c.self.view_is)))
 
 pub returns : goal.returns

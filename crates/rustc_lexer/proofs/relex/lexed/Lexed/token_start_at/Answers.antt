@@ -10,12 +10,12 @@ returns g c =
     let placed : ArePlaced (map (λ (t : Token). t.len) c.args.self.now.tokens)
     (start_in g.E.Extent.whole c.args.self.now.text) c.args.self.now.tokens c.bound_near-near.result =
     record { lengths_are = refl; number = near.0; offset = near.1 } in
-    let token = if_some c.args.offset c.token_around.result (rw read at c.token_around.ensures.token) placed in
-    let end = end_seen (g.S.Stepper.law c.self.inside.kept.stepper) g.E.Extent.whole _ _ _ _ c.self.invariant
+    let token = if_some c.args.offset c.find_token.result (rw read at c.find_token.ensures.token) placed in
+    let end = end_seen (g.S.Stepper.law c.self.inside.parts.stepper) g.E.Extent.whole _ _ _ _ c.self.invariant
     c.args.self.now (ap (λ h. h.text) c.self.view_is) (ap (λ h. h.tokens) c.self.view_is) in
     record {
       token = token;
-      some = answered c.token_around.result _ c.args.self.now.tokens c.args.offset (length c.args.self.now.text) end
+      some = answered c.find_token.result _ c.args.self.now.tokens c.args.offset (length c.args.self.now.text) end
           token (λ none le. rw end at
-          (rw read at c.token_around.ensures.none none _ c.args.self.now.tokens placed le));
+          (rw read at c.find_token.ensures.none none _ c.args.self.now.tokens placed le));
     }

@@ -1,5 +1,0 @@
-use Rattle.std.proofs.{Common.{arith}, lemmas.Grind.{common_steps}, Math.Seq.{drop-append_seam}}
-use Rattle.rustc_lexer.proofs.relex.kept.lex_body.Goals as goal
-
-pub returns-clause-checkpoints : goal.returns-clause-checkpoints
-returns-clause-checkpoints g c = grind (arith, common_steps, drop-append_seam)
