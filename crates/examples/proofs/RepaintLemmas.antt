@@ -3,7 +3,7 @@ use Rattle.std.proofs.Common.{◌≡◌, ℕ, zero, suc, ◌+◌, ◌-◌, ◌<�
 use Rattle.std.proofs.Common.{refl, sym, ap, ◌∙◌, arith, drop-drop, take-take, take-append-drop, length-take-le}
 use Rattle.std.proofs.Common.{IsUtf8, Result, Ok, Err, IfOk, OnOk}
 use Rattle.std.proofs.lemmas.{Grind.{common_steps}, List.{drop-take}}
-use Rattle.rustc_lexer.specs.declared.{relex.relexer.{Change.{Change}, Relexed.{Relexed}}, token.Token.{Token}}
+use Rattle.rustc_lexer.specs.declared.{relex.{change.Change.{Change}, counts.Relexed.{Relexed}}, token.Token.{Token}}
 use Rattle.rustc_lexer.specs.{Tokens.{bound, tokens_by}, Edits.{IsEdit, IsMeeting, IsRelexed, apply, fragment_by}}
 use Rattle.rustc_lexer.specs.{LexedText.{PieceModel, pieces_from}, Relexer.{IsEditOf}, model.Relexer.{kept_front}}
 use Rattle.rustc_lexer.specs.{Locality.{has_two, IsGrammar}, Classes.{IsText}}

@@ -3,7 +3,7 @@ use Rattle.std.specs.Prelude.{ℕ, ◌+◌, ◌-◌, List, [], ◌∷◌, ◌++�
 use Rattle.rustc_lexer.specs.declared.token.TokenKind.{TokenKind}
 use Rattle.rustc_lexer.specs.declared.token.TokenKind.TheVariants.{LineComment, BlockComment, Literal, Lifetime}
 use Rattle.rustc_lexer.specs.declared.token.TokenKind.TheVariants.{RawLifetime, UnknownPrefixLifetime, Unknown}
-use Rattle.rustc_lexer.specs.declared.relex.relexer.Relexed.{Relexed}
+use Rattle.rustc_lexer.specs.declared.relex.counts.Relexed.{Relexed}
 use Rattle.rustc_lexer.specs.LexedText.{PieceModel}
 
 -- The changed pieces of a new text are the pieces that were lexed.

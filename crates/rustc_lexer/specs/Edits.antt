@@ -1,7 +1,7 @@
 -- Edits: the text after an edit, and which tokens the edit keeps.
 use Rattle.std.specs.Prelude.{ℕ, ◌+◌, ◌-◌, ◌<◌, ◌≤◌, ◌^◌, List, [], ◌∷◌, ◌++◌, length, take, drop, IsCharBoundary, ◌≡◌}
 use Rattle.std.specs.Prelude.{slice_get, IfSome, codes, decimal, count_by}
-use Rattle.rustc_lexer.specs.declared.relex.{edit.Edit.Edit, edit_error.EditStop.EditStop, relexer.Relexed.Relexed}
+use Rattle.rustc_lexer.specs.declared.relex.{edit.Edit.Edit, edit_error.EditStop.EditStop, counts.Relexed.Relexed}
 use Rattle.rustc_lexer.specs.declared.relex.edit_error.EditStop.TheVariants.{Range, TooLong, Memory}
 use Rattle.rustc_lexer.specs.{Token}
 use Rattle.rustc_lexer.specs.Locality.{has_two}

@@ -2,7 +2,7 @@
 use Rattle.std.specs.Prelude.{ℕ, ◌+◌, ◌-◌, ◌<◌, ◌≤◌, ◌^◌, List, [], ◌∷◌, ◌++◌, length, take, drop, ◌≡◌, Option, Some}
 use Rattle.std.specs.Prelude.{None, Bool, true, false, Result, Ok, Err, IfOk, IfErr, OnOk, OnErr, All}
 use Rattle.rustc_lexer.specs.declared.relex.{edit.Edit.Edit, edit_error.EditStop.EditStop, edit_error.EditSequenceError.EditSequenceError}
-use Rattle.rustc_lexer.specs.declared.relex.{pieces.Piece.Piece, relexer.Relexed.Relexed}
+use Rattle.rustc_lexer.specs.declared.relex.{pieces.Piece.Piece, counts.Relexed.Relexed}
 use Rattle.rustc_lexer.specs.{Edition, Token}
 use Rattle.rustc_lexer.specs.Document.{document_tokens, tokens_start, document_by}
 use Rattle.rustc_lexer.specs.Edits.{AreEdits, AreStepped, AreRelexed, IsGreatest, IsRelexed, IsStop, IsStopStepped}

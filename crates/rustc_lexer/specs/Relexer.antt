@@ -3,7 +3,7 @@ use Rattle.std.specs.Prelude.{ℕ, zero, suc, ◌≡◌, ◌↔◌, ◌+◌, ◌
 use Rattle.std.specs.Prelude.{IsTrue, nat_eq, List, [], ◌∷◌, ◌++◌, length, map, take, drop, IsCharBoundary, IsUtf8}
 use Rattle.std.specs.Prelude.{Option, Some, None}
 use Rattle.rustc_lexer.specs.declared.{head.Head.Head}
-use Rattle.rustc_lexer.specs.declared.relex.{relexer.Change.Change, relexer.Relexed.Relexed}
+use Rattle.rustc_lexer.specs.declared.relex.{change.Change.Change, counts.Relexed.Relexed}
 use Rattle.rustc_lexer.specs.declared.relex.{relexer.RelexState.RelexState}
 use Rattle.rustc_lexer.specs.{Token, Whitespace}
 use Rattle.rustc_lexer.specs.Classes.{IsText}
@@ -98,15 +98,35 @@ pub record IsUnderWay (first : List ℕ → Token) (old : List ℕ) (change : Ch
   pub reached : change.new_end ≤ at.at → at.back.index < length (tokens_by first old)
       → at.at + change.old_end ≤ at.back.offset + change.new_end
 
--- Holds if the following is true for each old text that the change turns into this text and whose tokens have these
--- lengths: the invariant is preserved from `at` to `at'`, and the tokens of the text that was left are exactly the new
--- tokens that were not known yet.
-abbrev pub GoesOn : (List ℕ → Token) → List ℕ → List ℕ → Change → RelexState → RelexState → Type 0
-GoesOn first lengths text change at at' =
-    (before insert : List ℕ) → IsMadeOf first before lengths change insert text
-    → IsUnderWay first before change text at
-    → IsUnderWay first before change text at'
-    × (tokens_by first (drop at.at text) ≡ drop (known at) (tokens_by first text))
+-- Holds if `r` re-lexes the text that an edit of `before` resulted in: the edit inserted `insert`, the old tokens are the
+-- tokens of `before`, and the invariant holds.
+pub record IsRelexOf (first : List ℕ → Token) (before insert : List ℕ) (r : RelexerModel) : Type 0 where
+  pub made_of : IsMadeOf first before r.lengths r.change insert r.text
+  pub under_way : IsUnderWay first before r.change r.text r.at
+
+-- Holds if re-lexing goes on from `old` to `new` and lexes `count` tokens. If the old tokens are the tokens of an old
+-- text, these are the next tokens of the current text.
+pub record Advances (first : List ℕ → Token) (old : RelexerModel) (count : ℕ) (new : RelexerModel) : Type 0
+  where
+    pub same_text : new.text ≡ old.text
+    pub same_lengths : new.lengths ≡ old.lengths
+    pub same_change : new.change ≡ old.change
+    pub steps : TakesSteps first old.text old.change.new_end old.at count new.at
+    pub left : drop count (tokens_by first (drop old.at.at old.text))
+        ≡ tokens_by first (drop new.at.at old.text)
+    pub ahead : old.at.at + count ≤ new.at.at
+    pub inside : 0 < count → new.at.at ≤ length old.text
+    pub goes_on : (before insert : List ℕ) → IsRelexOf first before insert old
+        → IsRelexOf first before insert new
+        × (tokens_by first (drop old.at.at old.text) ≡ drop (known old.at) (tokens_by first old.text))
+
+-- Holds if re-lexing goes on from `old` to `new`, and writes the `count` tokens that it lexes to the start of the buffer.
+pub record Fills {X : Type 0} (written : Token → X) (first : List ℕ → Token) (old : RelexerModel)
+    (buffer : List X) (count : ℕ) (new : RelexerModel) (filled : List X) : Type 0 where
+  pub advances : Advances first old count new
+  pub within : count ≤ length buffer
+  pub tokens : filled
+      ≡ map written (take count (tokens_by first (drop old.at.at old.text))) ++ drop count buffer
 
 -- Holds if the tokens kept in front, the lexed tokens, and the old tokens after the boundary where both met are
 -- together the new tokens.

@@ -2,7 +2,7 @@
 use Rattle.std.proofs.Common.{◌≡◌, ℕ, zero, suc, Bool, true, not, List, drop, nat_eq, refl, sym, ap, ◌∙◌, subst, arith}
 use Rattle.std.proofs.Common.{Option, Some, None}
 use Rattle.std.proofs.lemmas.Grind.{common_steps}
-use Rattle.rustc_lexer.specs.declared.{head.Head.{Head}, relex.relexer.Change.{Change}, token.Token.{Token}}
+use Rattle.rustc_lexer.specs.declared.{head.Head.{Head}, relex.change.Change.{Change}, token.Token.{Token}}
 use Rattle.rustc_lexer.specs.{declared.token.TokenKind.{TokenKind}, Answers.{first_in}, Classes.{IsText}}
 use Rattle.rustc_lexer.specs.{Document.{is_frontmatter}, LanguageText.{newest}, Locality.{IsGrammar}}
 use Rattle.rustc_lexer.specs.{Relexer.{IsChange, IsEditOf, IsBodyChange, IsHeadOf}}

@@ -7,7 +7,8 @@ use Rattle.rustc_lexer.specs.declared.{edition.Edition.{Edition}}
 use Rattle.rustc_lexer.specs.declared.{relex.relexer.RelexState.{RelexState}, token.Token.{Token}}
 use Rattle.rustc_lexer.specs.{Tokens.{tokens_by, tokens_of}, Answers.{first_in}, LanguageText.{part}}
 use Rattle.rustc_lexer.specs.{Edits.{fragment_by}, Relexer.{known}}
-use Rattle.rustc_lexer.specs.Relexer.{IsChange, IsMadeOf, IsUnderWay, IsWhole, CanContinue, TakesSteps, is_done}
+use Rattle.rustc_lexer.specs.Relexer.{Advances, CanContinue, IsChange, IsMadeOf, IsUnderWay, IsWhole, RelexerModel}
+use Rattle.rustc_lexer.specs.Relexer.{TakesSteps, is_done}
 use Rattle.rustc_lexer.specs.{Classes.{IsText}, LanguageCalls.{edition_of_year}}
 use Rattle.rustc_lexer.specs.{Locality.{IsGrammar}, laws.Edition.{edition_grammar}}
 use Rattle.rustc_lexer.proofs.lemmas.edits.OneAnswer.{counts_of, relexed_is}
@@ -29,6 +30,16 @@ if_each (Some x) p q r all = all x p q r
 
 pub none_some : {X : Type 0} {x : X} → Some x ≡ None → ⊥
 none_some e = grind (arith, common_steps)
+
+-- The invariant is preserved for the text and the change before the call, which stay the same.
+pub stands_from : {first : List ℕ → Token} {begin now : RelexerModel} {count : ℕ} → Advances first begin count now
+    → (before insert : List ℕ) → IsMadeOf first before begin.lengths begin.change insert begin.text
+    → IsUnderWay first before begin.change begin.text begin.at
+    → IsUnderWay first before begin.change begin.text now.at
+    × (tokens_by first (drop begin.at.at begin.text) ≡ drop (known begin.at) (tokens_by first begin.text))
+stands_from a before insert made under_way =
+    let so = a.goes_on before insert (record { made_of = made; under_way = under_way }) in
+    (rw (a.same_text, a.same_change) at so.0.under_way, so.1)
 
 -- Converting a state to numbers and back gives the same state, if `met` is set exactly when relexing is done.
 relex_back : (text : List ℕ) (n : ℕ) (at : RelexState) → at.back.index ≤ n → is_done text at ≡ at.met

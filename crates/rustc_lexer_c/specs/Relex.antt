@@ -4,8 +4,8 @@ use Rattle.std.specs.Prelude.{take, drop, Some, None}
 use Rattle.std.specs.Str.{IsUtf8}
 use Rattle.rustc_lexer.specs.declared.edition.Edition.{Edition}
 use Rattle.rustc_lexer.specs.declared.relex.boundary.TokenStart.{TokenStart}
-use Rattle.rustc_lexer.specs.declared.relex.relexer.Change.{Change}
-use Rattle.rustc_lexer.specs.declared.relex.relexer.Relexed.{Relexed}
+use Rattle.rustc_lexer.specs.declared.relex.change.Change.{Change}
+use Rattle.rustc_lexer.specs.declared.relex.counts.Relexed.{Relexed}
 use Rattle.rustc_lexer.specs.declared.relex.relexer.RelexState.{RelexState}
 use Rattle.rustc_lexer.specs.declared.token.Token.{Token}
 use Rattle.rustc_lexer.specs.Tokens.{tokens_by}

@@ -3,7 +3,7 @@ use Rattle.std.specs.Prelude.{ℕ, ◌+◌, ◌-◌, ◌≤◌, ◌≡◌, if◌
 use Rattle.std.specs.Prelude.{Err, Bool, true, false, IsCharBoundary}
 use Rattle.rustc_lexer.specs.declared.relex.checkpoints.Checkpoints.{Checkpoints}
 use Rattle.rustc_lexer.specs.declared.head.Head.{Head}
-use Rattle.rustc_lexer.specs.declared.relex.relexer.{Change.Change, Relexed.Relexed}
+use Rattle.rustc_lexer.specs.declared.relex.{change.Change.Change, counts.Relexed.Relexed}
 use Rattle.rustc_lexer.specs.{Token}
 use Rattle.rustc_lexer.specs.Classes.{IsText}
 pub use Rattle.rustc_lexer.specs.Relexer.{front_tokens, tokens_of_head}

@@ -2,7 +2,7 @@
 use Rattle.std.specs.Prelude.{ℕ, ◌≡◌, ◌-◌, ◌≤◌, List, [], ◌∷◌, length, take, drop, min}
 use Rattle.rustc_lexer.specs.declared.relex.edit.Edit.{Edit}
 use Rattle.rustc_lexer.specs.declared.relex.lexed.edit_sequence.AppliedCounts.{AppliedCounts}
-use Rattle.rustc_lexer.specs.declared.relex.relexer.Relexed.{Relexed}
+use Rattle.rustc_lexer.specs.declared.relex.counts.Relexed.{Relexed}
 use Rattle.rustc_lexer.specs.{Token}
 use Rattle.rustc_lexer.specs.Edits.{AreEdits, IsRelexed, applied, apply_list}
 use Rattle.rustc_lexer.specs.LexedText.{LexedModel}

@@ -1,17 +1,15 @@
 -- Model of the steps of re-lexing.
-use Rattle.std.specs.Prelude.{ℕ, ◌+◌, ◌-◌, ◌<◌, ◌≤◌, Bool, count_by, max, map, IsCharBoundary, ◌≡◌, ◌↔◌, true, List}
+use Rattle.std.specs.Prelude.{ℕ, ◌+◌, ◌-◌, ◌<◌, ◌≤◌, Bool, count_by, max, map, IsCharBoundary, ◌≡◌, ◌↔◌, true, false, List}
 use Rattle.std.specs.Prelude.{length, take, drop}
 use Rattle.std.specs.Str.{IsUtf8}
 use Rattle.rustc_lexer.specs.declared.relex.boundary.TokenStart.{TokenStart}
-use Rattle.rustc_lexer.specs.declared.relex.boundary.Damage.{Damage}
-use Rattle.rustc_lexer.specs.declared.relex.relexer.Change.{Change}
-use Rattle.rustc_lexer.specs.declared.relex.relexer.EditedText.{EditedText}
+use Rattle.rustc_lexer.specs.declared.relex.change.Change.{Change}
 use Rattle.rustc_lexer.specs.declared.relex.relexer.RelexState.{RelexState}
 use Rattle.rustc_lexer.specs.{Token}
 use Rattle.rustc_lexer.specs.Partition.{bound, tokens_by}
 use Rattle.rustc_lexer.specs.Offsets.{IsBound}
 use Rattle.rustc_lexer.specs.Edits.{ends_from}
-use Rattle.rustc_lexer.specs.Relexer.{IsMadeOf, IsUnderWay}
+use Rattle.rustc_lexer.specs.Relexer.{IsMadeOf, IsUnderWay, RelexerModel}
 use Rattle.rustc_lexer.specs.Locality.{has_two}
 
 -- ---- tokens that an edit of a text without a head keeps
@@ -39,11 +37,6 @@ pub record IsFront (old : List ℕ) (tokens : List Token) (lengths text : List �
     pub lengths_are : HasLengths tokens lengths
     pub same : take start text ≡ take start old
 
--- Returns the effect of a change on the text that it resulted in.
-abbrev pub damage_of : List ℕ → Change → Damage
-damage_of text change =
-    record { past = change.new_end; old_end = change.old_end; end = length text }
-
 -- Holds if the last boundary of the tokens, and no other boundary, is at this offset.
 abbrev pub IsLast : List Token → ℕ → Type 0
 IsLast tokens offset =
@@ -70,13 +63,30 @@ pub record IsLexed (first : List ℕ → Token) (old : List ℕ) (change : Chang
 
 -- Holds if `P` holds for each text that has the old tokens and that the edit turned into this text, provided that
 -- `near` is a boundary of these tokens.
-abbrev pub ForEachOldText : (List ℕ → Token) → EditedText Token → TokenStart → (List ℕ → List ℕ → Type 0) → Type 0
-ForEachOldText first edited near P =
+abbrev pub ForEachOldText : (List ℕ → Token) → List ℕ → List Token → Change → TokenStart
+    → (List ℕ → List ℕ → Type 0) → Type 0
+ForEachOldText first text old_tokens change near P =
     (before insert : List ℕ)
-    → IsMadeOf first before (map (λ (t : Token). t.len) edited.old_tokens.now) edited.change insert
-    edited.text.now
+    → IsMadeOf first before (map (λ (t : Token). t.len) old_tokens) change insert text
     → IsBound (tokens_by first before) near
     → P before insert
+
+-- Holds if the new tokens cannot meet, before `end`, an old boundary that was not followed yet.
+abbrev pub IsClear : RelexerModel → ℕ → Type 0
+IsClear r end =
+    (offset : ℕ) → r.at.at < offset → offset < end → r.change.new_end ≤ offset
+    → (r.change.new_end ≤ r.at.at)
+    × (offset + r.change.old_end < r.at.back.offset + r.change.new_end)
+
+-- Holds if the next `count` tokens have `bytes` bytes and start before `end`, and cannot meet the old tokens between
+-- each other.
+pub record IsNext (first : List ℕ → Token) (r : RelexerModel) (count bytes end : ℕ) : Type 0 where
+  pub some : 0 < count
+  pub few : count ≤ length (tokens_by first (drop r.at.at r.text))
+  pub bytes_are : bytes ≡ bound (tokens_by first (drop r.at.at r.text)) count
+  pub begun : (k : ℕ) → k < count → bound (tokens_by first (drop r.at.at r.text)) k < end - r.at.at
+  pub not_met : r.at.met ≡ false
+  pub clear : IsClear r end
 
 -- ---- common prefix and suffix of two texts
 

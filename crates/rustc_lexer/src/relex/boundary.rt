@@ -12,6 +12,7 @@ ghost use Rattle.rustc_lexer.specs.Locality.{has_two};
 ghost use Rattle.rustc_lexer.specs.Tokens.{bound};
 ghost use Rattle.rustc_lexer.specs.model.Relexer.{IsFollowed, IsFront, IsLast, HasLengths, kept_front};
 
+use crate::relex::change::Change;
 use crate::token::Token;
 
 /// Something that has a length in bytes, such as a token.
@@ -201,27 +202,19 @@ pub(crate) struct Meeting {
     pub met: bool,
 }
 
-/// The effect of an edit on the text: the edit ends at `past` in the new text and at `old_end` in the old one, and
-/// the new text ends at `end`.
-#[derive(Clone, Copy)]
-pub(crate) struct Damage {
-    pub past: usize,
-    pub old_end: usize,
-    pub end: usize,
-}
-
 /// Follows the old tokens up to the new boundary at `offset`, and returns whether the two meet there: whether
-/// `offset` is after the edit and, moved back by it, is a boundary of the old tokens. The end of the new text is
-/// always the last such boundary, so no length is read there.
+/// `offset` is after the edit and, moved back by it, is a boundary of the old tokens. The end of the new text, at `end`,
+/// is always the last such boundary, so no length is read there.
 pub(crate) fn follow<T: TextLen>(
     tokens: &[T],
     from: TokenStart,
     offset: usize,
-    damage: Damage,
+    change: Change,
+    end: usize,
 ) -> Meeting
     requires number { from.index ≤ length tokens.now }
     requires small { from.offset < 2 ^ 63 }
-    requires offset_fits { offset + damage.old_end < 2 ^ 34 }
+    requires offset_fits { offset + change.old_end < 2 ^ 34 }
 
     // It is not before `from`, and is among the old tokens.
     ensures number { result.at.index ≤ length tokens.now }
@@ -229,24 +222,24 @@ pub(crate) fn follow<T: TextLen>(
     ensures small { result.at.offset < 2 ^ 63 }
 
     // Before the end of the edit, no old token is met.
-    ensures stays { offset < damage.past → result.at ≡ from }
-    ensures early { offset < damage.past → result.met ≡ false }
+    ensures stays { offset < change.new_end → result.at ≡ from }
+    ensures early { offset < change.new_end → result.met ≡ false }
 
     // After it, exactly how far they are followed, and whether they are met there.
     ensures followed { (ts : List Token) → HasLengths ts (map T.bytes tokens.now) → IsBound ts from
         → ((k : ℕ) → k < from.index
-        → bound ts k + damage.past < max damage.past offset + damage.old_end)
-        → (offset ≡ damage.end → IsLast ts (offset - damage.past + damage.old_end))
-        → IsFollowed ts damage.old_end damage.past offset result.at result.met }
+        → bound ts k + change.new_end < max change.new_end offset + change.old_end)
+        → (offset ≡ end → IsLast ts (offset - change.new_end + change.old_end))
+        → IsFollowed ts change.old_end change.new_end offset result.at result.met }
 {
-    if offset < damage.past {
+    if offset < change.new_end {
         return Meeting {
             at: from,
             met: false,
         };
     }
-    let target = offset - damage.past + damage.old_end;
-    if offset == damage.end {
+    let target = offset - change.new_end + change.old_end;
+    if offset == end {
         return Meeting {
             at: TokenStart {
                 index: tokens.len(),

@@ -2,7 +2,7 @@
 ghost use Rattle.std.specs.Prelude.{Some};
 ghost use Rattle.rustc_lexer.specs.Edits.{stop_text};
 
-use crate::relex::relexer::Relexed;
+use crate::relex::counts::Relexed;
 use std::error::Error;
 use std::fmt;
 

@@ -8,9 +8,10 @@ ghost use Rattle.rustc_lexer.specs.Partition.{tokens_in};
 
 use crate::entry::stepper::Stepper;
 use crate::head::{Document, Extent, Fragment};
+use crate::relex::change::Change;
+use crate::relex::counts::Relexed;
 use crate::relex::edit::{accepts, apply_in_place};
 use crate::relex::lexed::parts::{LexedParts, lex_body, update};
-use crate::relex::relexer::{Change, Relexed};
 use crate::token::Token;
 use std::alloc::{AllocError, Global};
 use std::marker::{Model, PhantomData};

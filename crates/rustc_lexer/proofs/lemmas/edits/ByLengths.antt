@@ -1,14 +1,14 @@
 -- Tokens with known lengths only: the token boundaries that are found, and where the search of the old boundaries ends.
 use Rattle.std.proofs.Common.{◌≡◌, ℕ, ◌+◌, ◌-◌, ◌<◌, ◌≤◌, Bool, false, ◌||◌, eqb, eq-eqb, List, ◌++◌, length, map, take}
-use Rattle.std.proofs.Common.{drop, ap, arith, length-drop, length-append, IsUtf8, drop-drop}
+use Rattle.std.proofs.Common.{drop, ap, ◌∙◌, arith, length-drop, length-append, IsUtf8, drop-drop}
 use Rattle.std.proofs.Common.{length-take-le, append_assoc, eq-or-lt_of_le, IsCharBoundary, max, true, get_or}
 use Rattle.std.proofs.lemmas.Str.{IsUtf8-append, IsUtf8-drop, IsCharBoundary-at_seam, IsCharBoundary-from_drop}
 use Rattle.std.proofs.lemmas.Str.{IsUtf8-take, IsCharBoundary-from_take}
 use Rattle.std.proofs.lemmas.Grind.{common_steps}
-use Rattle.rustc_lexer.specs.declared.relex.{boundary.{Damage.Damage, TokenStart.TokenStart}, relexer.Change.{Change}}
+use Rattle.rustc_lexer.specs.declared.relex.{boundary.TokenStart.{TokenStart}, change.Change.{Change}}
 use Rattle.rustc_lexer.specs.{Token, Eof, Tokens.{bound, tokens_by}, Edits.{apply}, Offsets.{IsBound}}
 use Rattle.rustc_lexer.specs.Relexer.{IsChange, IsEditOf, IsMadeOf}
-use Rattle.rustc_lexer.specs.model.Relexer.{IsFollowed, IsFront, IsLast, damage_of, HasLengths}
+use Rattle.rustc_lexer.specs.model.Relexer.{IsFollowed, IsFront, IsLast, HasLengths}
 use Rattle.rustc_lexer.specs.{Locality.{IsGrammar, has_two}, Classes.{IsText}}
 use Rattle.rustc_lexer.proofs.lemmas.edits.Bounds.{bound-last, bound_mono, cuts, rises}
 use Rattle.rustc_lexer.proofs.lemmas.edits.FrontAndBack.{edited, has_two-late, has_two-same}
@@ -75,16 +75,14 @@ module _ {first : List ℕ → Token} (law : IsGrammar first) {before lengths in
       grind (arith, (edited is.edit_of).len, bound-last law before is.edit_of.is_text, rises, bound_mono)
 
   -- The old boundaries are followed up to an offset, from an earlier boundary on.
-  pub follows : {damage : Damage} {from back : TokenStart} {met : Bool} (offset : ℕ) → damage ≡ damage_of text change
-      → IsBound old from
+  pub follows : {from back : TokenStart} {met : Bool} (offset end : ℕ) → end ≡ length text → IsBound old from
       → ((k : ℕ) → k < from.index → bound old k + change.new_end < max change.new_end offset + change.old_end)
       → (lengths ≡ map (λ (t : Token). t.len) old → IsBound old from
-      → ((k : ℕ) → k < from.index → bound old k + damage.past < max damage.past offset + damage.old_end)
-      → (offset ≡ damage.end → IsLast old (offset - damage.past + damage.old_end))
-      → IsFollowed old damage.old_end damage.past offset back met)
+      → ((k : ℕ) → k < from.index → bound old k + change.new_end < max change.new_end offset + change.old_end)
+      → (offset ≡ end → IsLast old (offset - change.new_end + change.old_end))
+      → IsFollowed old change.old_end change.new_end offset back met)
       → IsFollowed old change.old_end change.new_end offset back met
-  follows offset e at passed follow =
-      (rw e at (follow is.lengths_are)) at passed (end_last offset)
+  follows offset end e at passed follow = follow is.lengths_are at passed (λ here. end_last offset (here ∙ e))
 
 -- A step over a token advances by at least one byte, and ends at a char boundary.
 pub step_offset : {first : List ℕ → Token} (law : IsGrammar first) (text : List ℕ) (at : ℕ) (token : Token)

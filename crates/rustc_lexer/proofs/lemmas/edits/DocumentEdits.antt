@@ -8,7 +8,7 @@ use Rattle.std.proofs.Math.Seq.{drop-append_seam, drop-append-add, take-append_s
 use Rattle.std.proofs.lemmas.Grind.{common_steps}
 use Rattle.rustc_lexer.specs.declared.relex.{checkpoints.Checkpoints.{Checkpoints}, boundary.TokenStart.{TokenStart}}
 use Rattle.rustc_lexer.specs.declared.head.Head.{Head}
-use Rattle.rustc_lexer.specs.{declared.relex.relexer.{Change.Change, Relexed.Relexed, RelexState.RelexState}, Token}
+use Rattle.rustc_lexer.specs.{declared.relex.{change.Change.Change, counts.Relexed.Relexed, relexer.RelexState.RelexState}, Token}
 use Rattle.rustc_lexer.specs.model.Document.{body_change, body_insert, counted, IsHeadIn, IsPut, tokens_of_head}
 use Rattle.rustc_lexer.specs.model.Document.{AreKeptOf, TakesFew, edit_change, text_left}
 use Rattle.rustc_lexer.specs.Partition.{Layout, tokens_in}

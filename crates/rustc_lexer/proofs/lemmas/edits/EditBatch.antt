@@ -10,7 +10,7 @@ use Rattle.rustc_lexer.specs.declared.relex.edit.Edit.{Edit}
 use Rattle.rustc_lexer.specs.Edits.{IsBatch, AreInOrder, IsInside, apply, apply_list, start_of_first, stop_of_last}
 use Rattle.rustc_lexer.specs.Edits.{batch_insert}
 use Rattle.rustc_lexer.specs.declared.{relex.checkpoints.Checkpoints.{Checkpoints}, head.Head.{Head}}
-use Rattle.rustc_lexer.specs.{declared.relex.relexer.Change.{Change}, Token, Classes.{IsText}, Partition.{Layout}}
+use Rattle.rustc_lexer.specs.{declared.relex.change.Change.{Change}, Token, Classes.{IsText}, Partition.{Layout}}
 use Rattle.rustc_lexer.specs.model.Document.{AreKeptOf, IsPut, edit_change}
 use Rattle.rustc_lexer.proofs.lemmas.edits.{EditSequence.{apply-last, none}, DocumentEdits.{put_by}}
 

@@ -7,7 +7,7 @@ use Rattle.std.proofs.lemmas.List.{length-take, take_more, Elements.{All-cons, A
 use Rattle.std.proofs.lemmas.{Option.{slice_get-get_or}, Grind.{common_steps}}
 use Rattle.rustc_lexer.specs.{Token, laws.Reach.{cut}, declared.relex.edit.Edit.{Edit}}
 use Rattle.rustc_lexer.specs.declared.relex.edit_error.EditStop.{EditStop, TheVariants.{Memory}}
-use Rattle.rustc_lexer.specs.declared.relex.relexer.Relexed.{Relexed}
+use Rattle.rustc_lexer.specs.declared.relex.counts.Relexed.{Relexed}
 use Rattle.rustc_lexer.specs.Edits.{IsEdit, IsRelexed, applied, apply_list, count_after, AreEdits, AreRelexed}
 use Rattle.rustc_lexer.specs.Edits.{AreStepped, IsGreatest, IsRefusedOn, IsStop, IsStopStepped, stop_at}
 use Rattle.rustc_lexer.specs.LexedText.{HaveStepCounts, AreKept, AreKeptThrough, AreApplied, LexedModel, HasStepCount, IsEdited}

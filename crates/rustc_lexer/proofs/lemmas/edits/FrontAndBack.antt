@@ -11,7 +11,7 @@ use Rattle.std.proofs.lemmas.Str.{IsCharBoundary-from_drop, chars-append, length
 use Rattle.std.proofs.Math.Utf8.{encodes}
 use Rattle.rustc_lexer.specs.{Token, Locality.{AgreePast, IsGrammar, has_two}, Classes.{IsText}}
 use Rattle.rustc_lexer.specs.{Tokens.{bound, tokens_by}, Edits.{apply}, Relexer.{IsEditOf}}
-use Rattle.rustc_lexer.specs.declared.relex.relexer.Change.{Change}
+use Rattle.rustc_lexer.specs.declared.relex.change.Change.{Change}
 use Rattle.rustc_lexer.specs.laws.Cuts.{at_bound, tokens_local, look}
 
 -- A proposition that always holds also holds for an error.

@@ -2,7 +2,7 @@
 use Rattle.std.proofs.Common.{◌≡◌, ◌⊎◌, ℕ, zero, suc, ◌+◌, ◌-◌, ◌<◌, ◌≤◌, List, length, take, refl, sym, ap, subst}
 use Rattle.std.proofs.Common.{arith, length-take, inl, inr, eq-or-lt_of_le, ◌↔◌, [], length-append}
 use Rattle.std.proofs.lemmas.{Bool.{cases_lt, eqb-false, eqb-true}, Grind.{common_steps}}
-use Rattle.rustc_lexer.specs.{declared.relex.relexer.{Change.Change, Relexed.Relexed}, Token}
+use Rattle.rustc_lexer.specs.{declared.relex.{change.Change.Change, counts.Relexed.Relexed}, Token}
 use Rattle.rustc_lexer.specs.Edits.{IsMeeting, IsRelexedTo, fragment_by, body_in, IsRelexed, offset_in}
 use Rattle.rustc_lexer.specs.{Relexer.{IsEditOf}, Locality.{IsGrammar}, Tokens.{bound, tokens_by}}
 use Rattle.rustc_lexer.specs.model.Relexer.{kept_front}

@@ -2,12 +2,12 @@
 use Rattle.std.proofs.Common.{◌≡◌, ◌↔◌, ℕ, ◌+◌, ◌-◌, ◌<◌, ◌≤◌, Bool, true, false, eqb, eqb-true, List, ◌∷◌}
 use Rattle.std.proofs.Common.{◌++◌, length, take, drop, refl, sym, ap, ◌∙◌, suc, arith, inl, inr}
 use Rattle.std.proofs.Common.{length-drop, drop-drop, take-append-drop, max, eq-or-lt_of_le}
-use Rattle.std.proofs.lemmas.{Bool.{cases_lt}, Grind.{common_steps}}
+use Rattle.std.proofs.lemmas.{Bool.{cases_lt}, List.{length-map}, Grind.{common_steps}}
 use Rattle.rustc_lexer.specs.declared.relex.boundary.{Meeting.Meeting, TokenStart.TokenStart}
-use Rattle.rustc_lexer.specs.{declared.relex.relexer.{Change.Change, Relexed.Relexed, RelexState.RelexState}, Token}
+use Rattle.rustc_lexer.specs.{declared.relex.{change.Change.Change, counts.Relexed.Relexed, relexer.RelexState.RelexState}, Token}
 use Rattle.rustc_lexer.specs.{Classes.{IsText}, Edits.{IsMeeting, IsRelexed, fragment_by}, Locality.{IsGrammar, has_two}}
 use Rattle.rustc_lexer.specs.{Offsets.{IsBound}, Relexer.{IsMadeOf, IsUnderWay, IsWhole, TakesSteps, known}}
-use Rattle.rustc_lexer.specs.{Tokens.{bound, tokens_by}, model.Relexer.{IsFollowed, IsLexed, kept_front}}
+use Rattle.rustc_lexer.specs.{Tokens.{bound, tokens_by}, model.Relexer.{IsClear, IsFollowed, IsLexed, kept_front}}
 use Rattle.rustc_lexer.specs.laws.Cuts.{at_bound, tokens-cons}
 use Rattle.rustc_lexer.proofs.lemmas.edits.Bounds.{bound_mono, rises}
 use Rattle.rustc_lexer.proofs.lemmas.edits.FrontAndBack.{bound-same, edited, has_two-before, met_rest}
@@ -33,11 +33,6 @@ module _ (old new : List Token) (old_end new_end number offset : ℕ) (back : To
     λ hit. (length old - back.index, meets_here few (f.met_is.0 hit)),
     λ m. f.met_is.1 (meets_there f.passed f.reached m),
   )
-
--- Holds if the new tokens cannot meet, before `end`, an old boundary that was not followed yet.
-abbrev pub IsClear : Change → RelexState → ℕ → Type 0
-IsClear change at end = (offset : ℕ) → at.at < offset → offset < end → change.new_end ≤ offset
-    → (change.new_end ≤ at.at) × (offset + change.old_end < at.back.offset + change.new_end)
 
 module _ {first : List ℕ → Token} (law : IsGrammar first) {before lengths insert text : List ℕ} {change : Change}
     (is : IsMadeOf first before lengths change insert text) where
@@ -158,6 +153,15 @@ module _ {first : List ℕ → Token} (law : IsGrammar first) {before lengths in
           ),
         )
 
+    pub counts_exact : {r : Relexed} (n : ℕ) → n ≡ length lengths
+        → r ≡ record { kept_front = at.front.index; lexed = at.lexed; kept_back = n - at.back.index }
+        → at.met ≡ true → IsRelexed (fragment_by first) before change.start change.old_end insert r
+        × IsWhole old new at
+    counts_exact n many counts hit =
+        let same : n ≡ length old =
+        many ∙ (ap (λ (ns : List ℕ). length ns) is.lengths_are ∙ length-map old (λ (t : Token). t.len)) in
+        rw (counts, same) (counts_met hit)
+
     -- After `count` steps.
     module _ {count : ℕ} {past : RelexState} (steps : TakesSteps first text change.new_end at count past) where
       abbrev left : List Token
@@ -200,7 +204,9 @@ module _ {first : List ℕ → Token} (law : IsGrammar first) {before lengths in
       }
 
       -- The tokens do not meet in between, if relexing is clear up to `end` and all of them start before it.
-      pub none_between : (end : ℕ) → IsClear change at end → ((k : ℕ) → k < count → bound left k < end - at.at)
+      pub none_between : (end : ℕ)
+          → IsClear (record { text = text; lengths = lengths; change = change; at = at }) end
+          → ((k : ℕ) → k < count → bound left k < end - at.at)
           → (number back : ℕ) → known at < number → number < known past → Meets number back → ⊥
       none_between end clear begin number back more less m =
           let k : ℕ = number - known at in

@@ -6,7 +6,7 @@ use Rattle.std.proofs.Common.{take-add, append_assoc, Result, OnOk}
 use Rattle.std.proofs.Math.Nat.{le-max_left, le-max_right, max-le}
 use Rattle.std.specs.List.{count_by}
 use Rattle.std.proofs.lemmas.Grind.{common_steps}
-use Rattle.rustc_lexer.specs.{Token, declared.{head.Head.{Head}, relex.relexer.{Change.Change, Relexed.Relexed}}}
+use Rattle.rustc_lexer.specs.{Token, declared.{head.Head.{Head}, relex.{change.Change.Change, counts.Relexed.Relexed}}}
 use Rattle.rustc_lexer.specs.Edits.{body_in, ends_from, IsMeeting, IsRelexed, IsRelexedTo, fragment_by, apply, KeepsHead}
 use Rattle.rustc_lexer.specs.Locality.{has_two, IsGrammar}
 use Rattle.rustc_lexer.specs.{Relexer.{IsEditOf, IsMadeOf, IsBodyChange, IsHeadOf, IsInBody}, Partition.{Layout}}

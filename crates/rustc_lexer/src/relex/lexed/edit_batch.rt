@@ -12,11 +12,12 @@ ghost use Rattle.rustc_lexer.specs.LexedText.{HasStepCount, IsEdited, layout_in}
 
 use crate::entry::stepper::Stepper;
 use crate::head::Extent;
+use crate::relex::change::Change;
+use crate::relex::counts::Relexed;
 use crate::relex::edit::{Edit, contains_range};
 use crate::relex::edit_error::EditStop;
 use crate::relex::lexed::Lexed;
 use crate::relex::lexed::parts::update;
-use crate::relex::relexer::{Change, Relexed};
 use std::alloc::{AllocError, Global};
 
 impl<S: Stepper, E: Extent> Lexed<S, E> {
@@ -53,11 +54,7 @@ impl<S: Stepper, E: Extent> Lexed<S, E> {
     {
         let text = self.text();
         if edits.is_empty() {
-            return Ok(Relexed {
-                kept_front: self.tokens().len(),
-                lexed: 0,
-                kept_back: 0,
-            });
+            return Ok(Relexed::all(self.tokens().len()));
         }
         let edit = change_of(text, edits)?;
         let at = edits.len() - 1;

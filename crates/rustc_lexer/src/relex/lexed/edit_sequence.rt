@@ -7,10 +7,10 @@ ghost use Rattle.rustc_lexer.specs.model.EditSequence.{AreKeptTo};
 
 use crate::entry::stepper::Stepper;
 use crate::head::Extent;
+use crate::relex::counts::Relexed;
 use crate::relex::edit::{Edit, accepts, contains_range};
 use crate::relex::edit_error::{EditSequenceError, EditStop};
 use crate::relex::lexed::Lexed;
-use crate::relex::relexer::Relexed;
 
 /// How many edits of a list were applied, and the minimum numbers of tokens that they kept at the front and at the
 /// back.

@@ -10,11 +10,12 @@ ghost use Rattle.rustc_lexer.specs.model.Checkpoints.{AreBounds};
 
 use crate::entry::stepper::Stepper;
 use crate::head::{Extent, Head};
+use crate::relex::body_change::HeadChange;
+use crate::relex::change::Change;
 use crate::relex::checkpoints::Checkpoints;
-use crate::relex::edit::relex;
-use crate::relex::head_change::HeadChange;
+use crate::relex::counts::Relexed;
 use crate::relex::lex_all::lex_all;
-use crate::relex::relexer::{Change, EditedText, Relexed};
+use crate::relex::replacement::lex_replacement;
 use crate::token::Token;
 use std::alloc::{AllocError, Global};
 use std::marker::PhantomData;
@@ -62,22 +63,22 @@ pub(crate) fn update<S: Stepper, E: Extent>(
     let made = parts.text.as_str();
     let now = E::find_head(made);
     let head = HeadChange::between(parts.head, now, edit.start);
-    let edited = EditedText {
-        text: &made[now.body..],
-        old_tokens: &parts.tokens.as_slice()[parts.head.count()..],
-        change: head.body_change(edit),
-    };
-    let near = parts.checkpoints.nearest(edited.change.start);
+    let text = &made[now.body..];
+    let old_tokens = &parts.tokens.as_slice()[parts.head.count()..];
+    let change = head.body_change(edit);
+    let near = parts.checkpoints.nearest(change.start);
     let mut lexed_bounds = Checkpoints::new();
-    let lexed = relex(
+    let lexed = lex_replacement(
         parts.alloc,
         &mut parts.stepper,
-        &edited,
+        text,
+        old_tokens,
+        change,
         near,
         &mut lexed_bounds,
     )?;
-    let checkpoints = lexed.checkpoints(&parts.checkpoints, &lexed_bounds, edited.text.len());
-    let counts = lexed.at.counts(edited.old_tokens.len());
+    let checkpoints = lexed.checkpoints(&parts.checkpoints, &lexed_bounds, text.len());
+    let counts = lexed.at.counts(old_tokens.len());
     lexed.splice_into(parts.alloc, &mut parts.tokens, head)?;
     parts.head = now;
     parts.checkpoints = checkpoints;

@@ -6,9 +6,9 @@ ghost use Rattle.rustc_lexer.specs.LexedText.{HasStepCount, IsEdited, layout_in}
 
 use crate::entry::stepper::Stepper;
 use crate::head::Extent;
+use crate::relex::counts::Relexed;
 use crate::relex::diff::{common_prefix, common_suffix};
 use crate::relex::lexed::Lexed;
-use crate::relex::relexer::Relexed;
 use std::alloc::AllocError;
 
 impl<S: Stepper, E: Extent> Lexed<S, E> {
@@ -35,11 +35,7 @@ impl<S: Stepper, E: Extent> Lexed<S, E> {
     {
         let old = self.text();
         if old == text {
-            return Ok(Relexed {
-                kept_front: self.tokens().len(),
-                lexed: 0,
-                kept_back: 0,
-            });
+            return Ok(Relexed::all(self.tokens().len()));
         }
         let start = common_prefix(old, text);
         let back = common_suffix(old, text, start);

@@ -1,10 +1,10 @@
 use Rattle.std.proofs.Common.{◌≡◌, ◌<◌, List, ℕ, ◌++◌, length, map, take, drop, subst, true, ◌∙◌, Some}
 use Rattle.std.proofs.lemmas.List.{length-map}
-use Rattle.rustc_lexer.specs.{declared.relex.relexer.Change.{Change}, Classes.{IsText}, Relexer.{known}}
+use Rattle.rustc_lexer.specs.{declared.relex.change.Change.{Change}, Classes.{IsText}, Relexer.{known}}
 use Rattle.rustc_lexer.specs.{Relexer.{IsMadeOf, IsUnderWay, TakesSteps, is_done}}
 use Rattle.rustc_lexer.specs.{LanguageCalls.{edition_of_year}, Locality.{Grammar}, Tokens.{tokens_by}}
 use Rattle.rustc_lexer_c.specs.{declared.token.CToken.{CToken}, Numbers.{token_numbers}, Relex.{change_of}}
-use Rattle.rustc_lexer_c.proofs.RelexLemmas.{none_some, relexed}
+use Rattle.rustc_lexer_c.proofs.RelexLemmas.{none_some, relexed, stands_from}
 use Rattle.rustc_lexer_c.proofs.relex.rustc_lexer_relex_unchecked.Goals as goal
 
 pub returns : goal.returns
@@ -18,8 +18,9 @@ returns c =
     let now = c.fill.new.self in
     let some = c.in-Some-relex_at.ensures.some in
     let change_is : begin.change ≡ change = some.2 ∙ c.change_of.ensures in
-    let text_is : now.text ≡ text = f.edited.0 ∙ some.0 in
-    let lens_are : now.lengths ≡ lens = f.edited.1 ∙ some.1 in
+    let a = f.fills.advances in
+    let text_is : now.text ≡ text = a.same_text ∙ some.0 in
+    let lens_are : now.lengths ≡ lens = a.same_lengths ∙ some.1 in
     let many : length lens ≡ length c.args.old.now = length-map c.args.old.now _ in
     let Fills : Grammar → List ℕ → List ℕ → Change → Type 0 =
     λ g t ls ch. TakesSteps g.first t ch.new_end begin.at c.fill.result now.at
@@ -30,7 +31,7 @@ returns c =
     × (tokens_by g.first (drop begin.at.at t) ≡ drop (known begin.at) (tokens_by g.first t)))
     × (c.fill.result < length c.args.buffer.now → is_done t now.at ≡ true) in
     let begun = subst (λ (g : Grammar). Fills g begin.text begin.lengths begin.change) c.new_in.ensures.grammar
-    (f.steps, f.tokens, f.under_way, f.over) in
+    (a.steps, f.fills.tokens, stands_from a, f.over) in
     let fills = rw (change_is, some.1, some.0) at begun in
     let numbers = rw (text_is, lens_are, many) at c.relexing_numbers.ensures.numbers in
     let may = rw (text_is, lens_are, many) at c.relexing_numbers.ensures.can_continue in
@@ -38,5 +39,5 @@ returns c =
     let year_is : edition_of_year c.args.edition ≡ Some c.in-Some.edition = cc in
     let asked = rw c.change_of.ensures at c.in-Some-relex_at.ensures.none.1 in
     rw (← c.in-Ok.ensures.0, numbers)
-    (relexed _ _ _ _ _ _ _ _ _ _ f.buffer fills.0 fills.1 may fills.3 some.3 some.4 passes fills.2 is _ year_is
+    (relexed _ _ _ _ _ _ _ _ _ _ f.fills.within fills.0 fills.1 may fills.3 some.3 some.4 passes fills.2 is _ year_is
     (λ not. none_some (asked not)))

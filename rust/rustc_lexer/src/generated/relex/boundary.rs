@@ -4,6 +4,7 @@
 //! The functions here read only the lengths of the old tokens. Any lengths are safe, but the results are meaningful
 //! only for the lengths of a text's tokens.
 
+use crate::generated::relex::change::Change;
 use crate::generated::token::Token;
 
 /// Something that has a length in bytes, such as a token.
@@ -145,32 +146,24 @@ pub(crate) struct Meeting {
     pub met: bool,
 }
 
-/// The effect of an edit on the text: the edit ends at `past` in the new text and at `old_end` in the old one, and
-/// the new text ends at `end`.
-#[derive(Clone, Copy)]
-pub(crate) struct Damage {
-    pub past: usize,
-    pub old_end: usize,
-    pub end: usize,
-}
-
 /// Follows the old tokens up to the new boundary at `offset`, and returns whether the two meet there: whether
-/// `offset` is after the edit and, moved back by it, is a boundary of the old tokens. The end of the new text is
-/// always the last such boundary, so no length is read there.
+/// `offset` is after the edit and, moved back by it, is a boundary of the old tokens. The end of the new text, at `end`,
+/// is always the last such boundary, so no length is read there.
 pub(crate) fn follow<T: TextLen>(
     tokens: &[T],
     from: TokenStart,
     offset: usize,
-    damage: Damage,
+    change: Change,
+    end: usize,
 ) -> Meeting {
-    if offset < damage.past {
+    if offset < change.new_end {
         return Meeting {
             at: from,
             met: false,
         };
     }
-    let target = offset - damage.past + damage.old_end;
-    if offset == damage.end {
+    let target = offset - change.new_end + change.old_end;
+    if offset == end {
         return Meeting {
             at: TokenStart {
                 index: tokens.len(),

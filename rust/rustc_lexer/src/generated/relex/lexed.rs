@@ -4,9 +4,10 @@ use crate::support::String;
 
 use crate::generated::entry::stepper::Stepper;
 use crate::generated::head::{Document, Extent, Fragment};
+use crate::generated::relex::change::Change;
+use crate::generated::relex::counts::Relexed;
 use crate::generated::relex::edit::{accepts, apply_in_place};
 use crate::generated::relex::lexed::parts::{LexedParts, lex_body, update};
-use crate::generated::relex::relexer::{Change, Relexed};
 use crate::generated::token::Token;
 use crate::support::{AllocError, Global};
 use core::marker::PhantomData;

@@ -3,135 +3,13 @@
 
 use crate::generated::entry::fill::FromToken;
 use crate::generated::entry::stepper::Stepper;
-use crate::generated::relex::boundary::{Damage, TextLen, TokenStart, follow, kept_front};
+use crate::generated::relex::boundary::{TextLen, TokenStart, follow, kept_front};
+use crate::generated::relex::change::Change;
+use crate::generated::relex::counts::Relexed;
 use crate::generated::token::Token;
 
 /// The maximum offset of a token boundary. No text is longer, even if a `usize` has 32 bits.
 const MOST: usize = usize::MAX / 2;
-
-/// An applied edit, by its offsets in bytes. It replaced `start..old_end` of the old text with `start..new_end` of
-/// the current text.
-#[derive(Clone, Copy, Debug, PartialEq, Eq, Hash)]
-pub struct Change {
-    /// The start of the change, in both texts.
-    pub start: usize,
-    /// The end of the removed bytes, in the old text.
-    pub old_end: usize,
-    /// The end of the inserted bytes, in the current text.
-    pub new_end: usize,
-}
-
-impl Change {
-    /// Returns whether the change can have resulted in this text: the inserted range is inside the text and on
-    /// character boundaries, the old offsets are in order, and `old_end` is below 2^32. The old text itself is not
-    /// checked.
-    #[must_use]
-    pub fn is_valid_for(&self, text: &str) -> bool {
-        self.start <= self.old_end
-            && self.old_end <= u32::MAX as usize
-            && self.start <= self.new_end
-            && text.is_char_boundary(self.start)
-            && text.is_char_boundary(self.new_end)
-    }
-}
-
-/// A text after an edit, with the tokens from before the edit.
-#[derive(Clone)]
-pub(crate) struct EditedText<'a, T> {
-    pub text: &'a str,
-    pub old_tokens: &'a [T],
-    pub change: Change,
-}
-
-impl<'a, T> EditedText<'a, T> {
-    /// Returns the effect of the edit on the text.
-    fn damage(&self) -> Damage {
-        Damage {
-            past: self.change.new_end,
-            old_end: self.change.old_end,
-            end: self.text.len(),
-        }
-    }
-}
-
-/// The counts of an edit, or of a list of edits.
-#[derive(Clone, Copy, Debug, PartialEq, Eq, Hash)]
-pub struct Relexed {
-    /// The number of tokens that were kept at the front.
-    pub kept_front: usize,
-    /// The number of tokens between the kept ones. After a single edit, these are the tokens that were lexed.
-    pub lexed: usize,
-    /// The number of tokens that were kept at the back.
-    pub kept_back: usize,
-}
-
-impl Relexed {
-    /// Returns the counts of an empty list of edits: all `count` tokens are kept at the front.
-    #[must_use]
-    pub fn all(count: usize) -> Relexed {
-        Relexed {
-            kept_front: count,
-            lexed: 0,
-            kept_back: 0,
-        }
-    }
-
-    /// Returns the counts of a new text with `count` tokens, none of them kept.
-    #[must_use]
-    pub fn none(count: usize) -> Relexed {
-        Relexed {
-            kept_front: 0,
-            lexed: count,
-            kept_back: 0,
-        }
-    }
-
-    /// Returns the counts of two consecutive edits, or lists of edits: `self` has the counts of the first, and `next`
-    /// of the second. There were `old_count` tokens before the first.
-    ///
-    /// At each end, the result keeps the minimum of the two. If one of them keeps [`all`](Relexed::all) tokens, the
-    /// result is the other one.
-    ///
-    /// To repaint, start with `all` of the tokens that were painted last; `old_count` is their number. Before the
-    /// first paint, start with [`none`](Relexed::none) of the text's tokens, and `old_count` is 0.
-    ///
-    /// ```
-    /// use rustc_lexer::Relexed;
-    ///
-    /// // The nine tokens of `a b c d e` are painted. Then the `d` is replaced, and the `b`.
-    /// let first = Relexed { kept_front: 4, lexed: 3, kept_back: 2 };
-    /// let second = Relexed { kept_front: 0, lexed: 3, kept_back: 6 };
-    /// let counts = Relexed::all(9).then(first, 9).then(second, 9);
-    /// assert_eq!(counts, Relexed { kept_front: 0, lexed: 7, kept_back: 2 });
-    /// ```
-    #[must_use]
-    pub fn then(self, next: Relexed, old_count: usize) -> Relexed {
-        let between = self
-            .kept_front
-            .saturating_add(self.lexed)
-            .saturating_add(self.kept_back);
-        if self.keeps_all(old_count) {
-            return next;
-        }
-        if next.keeps_all(between) {
-            return self;
-        }
-        let kept_front = self.kept_front.min(next.kept_front);
-        let kept_back = self.kept_back.min(next.kept_back);
-        let front = next.kept_front - kept_front;
-        let back = next.kept_back - kept_back;
-        Relexed {
-            kept_front,
-            lexed: front.saturating_add(next.lexed).saturating_add(back),
-            kept_back,
-        }
-    }
-
-    /// Returns whether all `count` tokens are kept at the front, and none is new.
-    fn keeps_all(self, count: usize) -> bool {
-        self.kept_front == count && self.lexed == 0 && self.kept_back == 0
-    }
-}
 
 /// The progress of [`Relexer`]: the kept front, the number of tokens that were lexed, and the old tokens ahead.
 ///
@@ -151,20 +29,6 @@ pub struct RelexState {
 }
 
 impl RelexState {
-    /// Finds the kept front, and returns a state in which nothing has been lexed yet. The search for the front starts
-    /// at `near`, which can be any boundary of the old tokens.
-    pub(crate) fn begin<T: TextLen>(edited: &EditedText<'_, T>, near: TokenStart) -> RelexState {
-        let front = kept_front(edited.text, edited.old_tokens, edited.change.start, near);
-        let to = follow(edited.old_tokens, front, front.offset, edited.damage());
-        RelexState {
-            front,
-            lexed: 0,
-            back: to.at,
-            at: front.offset,
-            met: to.met,
-        }
-    }
-
     /// Returns whether re-lexing this text, with `old_count` old tokens, can continue from this state. Every state that
     /// `begin` and `next` leave is valid.
     fn can_continue(&self, text: &str, old_count: usize) -> bool {
@@ -173,91 +37,6 @@ impl RelexState {
             && self.front.index <= self.back.index
             && self.back.offset <= MOST
             && self.lexed <= self.at
-    }
-
-    /// Returns whether lexing has met the old tokens, or no text is left. With the tokens of the old text, lexing meets
-    /// them at the end of the text at the latest.
-    pub(crate) fn is_done(&self, text: &str) -> bool {
-        self.met || self.at == text.len()
-    }
-
-    /// Lexes and returns the next token, or returns `None` if lexing is done.
-    pub(crate) fn next<S: Stepper, T: TextLen>(
-        &mut self,
-        stepper: &mut S,
-        edited: &EditedText<'_, T>,
-    ) -> Option<Token> {
-        if self.is_done(edited.text) {
-            return None;
-        }
-        let token = stepper.step(&edited.text[self.at..]);
-        let at = self.at + token.len as usize;
-        let to = follow(edited.old_tokens, self.back, at, edited.damage());
-        *self = RelexState {
-            front: self.front,
-            lexed: self.lexed + 1,
-            back: to.at,
-            at,
-            met: to.met,
-        };
-        Some(token)
-    }
-
-    /// Writes the next tokens into the buffer, until it is full or lexing is done. Returns their number.
-    fn fill<S: Stepper, T: TextLen, R: FromToken>(
-        &mut self,
-        stepper: &mut S,
-        edited: &EditedText<'_, T>,
-        buffer: &mut [R],
-    ) -> usize {
-        let mut count = 0;
-        while count < buffer.len() {
-            let Some(token) = self.next(stepper, edited) else {
-                break;
-            };
-            buffer[count] = R::from_token(token);
-            count += 1;
-        }
-        count
-    }
-
-    /// Lexes many tokens at once and writes them into the buffer, until it is full or up to the next offset at which
-    /// they can meet the old ones. Returns their number.
-    pub(crate) fn block<S: Stepper, T: TextLen, R: FromToken>(
-        &mut self,
-        stepper: &mut S,
-        edited: &EditedText<'_, T>,
-        buffer: &mut [R],
-    ) -> usize {
-        let end = self.earliest_meeting(edited);
-        let (count, bytes) = stepper.fill(&edited.text[self.at..], end - self.at, buffer);
-        let at = self.at + bytes;
-        let to = follow(edited.old_tokens, self.back, at, edited.damage());
-        *self = RelexState {
-            front: self.front,
-            lexed: self.lexed + count,
-            back: to.at,
-            at,
-            met: to.met,
-        };
-        count
-    }
-
-    /// Returns an offset after `at`, with none in between at which lexing can meet the old tokens.
-    fn earliest_meeting<T>(&self, edited: &EditedText<'_, T>) -> usize {
-        if self.at < edited.change.new_end {
-            return edited.change.new_end;
-        }
-        let back = self.back.offset + edited.change.new_end;
-        if back <= self.at + edited.change.old_end {
-            return self.at + 1;
-        }
-        let least = back - edited.change.old_end;
-        if least < edited.text.len() {
-            least
-        } else {
-            edited.text.len()
-        }
     }
 
     /// Returns the counts of the edit, once lexing is done. There are `old_count` old tokens.
@@ -299,7 +78,9 @@ impl RelexState {
 /// ```
 #[derive(Clone)]
 pub struct Relexer<'a, T: TextLen> {
-    edited: EditedText<'a, T>,
+    text: &'a str,
+    old_tokens: &'a [T],
+    change: Change,
     at: RelexState,
 }
 
@@ -317,13 +98,31 @@ impl<'a, T: TextLen> Relexer<'a, T> {
         if text.len() > u32::MAX as usize || !change.is_valid_for(text) {
             return None;
         }
-        let edited = EditedText {
+        Some(Relexer::begin_valid(text, old_tokens, change, near))
+    }
+
+    /// Starts re-lexing, like [`begin`](Relexer::begin). The change must be valid.
+    pub(crate) fn begin_valid(
+        text: &'a str,
+        old_tokens: &'a [T],
+        change: Change,
+        near: TokenStart,
+    ) -> Relexer<'a, T> {
+        let front = kept_front(text, old_tokens, change.start, near);
+        let to = follow(old_tokens, front, front.offset, change, text.len());
+        let at = RelexState {
+            front,
+            lexed: 0,
+            back: to.at,
+            at: front.offset,
+            met: to.met,
+        };
+        Relexer {
             text,
             old_tokens,
             change,
-        };
-        let at = RelexState::begin(&edited, near);
-        Some(Relexer { edited, at })
+            at,
+        }
     }
 
     /// Continues from a state that [`state`](Relexer::state) returned, with the same text, old tokens and change.
@@ -340,12 +139,12 @@ impl<'a, T: TextLen> Relexer<'a, T> {
         {
             return None;
         }
-        let edited = EditedText {
+        Some(Relexer {
             text,
             old_tokens,
             change,
-        };
-        Some(Relexer { edited, at: state })
+            at: state,
+        })
     }
 
     /// Returns the progress so far.
@@ -358,28 +157,83 @@ impl<'a, T: TextLen> Relexer<'a, T> {
     /// them at the end of the text at the latest.
     #[must_use]
     pub fn is_done(&self) -> bool {
-        self.at.is_done(self.edited.text)
+        self.at.met || self.at.at == self.text.len()
     }
 
     /// Lexes and returns the next token, or returns `None` if lexing is done.
-    pub fn next<S: Stepper>(&mut self, stepper: &mut S) -> Option<Token>
-// Text, old tokens, change and grammar stay the same.
-    {
-        self.at.next(stepper, &self.edited)
+    pub fn next<S: Stepper>(&mut self, stepper: &mut S) -> Option<Token> {
+        if self.is_done() {
+            return None;
+        }
+        let token = stepper.step(&self.text[self.at.at..]);
+        self.advance(1, token.len as usize);
+        Some(token)
     }
 
     /// Writes the next tokens into the buffer, until it is full or lexing is done. Returns their number.
     ///
     /// These are the tokens that the same number of calls of [`next`](Relexer::next) would return.
-    pub fn fill<S: Stepper, R: FromToken>(&mut self, stepper: &mut S, buffer: &mut [R]) -> usize
-// Text, old tokens, change and grammar stay the same.
-    {
-        self.at.fill(stepper, &self.edited, buffer)
+    pub fn fill<S: Stepper, R: FromToken>(&mut self, stepper: &mut S, buffer: &mut [R]) -> usize {
+        let mut count = 0;
+        while count < buffer.len() && !self.is_done() {
+            count += self.fill_to_meeting(stepper, &mut buffer[count..]);
+        }
+        count
+    }
+
+    /// Writes the next tokens into the buffer, until it is full or up to the next offset at which they can meet the old
+    /// ones. Returns their number.
+    fn fill_to_meeting<S: Stepper, R: FromToken>(
+        &mut self,
+        stepper: &mut S,
+        buffer: &mut [R],
+    ) -> usize {
+        let end = self.earliest_meeting();
+        let (count, bytes) = stepper.fill(&self.text[self.at.at..], end - self.at.at, buffer);
+        self.advance(count, bytes);
+        count
+    }
+
+    /// Returns an offset after the lexed tokens, with none in between at which lexing can meet the old tokens.
+    fn earliest_meeting(&self) -> usize {
+        let change = self.change;
+        if self.at.at < change.new_end {
+            return change.new_end;
+        }
+        let back = self.at.back.offset + change.new_end;
+        if back <= self.at.at + change.old_end {
+            return self.at.at + 1;
+        }
+        let earliest = back - change.old_end;
+        if earliest < self.text.len() {
+            earliest
+        } else {
+            self.text.len()
+        }
+    }
+
+    /// Advances past the next `count` tokens, which have `bytes` bytes, and follows the old tokens.
+    fn advance(&mut self, count: usize, bytes: usize) {
+        let at = self.at.at + bytes;
+        let to = follow(
+            self.old_tokens,
+            self.at.back,
+            at,
+            self.change,
+            self.text.len(),
+        );
+        self.at = RelexState {
+            front: self.at.front,
+            lexed: self.at.lexed + count,
+            back: to.at,
+            at,
+            met: to.met,
+        };
     }
 
     /// Returns the counts of the edit, once lexing is done.
     #[must_use]
     pub fn counts(&self) -> Relexed {
-        self.at.counts(self.edited.old_tokens.len())
+        self.at.counts(self.old_tokens.len())
     }
 }

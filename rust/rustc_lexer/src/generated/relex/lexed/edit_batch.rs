@@ -4,11 +4,12 @@ use crate::support::String;
 
 use crate::generated::entry::stepper::Stepper;
 use crate::generated::head::Extent;
+use crate::generated::relex::change::Change;
+use crate::generated::relex::counts::Relexed;
 use crate::generated::relex::edit::{Edit, contains_range};
 use crate::generated::relex::edit_error::EditStop;
 use crate::generated::relex::lexed::Lexed;
 use crate::generated::relex::lexed::parts::update;
-use crate::generated::relex::relexer::{Change, Relexed};
 use crate::support::{AllocError, Global};
 
 impl<S: Stepper, E: Extent> Lexed<S, E> {
@@ -28,11 +29,7 @@ impl<S: Stepper, E: Extent> Lexed<S, E> {
     pub fn edit_batch(&mut self, edits: &[Edit<'_>]) -> Result<Relexed, EditStop> {
         let text = self.text();
         if edits.is_empty() {
-            return Ok(Relexed {
-                kept_front: self.tokens().len(),
-                lexed: 0,
-                kept_back: 0,
-            });
+            return Ok(Relexed::all(self.tokens().len()));
         }
         let edit = change_of(text, edits)?;
         let at = edits.len() - 1;

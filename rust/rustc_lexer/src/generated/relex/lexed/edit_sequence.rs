@@ -3,10 +3,10 @@
 
 use crate::generated::entry::stepper::Stepper;
 use crate::generated::head::Extent;
+use crate::generated::relex::counts::Relexed;
 use crate::generated::relex::edit::{Edit, accepts, contains_range};
 use crate::generated::relex::edit_error::{EditSequenceError, EditStop};
 use crate::generated::relex::lexed::Lexed;
-use crate::generated::relex::relexer::Relexed;
 
 /// How many edits of a list were applied, and the minimum numbers of tokens that they kept at the front and at the
 /// back.

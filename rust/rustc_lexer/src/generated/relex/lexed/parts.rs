@@ -4,11 +4,12 @@ use crate::support::{String, Vec};
 
 use crate::generated::entry::stepper::Stepper;
 use crate::generated::head::{Extent, Head};
+use crate::generated::relex::body_change::HeadChange;
+use crate::generated::relex::change::Change;
 use crate::generated::relex::checkpoints::Checkpoints;
-use crate::generated::relex::edit::relex;
-use crate::generated::relex::head_change::HeadChange;
+use crate::generated::relex::counts::Relexed;
 use crate::generated::relex::lex_all::lex_all;
-use crate::generated::relex::relexer::{Change, EditedText, Relexed};
+use crate::generated::relex::replacement::lex_replacement;
 use crate::generated::token::Token;
 use crate::support::{AllocError, Global};
 use core::marker::PhantomData;
@@ -36,22 +37,22 @@ pub(crate) fn update<S: Stepper, E: Extent>(
     let made = parts.text.as_str();
     let now = E::find_head(made);
     let head = HeadChange::between(parts.head, now, edit.start);
-    let edited = EditedText {
-        text: &made[now.body..],
-        old_tokens: &parts.tokens.as_slice()[parts.head.count()..],
-        change: head.body_change(edit),
-    };
-    let near = parts.checkpoints.nearest(edited.change.start);
+    let text = &made[now.body..];
+    let old_tokens = &parts.tokens.as_slice()[parts.head.count()..];
+    let change = head.body_change(edit);
+    let near = parts.checkpoints.nearest(change.start);
     let mut lexed_bounds = Checkpoints::new();
-    let lexed = relex(
+    let lexed = lex_replacement(
         parts.alloc,
         &mut parts.stepper,
-        &edited,
+        text,
+        old_tokens,
+        change,
         near,
         &mut lexed_bounds,
     )?;
-    let checkpoints = lexed.checkpoints(&parts.checkpoints, &lexed_bounds, edited.text.len());
-    let counts = lexed.at.counts(edited.old_tokens.len());
+    let checkpoints = lexed.checkpoints(&parts.checkpoints, &lexed_bounds, text.len());
+    let counts = lexed.at.counts(old_tokens.len());
     lexed.splice_into(parts.alloc, &mut parts.tokens, head)?;
     parts.head = now;
     parts.checkpoints = checkpoints;

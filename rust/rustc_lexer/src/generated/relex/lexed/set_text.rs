@@ -3,9 +3,9 @@
 
 use crate::generated::entry::stepper::Stepper;
 use crate::generated::head::Extent;
+use crate::generated::relex::counts::Relexed;
 use crate::generated::relex::diff::{common_prefix, common_suffix};
 use crate::generated::relex::lexed::Lexed;
-use crate::generated::relex::relexer::Relexed;
 use crate::support::AllocError;
 
 impl<S: Stepper, E: Extent> Lexed<S, E> {
@@ -20,11 +20,7 @@ impl<S: Stepper, E: Extent> Lexed<S, E> {
     pub fn set_text(&mut self, text: &str) -> Result<Relexed, AllocError> {
         let old = self.text();
         if old == text {
-            return Ok(Relexed {
-                kept_front: self.tokens().len(),
-                lexed: 0,
-                kept_back: 0,
-            });
+            return Ok(Relexed::all(self.tokens().len()));
         }
         let start = common_prefix(old, text);
         let back = common_suffix(old, text, start);

@@ -1,6 +1,6 @@
 use Rattle.std.proofs.Common.{◌≡◌, List, ℕ, slice_range, string_bytes, refl, ◌∙◌, arith, rules}
 use Rattle.std.proofs.lemmas.Grind.{common_steps}
-use Rattle.rustc_lexer.specs.{declared.relex.relexer.Change.{Change}, Relexer.{IsEditOf}, Edits.{apply}}
+use Rattle.rustc_lexer.specs.{declared.relex.change.Change.{Change}, Relexer.{IsEditOf}, Edits.{apply}}
 use Rattle.rustc_lexer.proofs.lemmas.edits.FrontAndBack.{edited, put_back}
 use Rattle.rustc_lexer.proofs.lemmas.edits.DocumentEdits.{counted_refused, few_none, put_by, refused}
 use Rattle.rustc_lexer.proofs.lemmas.edits.ByLengths.{made_change}

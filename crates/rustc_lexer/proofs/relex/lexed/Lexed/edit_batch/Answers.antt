@@ -1,7 +1,7 @@
 use Rattle.std.proofs.Common.{◌≡◌, ◌-◌, ℕ, List, [], Err, length, rules, string_bytes, arith, refl, sym, ap, ◌∙◌}
 use Rattle.std.proofs.lemmas.Grind.{common_steps}
 use Rattle.rustc_lexer.specs.declared.relex.edit_error.EditStop.TheVariants.{Memory}
-use Rattle.rustc_lexer.specs.declared.relex.relexer.Change.{Change}
+use Rattle.rustc_lexer.specs.declared.relex.change.Change.{Change}
 use Rattle.rustc_lexer.specs.{Edits.{start_of_first, stop_of_last, batch_insert}, LexedText.{layout_in}}
 use Rattle.rustc_lexer.specs.model.Document.{IsPut, edit_change}
 use Rattle.rustc_lexer.proofs.lemmas.edits.EditBatch.{at_once_none, none_by_one, one_by_one, put_at_once}

@@ -1,7 +1,7 @@
 use Rattle.std.proofs.{Common.{◌+◌, ◌<◌, ◌^◌, ◌≡◌, arith, rules}, lemmas.Grind.{common_steps}}
 use Rattle.rustc_lexer.specs.Edits.{count_after}
 use Rattle.rustc_lexer.proofs.lemmas.edits.EditSequence.{kept_then}
-use Rattle.rustc_lexer.proofs.relex.relexer.Relexed.then.Goals as goal
+use Rattle.rustc_lexer.proofs.relex.counts.Relexed.then.Goals as goal
 
 pub returns-clause-kept : goal.returns-clause-kept
 returns-clause-kept c old between new old_size between_fits new_fits before next =

@@ -1,7 +1,7 @@
 use Rattle.std.proofs.Common.{subst, sym}
 use Rattle.rustc_lexer.specs.model.Checkpoints.{IsReplaced}
 use Rattle.rustc_lexer.proofs.lemmas.edits.Checkpoints.{kept_stays}
-use Rattle.rustc_lexer.proofs.relex.edit.Replacement.checkpoints.Goals as goal
+use Rattle.rustc_lexer.proofs.relex.replacement.Replacement.checkpoints.Goals as goal
 
 pub returns-then-at-le-BUFFER_LEN : goal.returns-then-at-le-BUFFER_LEN
 returns-then-at-le-BUFFER_LEN c =
