@@ -4,6 +4,7 @@ pub mod PlaceLemmas
 pub mod ItemLemmas
 pub mod LaneLemmas
 pub mod RunLemmas
+pub mod WholeLemmas
 pub mod SinkLemmas
 pub mod TextLemmas
 pub mod FewLemmas

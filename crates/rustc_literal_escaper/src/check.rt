@@ -1,19 +1,21 @@
 //! Finds the errors and warnings in a literal.
-ghost use Rattle.std.specs.Prelude.{◌≡◌, false, length};
+ghost use Rattle.std.specs.Prelude.{◌≡◌, ◌≤◌, [], false, true, length};
 ghost use Rattle.std.specs.List.{FoldsTo};
 ghost use Rattle.std.specs.Option.{option_to_list};
 ghost use Rattle.std.specs.Str.{chars};
 ghost use Rattle.rustc_literal_escaper.specs.Answers.{errors_of};
 ghost use Rattle.rustc_literal_escaper.specs.Meaning as spec;
-ghost use Rattle.rustc_literal_escaper.specs.model.Elements.{place};
+ghost use Rattle.rustc_literal_escaper.specs.Meaning.{errors_in};
+ghost use Rattle.rustc_literal_escaper.specs.model.Elements.{front_by, items_from, place};
+ghost use Rattle.rustc_literal_escaper.specs.model.Plain.{is_simple, Passes};
 ghost use Rattle.rustc_literal_escaper.specs.model.Single as model;
 
 use crate::element::Element;
-use crate::elements::{Sink, each};
+use crate::elements::{ElementsOf, Sink, each};
 use crate::error::EscapeError;
 use crate::mode::Mode;
-use crate::simple::is_short_and_simple;
-use crate::single::single_error;
+use crate::simple::{is_short_and_simple, split_if_long};
+use crate::single::error_in_single;
 use crate::text::{Plain, Text};
 use std::ops::Range;
 
@@ -57,11 +59,12 @@ pub fn check_for_errors<F: FnMut(Range<usize>, EscapeError)>(
 #[inline(always)]
 fn each_single_error<F: FnMut(Range<usize>, EscapeError)>(src: &str, mode: Mode, callback: &mut F)
     requires callable { F.IsAlwaysCallable callback.old }
+    requires single { spec.is_single mode ≡ true }
     ensures calls { FoldsTo (λ f error g. F.step f error.0 error.1 tt g) callback.old
         (option_to_list (model.single_error (place (length src.now)) mode (chars src.now)))
         callback.new }
 {
-    if let Some((range, error)) = single_error(&mut Plain::new(src), mode) {
+    if let Some((range, error)) = error_in_single(src, mode) {
         callback(range, error);
     }
 }
@@ -77,13 +80,63 @@ fn each_error<F: FnMut(Range<usize>, EscapeError)>(src: &str, mode: Mode, callba
         callback (errors_of mode src.now) last }
 {
     let raw = is_raw(mode);
+    if src.is_empty() {
+        return;
+    }
     if raw && is_short_and_simple(src) {
         return;
     }
+    let (_, left) = split_if_long(src, raw);
+    if is_valid(src.len(), left, raw, mode) {
+        return;
+    }
     let mut errors = Errors { mode, callback };
-    let mut rest = Plain::new(src);
-    rest.skip_simple(raw);
-    each(&mut rest, raw, None, &mut errors);
+    each(&mut Plain::ending(src.len(), left), raw, None, &mut errors);
+}
+
+/// For a rest of fewer bytes, a search for errors costs more than it saves.
+const SHORT_REST: usize = 4;
+
+/// Returns `true` if the rest of a string of `total` bytes has no errors and no warnings, or `false` if it may have some.
+/// The search is not generic, so it is optimized with this crate.
+#[inline(always)]
+fn is_valid(total: usize, left: &str, raw: bool, mode: Mode) -> bool
+    requires within { length left.now ≤ total }
+    ensures { result ≡ true
+        → errors_in mode (items_from (front_by raw) total (chars left.now)) ≡ [] }
+{
+    if left.len() < SHORT_REST {
+        return left.is_empty();
+    }
+    match mode {
+        Mode::Str | Mode::RawStr => is_valid_str(total, left, raw),
+        Mode::ByteStr | Mode::RawByteStr => is_valid_byte_str(total, left, raw),
+        _ => false,
+    }
+}
+
+/// Implements [`is_valid`] for strings and raw strings.
+#[inline(never)]
+fn is_valid_str(total: usize, left: &str, raw: bool) -> bool
+    requires within { length left.now ≤ total }
+    ensures { result ≡ true
+        → errors_in Mode.Str (items_from (front_by raw) total (chars left.now)) ≡ [] }
+{
+    ElementsOf::of_text(Plain::ending(total, left), raw)
+        .next_error(Mode::Str)
+        .is_none()
+}
+
+/// Implements [`is_valid`] for byte strings and raw byte strings.
+#[inline(never)]
+fn is_valid_byte_str(total: usize, left: &str, raw: bool) -> bool
+    requires within { length left.now ≤ total }
+    ensures { result ≡ true
+        → errors_in Mode.ByteStr (items_from (front_by raw) total (chars left.now)) ≡ [] }
+{
+    ElementsOf::of_text(Plain::ending(total, left), raw)
+        .next_error(Mode::ByteStr)
+        .is_none()
 }
 
 /// Returns whether a literal of this kind is raw.

@@ -6,10 +6,11 @@ ghost use Rattle.rustc_literal_escaper.specs.Items.{TakesFirst};
 ghost use Rattle.rustc_literal_escaper.specs.Meaning.{errors_in};
 
 use crate::check::is_raw;
-use crate::elements::{Elements, elements_of};
+use crate::elements::{Elements, ElementsOf};
 use crate::error::EscapeError;
 use crate::mode::Mode;
-use crate::single::single_error;
+use crate::simple::split_simple;
+use crate::single::error_in_single;
 use crate::text::Plain;
 use std::iter::Iterator;
 use std::marker::Model;
@@ -54,14 +55,16 @@ impl<'a> EscapeErrors<'a> {
     {
         if !mode.in_double_quotes() {
             return EscapeErrors {
-                alone: single_error(&mut Plain::new(src), mode),
+                alone: error_in_single(src, mode),
                 elements: Elements::new(""),
                 mode,
             };
         }
+        let raw = is_raw(mode);
+        let (_, left) = split_simple(src, raw);
         EscapeErrors {
             alone: None,
-            elements: elements_of(src, is_raw(mode)),
+            elements: ElementsOf::of_text(Plain::ending(src.len(), left), raw),
             mode,
         }
     }

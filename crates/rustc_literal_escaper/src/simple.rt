@@ -1,11 +1,43 @@
 //! Skips simple characters at the start of a text, 32 bytes at a time. They are valid in every kind of string.
-ghost use Rattle.std.specs.Prelude.{◌≡◌, ◌≤◌, [], true, false, length, map};
-ghost use Rattle.std.specs.List.{prefix_len};
+ghost use Rattle.std.specs.Prelude.{◌≡◌, ◌≤◌, ◌+◌, ◌++◌, [], true, false, length, map};
+ghost use Rattle.std.specs.List.{list_all, prefix_len};
 ghost use Rattle.std.specs.Simd.Lanes.{mask_l};
 ghost use Rattle.std.specs.Str.{chars, IsUtf8};
 ghost use Rattle.rustc_literal_escaper.specs.model.Plain as spec;
 
 use std::simd::prelude::*;
+
+/// Splits a text after the simple characters at its start.
+#[inline(always)]
+#[tactic(auto, using(crate::proofs::LaneLemmas::run_front))]
+pub(crate) fn split_simple(text: &str, raw: bool) -> (&[u8], &str)
+    ensures simple { list_all (spec.is_simple raw) result.0.now ≡ true }
+    ensures whole { text.now ≡ result.0.now ++ result.1.now }
+    ensures text { IsUtf8 result.1.now }
+    ensures sizes { length text.now ≡ length result.0.now + length result.1.now }
+{
+    let end = simple_end(text.as_bytes(), raw);
+    (&text.as_bytes()[..end], &text[end..])
+}
+
+// A string of fewer bytes is read without a search for simple characters.
+const SHORT: usize = 4;
+
+const SHORT_RAW: usize = 16;
+
+/// Splits a text after the simple characters at its start. A short text is not searched.
+#[inline(always)]
+pub(crate) fn split_if_long(src: &str, raw: bool) -> (&[u8], &str)
+    ensures simple { list_all (spec.is_simple raw) result.0.now ≡ true }
+    ensures whole { src.now ≡ result.0.now ++ result.1.now }
+    ensures text { IsUtf8 result.1.now }
+    ensures sizes { length src.now ≡ length result.0.now + length result.1.now }
+{
+    if src.len() < SHORT || (raw && src.len() < SHORT_RAW) {
+        return (&[], src);
+    }
+    split_simple(src, raw)
+}
 
 /// Returns the text after the simple characters at its start. A text of fewer than 32 bytes is not searched.
 #[inline(always)]
@@ -28,7 +60,6 @@ pub(crate) fn past_simple(rest: &str, raw: bool) -> &str
 
 /// Returns whether the text is the contents of a raw string of fewer than 32 bytes, all of them simple. It also returns
 /// `false` for some control characters that are simple, since one comparison less per byte matters more.
-#[inline(always)]
 pub(crate) fn is_short_and_simple(text: &str) -> bool
     ensures { result ≡ true → spec.Passes (spec.is_simple true) (chars text.now) [] }
 {
@@ -44,9 +75,9 @@ pub(crate) fn is_short_and_simple(text: &str) -> bool
     true
 }
 
-/// Returns the length of a prefix of simple bytes. Searches 32 bytes at a time.
+/// Returns the number of simple bytes at the start.
 #[inline(never)]
-#[tactic(auto, using(crate::proofs::LaneLemmas::run_through))]
+#[tactic(auto, using(crate::proofs::LaneLemmas::run_through, crate::proofs::RunLemmas::level_lemmas))]
 fn simple_end(bytes: &[u8], raw: bool) -> usize
     ensures simple { result ≤ prefix_len (spec.is_simple raw) bytes.now }
     ensures inside { result ≤ length bytes.now }
@@ -59,8 +90,33 @@ fn simple_end(bytes: &[u8], raw: bool) -> usize
         }
         end += 32;
     }
+    let least = if raw { 1 } else { 2 };
+    'bytes: while end < bytes.len() && simple_level(bytes[end]) >= least {
+        end += 1;
+    }
     end
 }
+
+/// Returns 2 if a byte is simple, 1 if it is simple only in raw strings, and 0 otherwise.
+#[inline(always)]
+fn simple_level(byte: u8) -> u8
+    ensures { result ≡ spec.simple_level byte }
+{
+    let code = byte as usize;
+    SIMPLE[code]
+}
+
+/// The levels of all bytes. A lookup in a table costs less than four comparisons.
+static SIMPLE: [u8; 256] = [
+    0, 2, 2, 2, 2, 2, 2, 2, 2, 2, 2, 2, 2, 0, 2, 2, 2, 2, 2, 2, 2, 2, 2, 2, 2, 2, 2, 2, 2, 2, 2, 2,
+    2, 2, 1, 2, 2, 2, 2, 2, 2, 2, 2, 2, 2, 2, 2, 2, 2, 2, 2, 2, 2, 2, 2, 2, 2, 2, 2, 2, 2, 2, 2, 2,
+    2, 2, 2, 2, 2, 2, 2, 2, 2, 2, 2, 2, 2, 2, 2, 2, 2, 2, 2, 2, 2, 2, 2, 2, 2, 2, 2, 2, 1, 2, 2, 2,
+    2, 2, 2, 2, 2, 2, 2, 2, 2, 2, 2, 2, 2, 2, 2, 2, 2, 2, 2, 2, 2, 2, 2, 2, 2, 2, 2, 2, 2, 2, 2, 2,
+    0, 0, 0, 0, 0, 0, 0, 0, 0, 0, 0, 0, 0, 0, 0, 0, 0, 0, 0, 0, 0, 0, 0, 0, 0, 0, 0, 0, 0, 0, 0, 0,
+    0, 0, 0, 0, 0, 0, 0, 0, 0, 0, 0, 0, 0, 0, 0, 0, 0, 0, 0, 0, 0, 0, 0, 0, 0, 0, 0, 0, 0, 0, 0, 0,
+    0, 0, 0, 0, 0, 0, 0, 0, 0, 0, 0, 0, 0, 0, 0, 0, 0, 0, 0, 0, 0, 0, 0, 0, 0, 0, 0, 0, 0, 0, 0, 0,
+    0, 0, 0, 0, 0, 0, 0, 0, 0, 0, 0, 0, 0, 0, 0, 0, 0, 0, 0, 0, 0, 0, 0, 0, 0, 0, 0, 0, 0, 0, 0, 0,
+];
 
 /// Returns a mask: bit k is set if lane k is not simple.
 #[inline(always)]

@@ -1,12 +1,14 @@
 //! Reads strings of every kind and passes their units to a callback.
-ghost use Rattle.std.specs.Prelude.{◌≡◌, true, false};
-ghost use Rattle.std.specs.List.{FoldsTo};
+ghost use Rattle.std.specs.Prelude.{◌≡◌, ◌≤◌, true, false, length};
+ghost use Rattle.std.specs.List.{FoldsTo, list_all};
 ghost use Rattle.rustc_literal_escaper.specs.Answers.{items_of};
 ghost use Rattle.rustc_literal_escaper.specs.Meaning.{byte_of, char_of, raw_unit_of, unit_of};
+ghost use Rattle.rustc_literal_escaper.specs.model.Plain.{is_ascii_value, plain_items};
 
 use crate::element::Element;
 use crate::elements::{Sink, each};
 use crate::error::EscapeError;
+use crate::simple::split_if_long;
 use crate::text::Plain;
 use crate::unit::{MixedUnit, NonZeroChar};
 use std::marker::PhantomData;
@@ -148,9 +150,10 @@ pub fn check_raw_c_str<F: FnMut(Range<usize>, Result<NonZeroChar, EscapeError>)>
 
 /// The values of elements in one kind of string.
 pub(crate) trait Meaning {
-    ghost use Rattle.std.specs.Prelude.{◌≡◌, Result};
+    ghost use Rattle.std.specs.Prelude.{◌≡◌, Result, true};
     ghost use Rattle.rustc_literal_escaper.specs.declared.element.Element.{Element};
     ghost use Rattle.rustc_literal_escaper.specs.declared.error.EscapeError.{EscapeError};
+    ghost use Rattle.rustc_literal_escaper.specs.model.Plain.{is_ascii_value};
 
     type Meant: Copy;
 
@@ -159,6 +162,16 @@ pub(crate) trait Meaning {
     /// Returns the value of an element, or its error.
     fn of(element: Element) -> Result<Self::Meant, EscapeError>
         ensures { result ≡ meaning element };
+
+    /// Returns the value of an unescaped ASCII character other than U+0000.
+    #[inline(always)]
+    fn of_ascii(byte: u8) -> Result<Self::Meant, EscapeError>
+        requires ascii { is_ascii_value byte ≡ true }
+        ensures { result ≡ meaning (Element.Plain byte) }
+    {
+        // The remainder tells the compiler that the character is ASCII.
+        Self::of(Element::Plain((byte % 128) as char))
+    }
 }
 
 /// The values in strings: characters.
@@ -191,6 +204,11 @@ impl Meaning for AsByte {
     fn of(element: Element) -> Result<u8, EscapeError> {
         element.to_byte()
     }
+
+    #[inline(always)]
+    fn of_ascii(byte: u8) -> Result<u8, EscapeError> {
+        Ok(byte)
+    }
 }
 
 /// The values in C strings: characters and bytes.
@@ -206,6 +224,11 @@ impl Meaning for AsMixedUnit {
     #[inline(always)]
     fn of(element: Element) -> Result<MixedUnit, EscapeError> {
         element.to_mixed_unit()
+    }
+
+    #[inline(always)]
+    fn of_ascii(byte: u8) -> Result<MixedUnit, EscapeError> {
+        Ok(MixedUnit::Char(NonZeroChar::of_nonzero(byte as char)))
     }
 }
 
@@ -223,6 +246,11 @@ impl Meaning for AsRawUnit {
     fn of(element: Element) -> Result<NonZeroChar, EscapeError> {
         element.to_raw_unit()
     }
+
+    #[inline(always)]
+    fn of_ascii(byte: u8) -> Result<NonZeroChar, EscapeError> {
+        Ok(NonZeroChar::of_nonzero(byte as char))
+    }
 }
 
 /// Calls `callback` with the byte range and the value of each element of a text.
@@ -230,17 +258,45 @@ impl Meaning for AsRawUnit {
 fn each_unit<M: Meaning, F: FnMut(Range<usize>, Result<M::Meant, EscapeError>)>(
     src: &str,
     raw: bool,
-    callback: F,
+    mut callback: F,
 )
     requires callable { F.IsAlwaysCallable callback }
     ensures calls { (last : F) × FoldsTo (λ f item g. F.step f item.0 (M.meaning item.1) tt g)
         callback (items_of raw src.now) last }
 {
+    let (run, left) = split_if_long(src, raw);
+    each_ascii::<M, F>(run, run.len(), &mut callback);
+    if left.is_empty() {
+        return;
+    }
     let mut units = Units::<M, F> {
         callback,
         meaning: PhantomData,
     };
-    each(&mut Plain::new(src), raw, None, &mut units);
+    each(&mut Plain::ending(src.len(), left), raw, None, &mut units);
+}
+
+/// Calls `callback` with the byte range and the value of each of these ASCII characters. The last one ends at `end`.
+#[inline(always)]
+fn each_ascii<M: Meaning, F: FnMut(Range<usize>, Result<M::Meant, EscapeError>)>(
+    run: &[u8],
+    end: usize,
+    callback: &mut F,
+)
+    requires callable { F.IsAlwaysCallable callback.old }
+    requires values { list_all is_ascii_value run.now ≡ true }
+    requires within { length run.now ≤ end }
+    ensures callable { F.IsAlwaysCallable callback.new }
+    ensures calls { FoldsTo (λ f item g. F.step f item.0 (M.meaning item.1) tt g)
+        callback.old (plain_items end run.now) callback.new }
+{
+    let mut left = run;
+    let mut start = end - run.len();
+    'run: while let Some((byte, tail)) = left.split_first() {
+        callback(start..start + 1, M::of_ascii(*byte));
+        start += 1;
+        left = tail;
+    }
 }
 
 /// A sink that passes the value of each element to a callback.

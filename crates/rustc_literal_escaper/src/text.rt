@@ -1,5 +1,5 @@
 //! Texts that are read character by character.
-ghost use Rattle.std.specs.Prelude.{◌≡◌, length};
+ghost use Rattle.std.specs.Prelude.{◌≡◌, ◌≤◌, length};
 ghost use Rattle.std.specs.Str.{chars};
 
 use crate::simple::past_simple;
@@ -67,6 +67,18 @@ impl<'a> Plain<'a> {
         Plain {
             total: text.len(),
             ahead: text.chars(),
+        }
+    }
+
+    /// Returns the characters at the end of a text of `total` bytes.
+    #[inline(always)]
+    pub(crate) fn ending(total: usize, left: &'a str) -> Plain<'a>
+        requires within { length left.now ≤ total }
+        ensures { result ≡ (total, chars left.now) }
+    {
+        Plain {
+            total,
+            ahead: left.chars(),
         }
     }
 }

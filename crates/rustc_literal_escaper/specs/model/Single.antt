@@ -8,7 +8,7 @@ use Rattle.rustc_literal_escaper.specs.declared.error.EscapeError.TheVariants.{Z
 use Rattle.rustc_literal_escaper.specs.declared.error.EscapeError.TheVariants.{EscapeOnlyChar, BareCarriageReturn}
 use Rattle.rustc_literal_escaper.specs.declared.mode.Mode.{Mode}
 use Rattle.rustc_literal_escaper.specs.Grammar.{Error}
-use Rattle.rustc_literal_escaper.specs.Meaning.{error_of, errors_in, is_raw, is_single}
+use Rattle.rustc_literal_escaper.specs.Meaning.{byte_of, char_of, error_of, errors_in, is_raw, is_single}
 use Rattle.rustc_literal_escaper.specs.model.Elements.{front_by, items_from, place}
 use Rattle.rustc_literal_escaper.specs.model.Escape.{escape}
 
@@ -30,6 +30,13 @@ single c s = if c == byte "\\" then escape s else (unescaped c, s)
 abbrev pub StartsWithSingle : List ℕ → Element → List ℕ → Type 0
 StartsWithSingle [] element left = ⊥
 StartsWithSingle (c ∷ s) element left = (element, left) ≡ single c s
+
+-- Holds if the text is one element that has this value in a character literal and in a byte literal.
+pub record IsShort (s : List ℕ) (value : ℕ) : Type 0 where
+  pub element : Element
+  pub whole : StartsWithSingle s element []
+  pub character : char_of element ≡ Ok value
+  pub byte_value : byte_of element ≡ Ok value
 
 -- Returns the value if there is one and no text is left, and the error otherwise.
 abbrev pub alone : {U : Type 0} → Result U EscapeError → List ℕ → Result U EscapeError

@@ -2,11 +2,11 @@
 //! Finds the errors and warnings in a literal.
 
 use crate::generated::element::Element;
-use crate::generated::elements::{Sink, each};
+use crate::generated::elements::{ElementsOf, Sink, each};
 use crate::generated::error::EscapeError;
 use crate::generated::mode::Mode;
-use crate::generated::simple::is_short_and_simple;
-use crate::generated::single::single_error;
+use crate::generated::simple::{is_short_and_simple, split_if_long};
+use crate::generated::single::error_in_single;
 use crate::generated::text::{Plain, Text};
 use core::ops::Range;
 
@@ -45,7 +45,7 @@ pub fn check_for_errors<F: FnMut(Range<usize>, EscapeError)>(
 /// Calls `callback` with the error of a character or byte literal, if it has one.
 #[inline(always)]
 fn each_single_error<F: FnMut(Range<usize>, EscapeError)>(src: &str, mode: Mode, callback: &mut F) {
-    if let Some((range, error)) = single_error(&mut Plain::new(src), mode) {
+    if let Some((range, error)) = error_in_single(src, mode) {
         callback(range, error);
     }
 }
@@ -56,13 +56,51 @@ fn each_single_error<F: FnMut(Range<usize>, EscapeError)>(src: &str, mode: Mode,
 #[inline(always)]
 fn each_error<F: FnMut(Range<usize>, EscapeError)>(src: &str, mode: Mode, callback: F) {
     let raw = is_raw(mode);
+    if src.is_empty() {
+        return;
+    }
     if raw && is_short_and_simple(src) {
         return;
     }
+    let (_, left) = split_if_long(src, raw);
+    if is_valid(src.len(), left, raw, mode) {
+        return;
+    }
     let mut errors = Errors { mode, callback };
-    let mut rest = Plain::new(src);
-    rest.skip_simple(raw);
-    each(&mut rest, raw, None, &mut errors);
+    each(&mut Plain::ending(src.len(), left), raw, None, &mut errors);
+}
+
+/// For a rest of fewer bytes, a search for errors costs more than it saves.
+const SHORT_REST: usize = 4;
+
+/// Returns `true` if the rest of a string of `total` bytes has no errors and no warnings, or `false` if it may have some.
+/// The search is not generic, so it is optimized with this crate.
+#[inline(always)]
+fn is_valid(total: usize, left: &str, raw: bool, mode: Mode) -> bool {
+    if left.len() < SHORT_REST {
+        return left.is_empty();
+    }
+    match mode {
+        Mode::Str | Mode::RawStr => is_valid_str(total, left, raw),
+        Mode::ByteStr | Mode::RawByteStr => is_valid_byte_str(total, left, raw),
+        _ => false,
+    }
+}
+
+/// Implements [`is_valid`] for strings and raw strings.
+#[inline(never)]
+fn is_valid_str(total: usize, left: &str, raw: bool) -> bool {
+    ElementsOf::of_text(Plain::ending(total, left), raw)
+        .next_error(Mode::Str)
+        .is_none()
+}
+
+/// Implements [`is_valid`] for byte strings and raw byte strings.
+#[inline(never)]
+fn is_valid_byte_str(total: usize, left: &str, raw: bool) -> bool {
+    ElementsOf::of_text(Plain::ending(total, left), raw)
+        .next_error(Mode::ByteStr)
+        .is_none()
 }
 
 /// Returns whether a literal of this kind is raw.

@@ -2,10 +2,11 @@
 //! An iterator over the errors and warnings in a literal.
 
 use crate::generated::check::is_raw;
-use crate::generated::elements::{Elements, elements_of};
+use crate::generated::elements::{Elements, ElementsOf};
 use crate::generated::error::EscapeError;
 use crate::generated::mode::Mode;
-use crate::generated::single::single_error;
+use crate::generated::simple::split_simple;
+use crate::generated::single::error_in_single;
 use crate::generated::text::Plain;
 use core::iter::Iterator;
 use core::ops::Range;
@@ -30,14 +31,16 @@ impl<'a> EscapeErrors<'a> {
     pub fn new(src: &'a str, mode: Mode) -> EscapeErrors<'a> {
         if !mode.in_double_quotes() {
             return EscapeErrors {
-                alone: single_error(&mut Plain::new(src), mode),
+                alone: error_in_single(src, mode),
                 elements: Elements::new(""),
                 mode,
             };
         }
+        let raw = is_raw(mode);
+        let (_, left) = split_simple(src, raw);
         EscapeErrors {
             alone: None,
-            elements: elements_of(src, is_raw(mode)),
+            elements: ElementsOf::of_text(Plain::ending(src.len(), left), raw),
             mode,
         }
     }

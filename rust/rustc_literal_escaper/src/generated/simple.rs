@@ -3,6 +3,27 @@
 
 use crate::support::simd::*;
 
+/// Splits a text after the simple characters at its start.
+#[inline(always)]
+pub(crate) fn split_simple(text: &str, raw: bool) -> (&[u8], &str) {
+    let end = simple_end(text.as_bytes(), raw);
+    (&text.as_bytes()[..end], &text[end..])
+}
+
+// A string of fewer bytes is read without a search for simple characters.
+const SHORT: usize = 4;
+
+const SHORT_RAW: usize = 16;
+
+/// Splits a text after the simple characters at its start. A short text is not searched.
+#[inline(always)]
+pub(crate) fn split_if_long(src: &str, raw: bool) -> (&[u8], &str) {
+    if src.len() < SHORT || (raw && src.len() < SHORT_RAW) {
+        return (&[], src);
+    }
+    split_simple(src, raw)
+}
+
 /// Returns the text after the simple characters at its start. A text of fewer than 32 bytes is not searched.
 #[inline(always)]
 pub(crate) fn past_simple(rest: &str, raw: bool) -> &str {
@@ -19,7 +40,7 @@ pub(crate) fn past_simple(rest: &str, raw: bool) -> &str {
 
 /// Returns whether the text is the contents of a raw string of fewer than 32 bytes, all of them simple. It also returns
 /// `false` for some control characters that are simple, since one comparison less per byte matters more.
-#[inline(always)]
+#[cfg_attr(not(debug_assertions), inline(always))]
 pub(crate) fn is_short_and_simple(text: &str) -> bool {
     let bytes = text.as_bytes();
     if bytes.len() >= 32 {
@@ -33,7 +54,7 @@ pub(crate) fn is_short_and_simple(text: &str) -> bool {
     true
 }
 
-/// Returns the length of a prefix of simple bytes. Searches 32 bytes at a time.
+/// Returns the number of simple bytes at the start.
 #[inline(never)]
 fn simple_end(bytes: &[u8], raw: bool) -> usize {
     let mut end = 0;
@@ -44,8 +65,31 @@ fn simple_end(bytes: &[u8], raw: bool) -> usize {
         }
         end += 32;
     }
+    let least = if raw { 1 } else { 2 };
+    while end < bytes.len() && simple_level(bytes[end]) >= least {
+        end += 1;
+    }
     end
 }
+
+/// Returns 2 if a byte is simple, 1 if it is simple only in raw strings, and 0 otherwise.
+#[inline(always)]
+fn simple_level(byte: u8) -> u8 {
+    let code = byte as usize;
+    SIMPLE[code]
+}
+
+/// The levels of all bytes. A lookup in a table costs less than four comparisons.
+static SIMPLE: [u8; 256] = [
+    0, 2, 2, 2, 2, 2, 2, 2, 2, 2, 2, 2, 2, 0, 2, 2, 2, 2, 2, 2, 2, 2, 2, 2, 2, 2, 2, 2, 2, 2, 2, 2,
+    2, 2, 1, 2, 2, 2, 2, 2, 2, 2, 2, 2, 2, 2, 2, 2, 2, 2, 2, 2, 2, 2, 2, 2, 2, 2, 2, 2, 2, 2, 2, 2,
+    2, 2, 2, 2, 2, 2, 2, 2, 2, 2, 2, 2, 2, 2, 2, 2, 2, 2, 2, 2, 2, 2, 2, 2, 2, 2, 2, 2, 1, 2, 2, 2,
+    2, 2, 2, 2, 2, 2, 2, 2, 2, 2, 2, 2, 2, 2, 2, 2, 2, 2, 2, 2, 2, 2, 2, 2, 2, 2, 2, 2, 2, 2, 2, 2,
+    0, 0, 0, 0, 0, 0, 0, 0, 0, 0, 0, 0, 0, 0, 0, 0, 0, 0, 0, 0, 0, 0, 0, 0, 0, 0, 0, 0, 0, 0, 0, 0,
+    0, 0, 0, 0, 0, 0, 0, 0, 0, 0, 0, 0, 0, 0, 0, 0, 0, 0, 0, 0, 0, 0, 0, 0, 0, 0, 0, 0, 0, 0, 0, 0,
+    0, 0, 0, 0, 0, 0, 0, 0, 0, 0, 0, 0, 0, 0, 0, 0, 0, 0, 0, 0, 0, 0, 0, 0, 0, 0, 0, 0, 0, 0, 0, 0,
+    0, 0, 0, 0, 0, 0, 0, 0, 0, 0, 0, 0, 0, 0, 0, 0, 0, 0, 0, 0, 0, 0, 0, 0, 0, 0, 0, 0, 0, 0, 0, 0,
+];
 
 /// Returns a mask: bit k is set if lane k is not simple.
 #[inline(always)]

@@ -3,7 +3,7 @@
 
 use crate::generated::element::Element;
 use crate::generated::error::EscapeError;
-use crate::generated::escape::read_escape;
+use crate::generated::escape::{escape_of, read_escape, short};
 use crate::generated::mode::Mode;
 use crate::generated::strings::{AsByte, AsChar, Meaning};
 use crate::generated::text::{Plain, Text};
@@ -27,9 +27,12 @@ use core::ops::Range;
 /// # Errors
 ///
 /// Returns the error of the literal if it is invalid.
-#[inline]
+#[cfg_attr(not(debug_assertions), inline)]
 pub fn unescape_char(src: &str) -> Result<char, EscapeError> {
-    read::<AsChar>(src)
+    match short_literal(src) {
+        Some(byte) => Ok(byte as char),
+        None => read::<AsChar>(src),
+    }
 }
 
 /// Returns the value of a byte literal.
@@ -50,14 +53,20 @@ pub fn unescape_char(src: &str) -> Result<char, EscapeError> {
 /// # Errors
 ///
 /// Returns the error of the literal if it is invalid.
-#[inline]
+#[cfg_attr(not(debug_assertions), inline)]
 pub fn unescape_byte(src: &str) -> Result<u8, EscapeError> {
-    read::<AsByte>(src)
+    match short_literal(src) {
+        Some(byte) => Ok(byte),
+        None => read::<AsByte>(src),
+    }
 }
 
 /// Returns the value of a literal with single quotes.
 #[inline(always)]
 fn read<M: Meaning>(src: &str) -> Result<M::Meant, EscapeError> {
+    if let Some(element) = whole_escape(src) {
+        return M::of(element);
+    }
     let mut rest = Plain::new(src);
     let Some(c) = rest.next_char() else {
         return Err(EscapeError::ZeroChars);
@@ -68,6 +77,47 @@ fn read<M: Meaning>(src: &str) -> Result<M::Meant, EscapeError> {
         Some(_) => Err(EscapeError::MoreThanOneChar),
         None => Ok(meant),
     }
+}
+
+/// Returns the value of the literal if it is an unescaped ASCII character or a short escape. Most literals are.
+#[inline(always)]
+fn short_literal(src: &str) -> Option<u8> {
+    match src.as_bytes() {
+        [byte] if byte.is_ascii() && is_plain(*byte as char) => Some(*byte),
+        [b'\\', c] => match short(*c as char) {
+            Element::Byte(byte) => Some(byte),
+            _ => None,
+        },
+        _ => None,
+    }
+}
+
+/// Returns whether the character is its own value between single quotes.
+#[inline(always)]
+fn is_plain(c: char) -> bool {
+    !matches!(c, '\n' | '\t' | '\'' | '\r' | '\\')
+}
+
+/// Returns the escape that is the whole text, if it has two digits or is a number of at most six.
+#[inline(always)]
+fn whole_escape(src: &str) -> Option<Element> {
+    match src.as_bytes() {
+        [b'\\', rest @ ..] => escape_of(rest),
+        _ => None,
+    }
+}
+
+/// Returns the error of a character or byte literal with its byte range, or `None` if it has no error.
+#[cfg_attr(not(debug_assertions), inline(always))]
+pub(crate) fn error_in_single(src: &str, mode: Mode) -> Option<(Range<usize>, EscapeError)> {
+    if short_literal(src).is_some() {
+        return None;
+    }
+    if let Some(element) = whole_escape(src) {
+        let error = element.error_in(mode)?;
+        return Some((0..src.len(), error));
+    }
+    single_error(&mut Plain::new(src), mode)
 }
 
 /// Returns the error of a character or byte literal with its byte range, or `None` if it has no error.

@@ -4,6 +4,7 @@
 use crate::generated::element::Element;
 use crate::generated::elements::{Sink, each};
 use crate::generated::error::EscapeError;
+use crate::generated::simple::split_if_long;
 use crate::generated::text::Plain;
 use crate::generated::unit::{MixedUnit, NonZeroChar};
 use core::marker::PhantomData;
@@ -125,6 +126,13 @@ pub(crate) trait Meaning {
 
     /// Returns the value of an element, or its error.
     fn of(element: Element) -> Result<Self::Meant, EscapeError>;
+
+    /// Returns the value of an unescaped ASCII character other than U+0000.
+    #[inline(always)]
+    fn of_ascii(byte: u8) -> Result<Self::Meant, EscapeError> {
+        // The remainder tells the compiler that the character is ASCII.
+        Self::of(Element::Plain((byte % 128) as char))
+    }
 }
 
 /// The values in strings: characters.
@@ -149,6 +157,11 @@ impl Meaning for AsByte {
     fn of(element: Element) -> Result<u8, EscapeError> {
         element.to_byte()
     }
+
+    #[inline(always)]
+    fn of_ascii(byte: u8) -> Result<u8, EscapeError> {
+        Ok(byte)
+    }
 }
 
 /// The values in C strings: characters and bytes.
@@ -160,6 +173,11 @@ impl Meaning for AsMixedUnit {
     #[inline(always)]
     fn of(element: Element) -> Result<MixedUnit, EscapeError> {
         element.to_mixed_unit()
+    }
+
+    #[inline(always)]
+    fn of_ascii(byte: u8) -> Result<MixedUnit, EscapeError> {
+        Ok(MixedUnit::Char(NonZeroChar::of_nonzero(byte as char)))
     }
 }
 
@@ -173,6 +191,11 @@ impl Meaning for AsRawUnit {
     fn of(element: Element) -> Result<NonZeroChar, EscapeError> {
         element.to_raw_unit()
     }
+
+    #[inline(always)]
+    fn of_ascii(byte: u8) -> Result<NonZeroChar, EscapeError> {
+        Ok(NonZeroChar::of_nonzero(byte as char))
+    }
 }
 
 /// Calls `callback` with the byte range and the value of each element of a text.
@@ -180,13 +203,34 @@ impl Meaning for AsRawUnit {
 fn each_unit<M: Meaning, F: FnMut(Range<usize>, Result<M::Meant, EscapeError>)>(
     src: &str,
     raw: bool,
-    callback: F,
+    mut callback: F,
 ) {
+    let (run, left) = split_if_long(src, raw);
+    each_ascii::<M, F>(run, run.len(), &mut callback);
+    if left.is_empty() {
+        return;
+    }
     let mut units = Units::<M, F> {
         callback,
         meaning: PhantomData,
     };
-    each(&mut Plain::new(src), raw, None, &mut units);
+    each(&mut Plain::ending(src.len(), left), raw, None, &mut units);
+}
+
+/// Calls `callback` with the byte range and the value of each of these ASCII characters. The last one ends at `end`.
+#[inline(always)]
+fn each_ascii<M: Meaning, F: FnMut(Range<usize>, Result<M::Meant, EscapeError>)>(
+    run: &[u8],
+    end: usize,
+    callback: &mut F,
+) {
+    let mut left = run;
+    let mut start = end - run.len();
+    while let Some((byte, tail)) = left.split_first() {
+        callback(start..start + 1, M::of_ascii(*byte));
+        start += 1;
+        left = tail;
+    }
 }
 
 /// A sink that passes the value of each element to a callback.

@@ -35,6 +35,15 @@ impl<'a> Plain<'a> {
             ahead: text.chars(),
         }
     }
+
+    /// Returns the characters at the end of a text of `total` bytes.
+    #[inline(always)]
+    pub(crate) fn ending(total: usize, left: &'a str) -> Plain<'a> {
+        Plain {
+            total,
+            ahead: left.chars(),
+        }
+    }
 }
 
 impl<'a> Text for Plain<'a> {

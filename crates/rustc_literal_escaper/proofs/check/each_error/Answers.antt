@@ -1,9 +1,27 @@
-use Rattle.rustc_literal_escaper.proofs.{AnswerLemmas.{errors_of-items}, RunLemmas.{simple_same}}
+use Rattle.rustc_literal_escaper.proofs.AnswerLemmas.{errors_of-items}
+use Rattle.rustc_literal_escaper.proofs.RunLemmas.{errors-nothing, errors_of-past, simple_same}
 use Rattle.rustc_literal_escaper.proofs.SinkLemmas.{folds_errors}
-use Rattle.std.proofs.Common.{◌≡◌, ◌∙◌, ℕ, true, [], length, refl, sym}
+use Rattle.std.proofs.Common.{◌≡◌, ◌∙◌, ℕ, true, [], arith, length, refl, sym}
+use Rattle.std.proofs.lemmas.Grind.{common_steps}
 use Rattle.std.specs.Str.{chars}
-use Rattle.rustc_literal_escaper.specs.{Meaning.{is_raw}, laws.Elements.{nothing}, model.Elements.{place, raw_front}}
+use Rattle.rustc_literal_escaper.specs.{Meaning.{is_raw}, laws.Elements.{nothing}}
+use Rattle.rustc_literal_escaper.specs.model.Elements.{place, raw_front}
 use Rattle.rustc_literal_escaper.proofs.check.each_error.Goals as goal
+
+pub returns-then-is_empty : goal.returns-then-is_empty
+returns-then-is_empty g c =
+    let mode = c.args.mode in
+    let none : length c.args.src.now ≡ 0 = grind (arith, common_steps, c.is_empty.ensures, c.if-is_empty.true) in
+    record {
+      calls = (
+        c.args.callback,
+        rw (
+            errors_of-items mode c.args.src.now c.requires.double
+            ∙ errors-nothing (is_raw mode) (length c.args.src.now) mode c.args.src.now none
+            )
+            refl,
+      );
+    }
 
 pub returns-then-is_short_and_simple : goal.returns-then-is_short_and_simple
 returns-then-is_short_and_simple g c =
@@ -24,17 +42,31 @@ returns-then-is_short_and_simple g c =
       );
     }
 
+pub returns-then-is_valid : goal.returns-then-is_valid
+returns-then-is_valid g c =
+    let simple = rw c.is_raw-raw.ensures at c.split_if_long.ensures.simple in
+    let none = rw c.is_raw-raw.ensures at (c.is_valid.ensures c.if-is_valid.true) in
+    record {
+      calls = (
+        c.args.callback,
+        rw (
+            errors_of-past c.args.mode c.args.src.now c.split_if_long.result.0.now c.split_if_long.result.1.now
+            c.requires.double simple c.split_if_long.ensures.whole
+            ∙ none
+            )
+            refl,
+      );
+    }
+
 pub returns : goal.returns
 returns g c =
-    let runs = rw (c.skip_simple.ensures.same, c.new-rest.ensures, c.is_raw-raw.ensures) at c.each.ensures.runs in
-    let passes = rw (c.new-rest.ensures, c.is_raw-raw.ensures) at c.skip_simple.ensures.passes in
+    let runs = rw (c.ending.ensures, c.is_raw-raw.ensures) at c.each.ensures.runs in
+    let simple = rw c.is_raw-raw.ensures at c.split_if_long.ensures.simple in
     record {
       calls = (
         c.each.new.sink.callback,
-        rw (
-          errors_of-items c.args.mode c.args.src.now c.requires.double,
-          sym (simple_same c.args.mode (is_raw c.args.mode) (length c.args.src.now) (chars c.args.src.now) _ passes),
-        )
+        rw (errors_of-past c.args.mode c.args.src.now c.split_if_long.result.0.now c.split_if_long.result.1.now
+            c.requires.double simple c.split_if_long.ensures.whole)
             (folds_errors _ (λ s. s.callback) (λ s. s.mode) _ (λ s t i more took. took) runs),
       );
     }

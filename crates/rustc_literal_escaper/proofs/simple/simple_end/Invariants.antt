@@ -11,3 +11,12 @@ invariant-lanes l = record {
 
 abbrev pub decreases-lanes : goal.decreases-lanes
 decreases-lanes l = length l.bytes - l.end
+
+abbrev pub invariant-bytes : goal.invariant-bytes
+invariant-bytes l = record {
+  run : prefix_len (is_simple l.raw) l.bytes ≡ l.end + prefix_len (is_simple l.raw) (drop l.end l.bytes);
+  inside : l.end ≤ length l.bytes;
+}
+
+abbrev pub decreases-bytes : goal.decreases-bytes
+decreases-bytes l = length l.bytes - l.end

@@ -1,20 +1,27 @@
-use Rattle.std.proofs.Common.{◌≡◌, true, false, length, refl, sym, arith, ap, ◌∙◌}
-use Rattle.std.specs.{Option.{option_to_list}, Str.{chars}}
+use Rattle.std.proofs.Common.{◌≡◌, true, false, refl, sym, arith, ap, ◌∙◌}
+use Rattle.std.specs.{Option.{option_to_list}}
 use Rattle.rustc_literal_escaper.specs.Meaning.{is_single}
-use Rattle.rustc_literal_escaper.specs.model.{Elements.{place}, Single.{single_error}}
-use Rattle.rustc_literal_escaper.proofs.AnswerLemmas.{errors_of-items, errors_of-single}
+use Rattle.rustc_literal_escaper.proofs.AnswerLemmas.{errors_of-single}
+use Rattle.rustc_literal_escaper.proofs.RunLemmas.{errors_of-past}
 use Rattle.rustc_literal_escaper.proofs.escape_errors.EscapeErrors.new.Goals as goal
 
 pub returns-then-not-in_double_quotes : goal.returns-then-not-in_double_quotes
 returns-then-not-in_double_quotes c =
     let single : is_single c.args.mode ≡ true =
     grind (arith, c.in_double_quotes.ensures, c.if-not-in_double_quotes.true) in
-    let error : c.single_error.result ≡ single_error (place (length c.args.src.now)) c.args.mode
-    (chars c.args.src.now) = rw c.new.ensures at c.single_error.ensures in
-    rw single (ap option_to_list error ∙ sym (errors_of-single c.args.mode c.args.src.now c.utf8.src single))
+    rw single (ap option_to_list c.error_in_single.ensures ∙ sym (errors_of-single c.args.mode c.args.src.now c.utf8.src single))
 
 pub returns : goal.returns
 returns c =
     let mode = c.args.mode in
     let double : is_single mode ≡ false = grind (arith, c.in_double_quotes.ensures, c.if-not-in_double_quotes.false) in
-    rw (double, errors_of-items mode c.args.src.now double, c.elements_of.ensures.items, c.is_raw.ensures) refl
+    let simple = rw c.is_raw-raw.ensures at c.split_simple.ensures.simple in
+    rw (
+      double,
+      errors_of-past mode c.args.src.now c.split_simple.result.0.now c.split_simple.result.1.now double simple
+          c.split_simple.ensures.whole,
+      c.of_text.ensures,
+      c.ending.ensures,
+      c.is_raw-raw.ensures,
+    )
+    refl
