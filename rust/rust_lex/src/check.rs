@@ -2,7 +2,7 @@
 
 use crate::inputs::Source;
 use crate::position::Position;
-use rustc_lexer::{Piece, TokenKind, tokenize_document};
+use rustc_lexer::{Piece, tokenize_document};
 use rustc_lexer_highlight::{
     Edition, EscapeErrorsInFile, TokenError, literal_contents, token_error,
 };
@@ -126,11 +126,7 @@ fn errors_of_piece(
     edition: Edition,
 ) -> impl Iterator<Item = (usize, TokenError)> {
     let (kind, text, start) = (piece.token.kind, piece.text, piece.range().start);
-    // Before 2021, `k#a` is an identifier, `#` and an identifier.
-    let is_valid = kind == TokenKind::ForcedKeywordIdent && edition < Edition::E2021;
-    let of_token = token_error(kind, text)
-        .filter(|_| !is_valid)
-        .map(|error| (start, error));
+    let of_token = token_error(kind, text, edition).map(|error| (start, error));
     let inside = literal_contents(kind, text).map(move |(mode, range)| {
         let start = start + range.start;
         EscapeErrorsInFile::new(&text[range], mode)

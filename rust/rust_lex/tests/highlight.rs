@@ -33,7 +33,7 @@ fn formats() {
         (
             &["--color=always"],
             "\u{feff}#!/bin/x\r\n---\r\n---\r\nfn b\r\n",
-            "\u{feff}\x1b[90m#!/bin/x\x1b[0m\r\n\x1b[36m---\r\n---\r\x1b[0m\n\x1b[35mfn\x1b[0m b\r\n",
+            "\u{feff}\x1b[90m#!/bin/x\x1b[0m\r\n\x1b[36m---\r\n---\x1b[0m\r\n\x1b[35mfn\x1b[0m b\r\n",
         ),
     ] {
         let words = [&["highlight"], arguments].concat();
