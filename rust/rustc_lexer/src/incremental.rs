@@ -55,4 +55,4 @@
 #[doc(inline)]
 pub use crate::generated::Relexer;
 #[doc(inline)]
-pub use crate::generated::{BodyChange, Change, Head, TextLen, RelexState};
+pub use crate::generated::{BodyChange, Change, Head, RelexState, TextLen};

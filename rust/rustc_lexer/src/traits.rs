@@ -1,6 +1,6 @@
 //! Traits of `core` that the proved source does not implement.
 
-use crate::incremental::{TextLen, Relexer};
+use crate::incremental::{Relexer, TextLen};
 use crate::{Edition, FrontmatterAllowed, Steps};
 use core::fmt;
 

@@ -6,7 +6,7 @@ mod random;
 use made::{counts, edit, token};
 use random::Random;
 use rattle_support::Global;
-use rustc_lexer::incremental::{Change, Head, Relexer, RelexState};
+use rustc_lexer::incremental::{Change, Head, RelexState, Relexer};
 use rustc_lexer::{
     EditStop, Edition, FrontmatterAllowed, LexedDocument, LexedText, Relexed, Stepper, Steps,
     Token, TokenKind, TokenStart, generated, strip_shebang, tokenize_as, tokenize_document,
