@@ -67,8 +67,3 @@ impl fmt::Display for AllocError {
 }
 
 impl core::error::Error for AllocError {}
-
-// The program of the README.
-#[cfg(doctest)]
-#[doc = include_str!("../README.md")]
-mod readme {}

@@ -26,10 +26,10 @@ use core::fmt;
 /// - **Pieces are not buffered.** Each piece is written before the next one is known: `0`, `.` and `.` become `0 ..`,
 ///   since `0.` is a number, while `0` and `..` become `0..`. If the next piece shows that the last one was wrong, such
 ///   as whitespace after an unterminated token, remove it with [`truncate`](JoinedText::truncate).
-/// - **The text is a fragment of a file.** As a whole file it has other tokens if it starts with `#!` that is not
-///   followed by `[`, or with `---`, even after whitespace. No valid Rust starts that way. Before writing the text at
-///   the start of a file, check that [`strip_shebang`](crate::strip_shebang) returns `None`, and that no token of
-///   [`tokenize_document`](crate::tokenize_document) is a `Frontmatter`. If the file has a head, write
+/// - **The text is a fragment.** As a document it has other tokens if it starts with a byte order mark (U+FEFF), with
+///   `#!` that is not followed by `[`, or with `---`, even after whitespace. Before writing the text at the start of a
+///   file, check that it does not start with U+FEFF, that [`strip_shebang`](crate::strip_shebang) returns `None`, and
+///   that no token of [`tokenize_document`](crate::tokenize_document) is a `Frontmatter`. If the file has a head, write
 ///   `text[..Head::find(text).body]`, a newline, and then the joined body: see [`Head`](crate::incremental::Head).
 ///
 /// [`push`](JoinedText::push), `extend` and `collect` panic if [`try_push`](JoinedText::try_push) would return an

@@ -13,8 +13,8 @@
 //! | You want | Use |
 //! |---|---|
 //! | the tokens of a text, in the 2024 edition | [`tokenize`] |
-//! | the tokens of a whole file, in an edition | [`tokenize_document`] |
-//! | the tokens of a fragment of a file, in an edition | [`tokenize_in`]; [`tokenize_as`] also allows a frontmatter |
+//! | the tokens of a document, which is a whole file, in an edition | [`tokenize_document`] |
+//! | the tokens of a fragment, in an edition | [`tokenize_in`]; [`tokenize_as`] also allows a frontmatter |
 //! | tokens with their offsets and texts | [`Tokens::pieces`] |
 //! | many tokens at once | [`Tokens::fill`], `Tokens::into_vec` |
 //! | one token after another, with lookahead | [`Cursor`] |

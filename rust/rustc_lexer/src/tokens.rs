@@ -178,7 +178,7 @@ impl fmt::Debug for Tokens<'_> {
     }
 }
 
-/// Returns an iterator over the tokens of a text, lexed in the given edition.
+/// Returns an iterator over the tokens of a fragment, lexed in the given edition.
 ///
 /// No frontmatter is allowed. With `Edition::NEWEST`, this is [`tokenize`] with `FrontmatterAllowed::No`.
 ///
