@@ -94,11 +94,13 @@ impl Run {
                 let format = options.format.unwrap_or_default();
                 let mut checker = Checker::new(edition, format, options.deny_warnings.is_some());
                 let sources = files_of(inputs).map(|file| read(&file?));
-                let failures =
-                    self.for_each(sources, |output, source| checker.check(source, output))?;
+                let checked =
+                    self.for_each(sources, |output, source| checker.check(source, output));
+                // Also if nobody reads the output any more, as after `| head`.
                 if checker.has_errors() {
                     self.status = self.status.max(Status::Errors);
                 }
+                let failures = checked?;
                 self.output.flush()?;
                 print_message(checker.summary(failures));
             }

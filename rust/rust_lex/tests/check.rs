@@ -409,7 +409,7 @@ fn streams() {
                 "mkfifo f; : < f & exec 3> f; wait; rm f; $P check many.rs >&3",
                 "",
                 "",
-                0,
+                1,
             ),
             (
                 "mkfifo f; : < f & exec 3> f; wait; rm f; $P check latin.rs many.rs 2>&- >&3",
