@@ -2,7 +2,7 @@
 
 use crate::inputs::Source;
 use crate::position::Position;
-use rustc_lexer::{Piece, tokenize_document};
+use rustc_lexer::tokenize_document;
 use rustc_lexer_highlight::{
     Edition, EscapeErrorsInFile, TokenError, literal_contents, token_error,
 };
@@ -51,7 +51,7 @@ impl Checker {
     pub fn check(&mut self, source: &Source, output: &mut impl Write) -> io::Result<()> {
         self.files += 1;
         let mut position = Position::start_of(&source.text);
-        for (offset, error) in errors_of(&source.text, self.edition) {
+        for_each_error(&source.text, self.edition, |offset, error| {
             position.advance_to(offset);
             let severity = if is_warning(error) && !self.deny_warnings {
                 self.warnings += 1;
@@ -72,8 +72,8 @@ impl Checker {
                     writeln!(output, "::{severity} {place}::{message}")?;
                 }
             }
-        }
-        Ok(())
+            Ok(())
+        })
     }
 
     pub fn has_errors(&self) -> bool {
@@ -110,29 +110,28 @@ fn escape(text: &str, reserved: &str) -> String {
     escaped
 }
 
-/// Returns the errors and warnings of a file in order, each with its byte offset.
+/// Calls a function for each error and warning of a file in order, with its byte offset.
 ///
 /// The offset is the start of the token. For an error in the contents of a literal, it is the start of the range of the
 /// error.
-fn errors_of(text: &str, edition: Edition) -> impl Iterator<Item = (usize, TokenError)> {
-    tokenize_document(text, edition)
-        .pieces()
-        .flat_map(move |piece| errors_of_piece(piece, edition))
-}
-
-/// Returns the error of a token, and the errors and warnings in the contents of a literal.
-fn errors_of_piece(
-    piece: Piece<'_>,
+fn for_each_error(
+    text: &str,
     edition: Edition,
-) -> impl Iterator<Item = (usize, TokenError)> {
-    let (kind, text, start) = (piece.token.kind, piece.text, piece.range().start);
-    let of_token = token_error(kind, text, edition).map(|error| (start, error));
-    let inside = literal_contents(kind, text).map(move |(mode, range)| {
-        let start = start + range.start;
-        EscapeErrorsInFile::new(&text[range], mode)
-            .map(move |(range, error)| (start + range.start, TokenError::InLiteral(error)))
-    });
-    of_token.into_iter().chain(inside.into_iter().flatten())
+    mut report: impl FnMut(usize, TokenError) -> io::Result<()>,
+) -> io::Result<()> {
+    for piece in tokenize_document(text, edition).pieces() {
+        let (kind, text, start) = (piece.token.kind, piece.text, piece.range().start);
+        if let Some(error) = token_error(kind, text, edition) {
+            report(start, error)?;
+        }
+        if let Some((mode, contents)) = literal_contents(kind, text) {
+            let start = start + contents.start;
+            for (range, error) in EscapeErrorsInFile::new(&text[contents], mode) {
+                report(start + range.start, TokenError::InLiteral(error))?;
+            }
+        }
+    }
+    Ok(())
 }
 
 /// Returns whether this is a warning. A file with warnings is valid.
