@@ -83,6 +83,75 @@ struct Highlighted<'a> {
 
 impl fmt::Display for Highlighted<'_> {
     fn fmt(&self, f: &mut fmt::Formatter<'_>) -> fmt::Result {
-        write_highlighted(self.format, self.edition, self.text, f)
+        match self.format {
+            Format::Colours => {
+                let mut lines = ColoursOfLines::new(f);
+                write_highlighted(self.format, self.edition, self.text, &mut lines)
+            }
+            _ => write_highlighted(self.format, self.edition, self.text, f),
+        }
+    }
+}
+
+/// Repeats the colour of a token on each of its lines: pagers such as `less -R` reset it at the end of a line.
+///
+/// Highlighted text has no other escape sequences, since control characters are shown as symbols.
+struct ColoursOfLines<W> {
+    output: W,
+    /// The escape sequences since the last reset.
+    colour: String,
+    /// Whether the last of them is incomplete.
+    in_sequence: bool,
+}
+
+impl<W: fmt::Write> ColoursOfLines<W> {
+    fn new(output: W) -> ColoursOfLines<W> {
+        ColoursOfLines {
+            output,
+            colour: String::new(),
+            in_sequence: false,
+        }
+    }
+
+    /// Writes text without escape sequences.
+    fn write_text(&mut self, text: &str) -> fmt::Result {
+        if self.colour.is_empty() {
+            return self.output.write_str(text);
+        }
+        let mut rest = text;
+        while let Some((contents, next)) = rest.split_once('\n') {
+            self.output.write_str(contents)?;
+            self.output.write_str("\x1b[0m\n")?;
+            self.output.write_str(&self.colour)?;
+            rest = next;
+        }
+        self.output.write_str(rest)
+    }
+}
+
+impl<W: fmt::Write> fmt::Write for ColoursOfLines<W> {
+    fn write_str(&mut self, mut text: &str) -> fmt::Result {
+        while !text.is_empty() {
+            if !self.in_sequence {
+                let start = text.find('\x1b').unwrap_or(text.len());
+                let (before, rest) = text.split_at(start);
+                self.write_text(before)?;
+                self.in_sequence = !rest.is_empty();
+                text = rest;
+                continue;
+            }
+            let end = text.find('m').map_or(text.len(), |at| at + 1);
+            let (part, rest) = text.split_at(end);
+            self.output.write_str(part)?;
+            self.colour.push_str(part);
+            if part.ends_with('m') {
+                self.in_sequence = false;
+                if self.colour.ends_with("\x1b[0m") {
+                    self.colour.clear();
+                }
+            }
+            text = rest;
+        }
+        Ok(())
     }
 }

@@ -33,7 +33,14 @@ fn formats() {
         (
             &["--color=always"],
             "\u{feff}#!/bin/x\r\n---\r\n---\r\nfn b\r\n",
-            "\u{feff}\x1b[90m#!/bin/x\x1b[0m\r\n\x1b[36m---\r\n---\x1b[0m\r\n\x1b[35mfn\x1b[0m b\r\n",
+            "\u{feff}\x1b[90m#!/bin/x\x1b[0m\r\n\x1b[36m---\r\x1b[0m\n\x1b[36m---\x1b[0m\r\n\x1b[35mfn\x1b[0m b\r\n",
+        ),
+        (
+            &["--color=always"],
+            "/* a\n\n b */\n'a\n\"b\n",
+            "\x1b[90m/* a\x1b[0m\n\x1b[90m\x1b[0m\n\x1b[90m b */\x1b[0m\n\x1b[33m'a\x1b[0m\n\
+             \x1b[4;31m\x1b[32m\"b\x1b[0m\x1b[0;31m [<- unterminated string: missing closing quote]\x1b[0m\
+             \x1b[32m\x1b[0m\n\x1b[32m\x1b[0m",
         ),
     ] {
         let words = [&["highlight"], arguments].concat();
