@@ -7,7 +7,7 @@ pub mod Numbers
 pub mod Offsets
 pub mod Places
 pub mod RawStr
-pub mod Relexer
+pub mod Relex
 pub mod Boundary
 pub mod Splice
 pub mod Buffer
