@@ -5,8 +5,6 @@
 //! allocation of Rust's own `std` fails, the process aborts. These allocations happen at the start, before any input is
 //! read: in [`env::args`], and for the buffers of the standard streams, which are never used.
 
-#![deny(missing_docs)]
-
 pub mod env;
 pub mod io;
 pub mod rt;

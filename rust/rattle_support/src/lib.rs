@@ -2,7 +2,10 @@
 //! trusted: each item must meet the contract of the item with the same name in Rattle.
 
 #![no_std]
-#![deny(unsafe_op_in_unsafe_fn)]
+#![allow(
+    clippy::missing_errors_doc,
+    reason = "the only errors are failed allocations and `from_utf8`'s"
+)]
 #![cfg_attr(feature = "portable", forbid(unsafe_code))]
 
 #[cfg(feature = "alloc")]
@@ -16,6 +19,11 @@ pub mod simd;
 mod lists;
 #[cfg(not(feature = "alloc"))]
 #[path = "no_lists.rs"]
+#[allow(
+    missing_docs,
+    clippy::must_use_candidate,
+    reason = "`lists.rs` has the documentation"
+)]
 mod lists;
 
 pub use lists::{String, Vec};

@@ -16,14 +16,18 @@ pub struct Vec<T>(alloc::vec::Vec<T>);
 
 impl<T> Vec<T> {
     /// Creates an empty list.
+    #[must_use]
     pub fn new(_: Global) -> Vec<T> {
         Vec(alloc::vec::Vec::new())
     }
 
+    /// Returns the items as a slice.
+    #[must_use]
     pub fn as_slice(&self) -> &[T] {
         &self.0
     }
 
+    /// Returns the items as a mutable slice.
     pub fn as_mut_slice(&mut self) -> &mut [T] {
         &mut self.0
     }
@@ -36,6 +40,8 @@ impl<T> Vec<T> {
         Ok(())
     }
 
+    /// Returns how many items fit without another allocation.
+    #[must_use]
     pub fn capacity(&self) -> usize {
         self.0.capacity()
     }
@@ -101,6 +107,7 @@ pub struct String(alloc::string::String);
 
 impl String {
     /// Creates an empty text.
+    #[must_use]
     pub fn new(_: Global) -> String {
         String(alloc::string::String::new())
     }
@@ -113,6 +120,8 @@ impl String {
         Ok(String(held))
     }
 
+    /// Returns the text as a slice.
+    #[must_use]
     pub fn as_str(&self) -> &str {
         &self.0
     }

@@ -76,12 +76,19 @@ fn both<const N: usize>(
 }
 
 impl<const N: usize> Bytes<N> {
+    /// Returns a vector whose bytes all have this value.
+    #[must_use]
     #[inline(always)]
     pub fn splat(byte: u8) -> Bytes<N> {
         Bytes([lanes::splat(byte); N])
     }
 
-    /// Returns the first bytes of the slice. Panics if the slice is shorter than the vector.
+    /// Returns the first bytes of the slice.
+    ///
+    /// # Panics
+    ///
+    /// Panics if the slice is shorter than the vector.
+    #[must_use]
     #[inline(always)]
     pub fn from_slice(bytes: &[u8]) -> Bytes<N> {
         let bytes = &bytes[..N * COUNT];
@@ -98,21 +105,29 @@ impl<const N: usize> Bytes<N> {
         Bytes(loaded)
     }
 
+    /// Returns which bytes are equal to the ones in the same place.
+    #[must_use]
     #[inline(always)]
     pub fn simd_eq(self, other: Bytes<N>) -> Mask<N> {
         Mask(both(self.0, other.0, lanes::eq))
     }
 
+    /// Returns which bytes are not equal to the ones in the same place.
+    #[must_use]
     #[inline(always)]
     pub fn simd_ne(self, other: Bytes<N>) -> Mask<N> {
         Mask(both(self.0, other.0, |a, b| lanes::not(lanes::eq(a, b))))
     }
 
+    /// Returns which bytes are greater than or equal to the ones in the same place.
+    #[must_use]
     #[inline(always)]
     pub fn simd_ge(self, other: Bytes<N>) -> Mask<N> {
         Mask(both(self.0, other.0, lanes::ge))
     }
 
+    /// Returns which bytes are less than the ones in the same place.
+    #[must_use]
     #[inline(always)]
     pub fn simd_lt(self, other: Bytes<N>) -> Mask<N> {
         Mask(both(self.0, other.0, |a, b| lanes::not(lanes::ge(a, b))))
@@ -140,6 +155,7 @@ impl<const N: usize> Sub for Bytes<N> {
 
 impl<const N: usize> Mask<N> {
     /// Returns the lanes as bits. Bit k is set if lane k is.
+    #[must_use]
     #[inline(always)]
     pub fn to_bitmask(self) -> u64 {
         lanes::bits(&self.0)

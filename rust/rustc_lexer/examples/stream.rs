@@ -1,6 +1,13 @@
 //! Prints the tokens of a document on standard input as soon as they are final, one per line: `tail -c +1 -f FILE |
 //! cargo run --example stream`. The document can arrive in chunks of any size, which can end inside a character. For a
 //! fragment, `LexedText::settled` returns where its final tokens end.
+
+#![allow(
+    clippy::missing_errors_doc,
+    clippy::must_use_candidate,
+    reason = "an example has no public interface"
+)]
+
 mod common;
 
 use rustc_lexer::incremental::Head;

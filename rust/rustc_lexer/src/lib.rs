@@ -41,12 +41,6 @@
 #![cfg_attr(feature = "alloc", doc = "```")]
 #![no_std]
 #![cfg_attr(docsrs, feature(doc_cfg))]
-#![deny(missing_docs)]
-#![warn(
-    clippy::missing_errors_doc,
-    clippy::missing_panics_doc,
-    clippy::must_use_candidate
-)]
 #![forbid(unsafe_code)]
 
 #[cfg(feature = "alloc")]

@@ -4,6 +4,13 @@
 //! `cargo run -p verified-rustc-lexer-highlight --example lsp -- FILE` prints all tokens. Then it reads changes from
 //! standard input, one per line, as LINE CHARACTER LINE CHARACTER TEXT, and prints how the tokens change.
 
+#![allow(
+    missing_docs,
+    clippy::missing_errors_doc,
+    clippy::must_use_candidate,
+    reason = "an example has no public interface"
+)]
+
 use rustc_lexer::{EditError, LexedDocument, Piece, Pieces, Relexed};
 use rustc_lexer_highlight::{Class, Edition, KeywordKind, class_of, keyword_kind};
 use std::error::Error;

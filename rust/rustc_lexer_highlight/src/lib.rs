@@ -23,12 +23,6 @@
 //! computing base.
 
 #![no_std]
-#![deny(missing_docs)]
-#![warn(
-    clippy::missing_errors_doc,
-    clippy::missing_panics_doc,
-    clippy::must_use_candidate
-)]
 #![forbid(unsafe_code)]
 
 /// The proved source without its contracts, generated from `crates/rustc_lexer_highlight`.
