@@ -63,8 +63,8 @@ pub fn write(
     output: &mut impl Write,
 ) -> io::Result<()> {
     let (head, foot) = match format {
-        Format::Html => (HEAD, FOOT),
-        Format::Colours | Format::NoColours | Format::Raw => ("", ""),
+        Format::Html => (HEAD.concat(), FOOT),
+        Format::Colours | Format::NoColours | Format::Raw => (String::new(), ""),
     };
     let highlighted = Highlighted {
         text,

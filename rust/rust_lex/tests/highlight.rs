@@ -4,6 +4,7 @@
 mod common;
 
 use common::{check_ended, check_shell, empty_folder, run_with_input, rust_lex, text_of};
+use rustc_lexer_highlight::STYLE_SHEET;
 use std::fs;
 
 #[test]
@@ -61,19 +62,13 @@ fn page() {
         let words = [&["highlight"], arguments].concat();
         let ended = run_with_input(&mut rust_lex(&folder, &words), b"fn <");
         let page = text_of(&ended.stdout);
-        let end = "<body>\n<pre>\n<span class=\"keyword\">fn</span> &lt;</pre>\n</body>\n</html>\n";
+        let end = "<body class=\"rust-code\">\n<pre>\n<span class=\"keyword\">fn</span> &lt;</pre>\n</body>\n</html>\n";
         assert!(
             page.starts_with("<!DOCTYPE html>\n") && page.ends_with(end),
             "{page}"
         );
         assert!(!page.contains("<script"));
-        for class in [
-            "comment", "doc", "keyword", "type", "text", "escape", "number", "lifetime",
-        ] {
-            assert!(
-                page.contains(&format!("\n.{class} {{")) || page.contains(&format!("\n.{class}, "))
-            );
-        }
+        assert!(page.contains(&format!("<style>\n{STYLE_SHEET}")));
     }
 }
 

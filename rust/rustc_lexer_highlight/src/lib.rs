@@ -41,6 +41,8 @@
 )]
 #[doc(hidden)]
 pub mod generated;
+#[cfg(test)]
+mod tests;
 
 #[doc(inline)]
 pub use generated::{
@@ -51,6 +53,29 @@ pub use rustc_lexer::Edition;
 
 use core::fmt;
 use rustc_lexer::TokenKind;
+
+/// A style sheet for the HTML that [`write_highlighted`] writes.
+///
+/// It has light and dark colours, which follow the reader's preference, and shows the message of each error in a frame.
+/// All rules apply only inside elements with the class `rust-code`, so the rest of a page keeps its style. Each colour
+/// is a custom property of these elements, such as `--keyword`, which your own style sheet can set after this one.
+///
+/// Fonts, margins and line breaks are left to the page.
+///
+/// # Examples
+///
+/// ```
+/// use rustc_lexer_highlight::{Edition, Format, STYLE_SHEET, write_highlighted};
+///
+/// // A browser drops a newline right after `<pre>`.
+/// let mut page = format!("<style>\n{STYLE_SHEET}</style>\n<pre class=\"rust-code\">\n");
+/// write_highlighted(Format::Html, Edition::E2024, "fn", &mut page).unwrap();
+/// page.push_str("</pre>\n");
+///
+/// assert!(page.contains("\n.rust-code .keyword { color: var(--keyword);"));
+/// assert!(page.ends_with("<pre class=\"rust-code\">\n<span class=\"keyword\">fn</span></pre>\n"));
+/// ```
+pub const STYLE_SHEET: &str = include_str!("style.css");
 
 /// Returns the text, or panics if it is too long.
 #[track_caller]
