@@ -41,6 +41,7 @@ fn shell_commands() {
 }
 
 #[test]
+#[ignore = "needs PROGRAMS"]
 fn both_builds_print_the_same() {
     let lines = [
         "",

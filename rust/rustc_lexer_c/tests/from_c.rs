@@ -1,5 +1,6 @@
 //! Tests the library from C: the names that it exports and imports, the header, and the programs in `c`, which link
-//! with the static and the shared library. If a tool is missing, tests that need it are skipped with a message.
+//! with the static and the shared library. These tests need `cc`, with which rustc links too. If another tool is
+//! missing, tests that need it are skipped with a message.
 //!
 //! With `LIBRARY=FILE` the programs link with that static library, for example one that Rattle built.
 #![cfg(target_os = "linux")]

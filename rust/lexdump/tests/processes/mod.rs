@@ -30,12 +30,10 @@ pub fn check_rows(name: &str, built: &str, rows: &[Row]) {
     }
 }
 
-/// With PROGRAMS, runs both builds on each source of the repository, with each line of arguments. Their output, errors
-/// and status must be the same.
+/// Runs both builds on each source of the repository, with each line of arguments. Their output, errors and status must
+/// be the same.
 pub fn check_builds(name: &str, built: &str, lines: &[&str]) {
-    let Ok(folder) = env::var("PROGRAMS") else {
-        return;
-    };
+    let folder = env::var("PROGRAMS").expect("PROGRAMS is the folder with the other build");
     let programs = [built.to_string(), format!("{folder}/{name}/out/{name}")];
     let files = Command::new("git")
         .args(["ls-files", "*.rs", "*.rt"])
