@@ -1,5 +1,5 @@
-// Tests the drawing of page.js and its timing without a browser: stubs replace the DOM and the lexer. Only this finds a
-// wrong drawing on a machine without Chromium; tests/manual/page tests the page itself.
+// Tests the drawing of page.js and its timing without a browser: stubs replace the DOM and the lexer. This is the only
+// check that finds a wrong drawing on a machine without Chromium; tests/manual/page tests the page itself.
 //
 // usage: node tests/page/alone.mjs
 import { deepStrictEqual as same } from 'node:assert';

@@ -1,8 +1,8 @@
 //! Times the lexer on adversarial input, 1 MB and 4 MB of each shape: `cargo run --release --bin hostile`.
 //!
-//! Only this finds a lexer that is slower than linear, or that recurses too deeply. It fails if the long text needs
-//! more than three times as much time per byte as the short one. If ordinary Rust, the first shape, is also slower on a
-//! busy machine, the limit is higher.
+//! This is the only check that finds a lexer that is slower than linear, or that recurses too deeply. It fails if the
+//! long text needs more than three times as much time per byte as the short one. If ordinary Rust, the first shape, is
+//! also slower on a busy machine, the limit is higher.
 
 use rustc_lexer::{FrontmatterAllowed, tokenize};
 use std::hint::black_box;
