@@ -1,6 +1,5 @@
 //! The inputs: files, standard input, and the files in folders.
 
-use crate::streams::Stream;
 use std::ffi::{OsStr, OsString};
 use std::fs::{self, DirEntry, File};
 use std::io::{self, Read};
@@ -19,7 +18,7 @@ pub struct Source {
 pub fn read(input: &OsString) -> Result<Source, String> {
     let name = name_of(input);
     let bytes = if input == "-" {
-        read_all(Stream::stdin(), 0)
+        read_all(io::stdin().lock(), 0)
     } else {
         File::open(input).and_then(|file| {
             let len = file.metadata()?.len();

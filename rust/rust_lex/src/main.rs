@@ -8,7 +8,6 @@ mod highlight;
 mod inputs;
 mod page;
 mod position;
-mod streams;
 mod tokens;
 
 use arguments::{Command, Request};
@@ -17,9 +16,8 @@ use inputs::{Source, files_of, printable, read};
 use rustc_lexer::Edition;
 use std::env;
 use std::fmt::Display;
-use std::io::{self, BufWriter, ErrorKind, Write};
+use std::io::{self, BufWriter, ErrorKind, StdoutLock, Write};
 use std::process::ExitCode;
-use streams::Stream;
 
 /// The exit status. If several apply, the highest wins.
 #[derive(Clone, Copy, PartialEq, Eq, PartialOrd, Ord)]
@@ -33,7 +31,7 @@ enum Status {
 
 fn main() -> ExitCode {
     let mut run = Run {
-        output: BufWriter::new(Stream::stdout()),
+        output: BufWriter::with_capacity(1 << 16, io::stdout().lock()),
         status: Status::Success,
     };
     let done = match arguments::parse(env::args_os().skip(1)) {
@@ -59,7 +57,7 @@ fn print_message(message: impl Display) {
 
 /// A run of the program. Its methods return an error only if a write to the output fails.
 struct Run {
-    output: BufWriter<Stream>,
+    output: BufWriter<StdoutLock<'static>>,
     status: Status,
 }
 
@@ -112,7 +110,7 @@ impl Run {
     fn for_each(
         &mut self,
         sources: impl Iterator<Item = Result<Source, String>>,
-        mut write: impl FnMut(&mut BufWriter<Stream>, &Source) -> io::Result<()>,
+        mut write: impl FnMut(&mut BufWriter<StdoutLock<'static>>, &Source) -> io::Result<()>,
     ) -> io::Result<usize> {
         let mut failures = 0;
         for source in sources {

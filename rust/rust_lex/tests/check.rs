@@ -427,10 +427,11 @@ fn streams() {
             ("$P check --help > /dev/full", "", full, 2),
             ("$P check valid.rs > /dev/full", "", valid, 0),
             (
+                // As in other programs in Rust, a closed stream is empty, or discards the output.
                 "$P check one.rs >&-",
                 "",
-                "rust-lex: standard output: the stream is closed\n",
-                2,
+                "rust-lex: 1 file checked: 1 error, 0 warnings\n",
+                1,
             ),
             ("$P check missing.rs 2> /dev/full", "", "", 2),
             (
@@ -439,12 +440,7 @@ fn streams() {
                 &format!("rust-lex: <stdin>: Is a directory (os error 21)\n{none}"),
                 2,
             ),
-            (
-                "$P check - <&-",
-                "",
-                &format!("rust-lex: <stdin>: the stream is closed\n{none}"),
-                2,
-            ),
+            ("$P check - <&-", "", valid, 0),
             // Messages are in order with the lines of the files before and after.
             (
                 "$P check one.rs latin.rs one.rs 2>&1",

@@ -174,18 +174,8 @@ fn terminals_and_streams() {
                 "rust-lex: /: Is a directory (os error 21)\n",
                 2,
             ),
-            (
-                "$P highlight <&-",
-                "",
-                "rust-lex: <stdin>: the stream is closed\n",
-                2,
-            ),
-            (
-                "$P highlight t >&-",
-                "",
-                "rust-lex: standard output: the stream is closed\n",
-                2,
-            ),
+            ("$P highlight <&-", "", "", 0),
+            ("$P highlight t >&-", "", "", 0),
             (
                 "$P highlight t > /dev/full",
                 "",
