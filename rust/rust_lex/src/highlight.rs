@@ -1,6 +1,6 @@
 //! Prints files in colours, or one file as a web page.
 
-use crate::page::{FOOT, HEAD};
+use crate::page::{FOOT, HEAD, STYLE_SHEET};
 use rustc_lexer_highlight::{Edition, Format, write_highlighted};
 use std::env;
 use std::fmt;
@@ -9,7 +9,7 @@ use std::io::{self, IsTerminal, Write};
 /// When to print colours.
 #[derive(Clone, Copy, Default)]
 pub enum Color {
-    /// On a terminal, unless `NO_COLOR` has a value or `TERM` is `dumb`.
+    /// Usually on a terminal, but environment variables can change that.
     #[default]
     Auto,
     Always,
@@ -28,9 +28,16 @@ impl Color {
             Color::Always => true,
             Color::Never => false,
             Color::Auto => {
-                let is_off = env::var_os("NO_COLOR").is_some_and(|value| !value.is_empty())
-                    || env::var_os("TERM").is_some_and(|value| value == "dumb");
-                !is_off && io::stdout().is_terminal()
+                let value = |name| env::var_os(name).filter(|value| !value.is_empty());
+                if value("NO_COLOR").is_some() {
+                    false
+                } else if value("CLICOLOR_FORCE").is_some_and(|value| value != "0") {
+                    true
+                } else {
+                    value("CLICOLOR").is_none_or(|value| value != "0")
+                        && value("TERM").is_some_and(|value| value != "dumb")
+                        && io::stdout().is_terminal()
+                }
             }
         }
     }
@@ -40,38 +47,54 @@ impl Color {
 #[derive(Clone, Copy, PartialEq, Eq)]
 pub enum Markup {
     /// A web page.
-    Html,
+    Page,
+    /// The part of a web page that is the file.
+    Fragment,
+    /// The style sheet of the page.
+    Css,
     /// Plain text with control characters as they are.
     Raw,
+}
+
+impl Markup {
+    /// Returns the option that selects it.
+    pub fn option(self) -> &'static str {
+        match self {
+            Markup::Page | Markup::Fragment => "--html",
+            Markup::Css => "--css",
+            Markup::Raw => "--raw",
+        }
+    }
 }
 
 /// Returns the output format for the options.
 pub fn format(markup: Option<Markup>, color: Color) -> Format {
     match markup {
-        Some(Markup::Html) => Format::Html,
+        Some(Markup::Page | Markup::Fragment | Markup::Css) => Format::Html,
         Some(Markup::Raw) => Format::Raw,
         None if color.is_wanted() => Format::Colours,
         None => Format::NoColours,
     }
 }
 
-/// Writes a file, or a whole page if the format is HTML.
+/// Writes a file, or a whole page.
 pub fn write(
     text: &str,
+    markup: Option<Markup>,
     format: Format,
     edition: Edition,
     output: &mut impl Write,
 ) -> io::Result<()> {
-    let (head, foot) = match format {
-        Format::Html => (HEAD, FOOT),
-        Format::Colours | Format::NoColours | Format::Raw => ("", ""),
-    };
     let highlighted = Highlighted {
         text,
         format,
         edition,
     };
-    write!(output, "{head}{highlighted}{foot}")
+    if markup != Some(Markup::Page) {
+        return write!(output, "{highlighted}");
+    }
+    let [start, end] = HEAD;
+    write!(output, "{start}{STYLE_SHEET}{end}{highlighted}{FOOT}")
 }
 
 /// A file, whose `Display` is the highlighted text.

@@ -1,13 +1,24 @@
 //! The web page around a highlighted file.
 
-/// The page before the text. It ends with a newline, since browsers drop a newline right after `<pre>`.
-pub const HEAD: &str = "<!DOCTYPE html>
+/// The page before the style sheet, and the page between it and the text, which ends with a newline, since browsers drop
+/// a newline right after `<pre>`.
+pub const HEAD: [&str; 2] = [
+    "<!DOCTYPE html>
 <html lang=\"en\">
 <head>
 <meta charset=\"utf-8\">
 <meta name=\"viewport\" content=\"width=device-width\">
 <title>Rust</title>
 <style>
+",
+    "</style>
+</head>
+<body>
+<pre>
+",
+];
+
+pub const STYLE_SHEET: &str = "\
 :root { color-scheme: light dark; --back: #ffffff; --plain: #24292f; --comment: #6e7781; --doc: #2f6f4f;
   --keyword: #a0268c; --type: #0b5cad; --text: #0a6b2d; --escape: #0f7c86; --number: #9a4a00; --lifetime: #8a5a00;
   --fault: #c4162a; }
@@ -31,10 +42,6 @@ mark { background: none; color: inherit; text-decoration: underline wavy var(--f
 mark::after { content: attr(title); display: inline-block; max-width: 100%; box-sizing: border-box; margin: 0 0.5em;
   padding: 0 0.5em; border: 1px solid var(--fault); border-radius: 4px; color: var(--fault);
   font: 12px/1.4 sans-serif; white-space: normal; }
-</style>
-</head>
-<body>
-<pre>
 ";
 
 /// The page after the text.

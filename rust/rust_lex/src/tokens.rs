@@ -1,16 +1,19 @@
 //! Lists the tokens of files, in the format of `lexdump`.
 
 use rustc_lexer::LiteralKind::{self, *};
-use rustc_lexer::{DocStyle, Edition, Piece, TokenKind, tokenize_document};
+use rustc_lexer::{DocStyle, Edition, Token, TokenKind, tokenize_document};
 use std::io::{self, Write};
 
 /// Writes a line for each token of a file: its offset, length and kind, and the fields of the kind.
 pub fn list(text: &str, edition: Edition, output: &mut impl Write) -> io::Result<()> {
-    for Piece { start, token, .. } in tokenize_document(text, edition).pieces() {
-        write!(output, "{start} {} ", token.len)?;
-        output.write_all(token.kind.name().as_bytes())?;
-        write_fields(token.kind, output)?;
+    let tokens = tokenize_document(text, edition);
+    let mut start = tokens.offset();
+    for Token { kind, len } in tokens {
+        write!(output, "{start} {len} ")?;
+        output.write_all(kind.name().as_bytes())?;
+        write_fields(kind, output)?;
         output.write_all(b"\n")?;
+        start += len as usize;
     }
     Ok(())
 }

@@ -46,7 +46,7 @@ fn files() {
         ),
         (
             "¬\n  1e \u{1f642}é\n",
-            "a.rs:1:1: error: unexpected character: no token starts with it\n\
+            "a.rs:1:1: error: unexpected character U+00AC: no token starts with it\n\
              a.rs:2:3: error: exponent has no digits\n\
              a.rs:2:6: error: invalid identifier: contains an emoji\n",
             1,
@@ -110,7 +110,7 @@ fn starts_of_files() {
         ("#!/bin/sh\n\n---\n", format!("a.rs:3:1: error: {unclosed}")),
         (
             "\u{feff}\u{feff}",
-            "a.rs:1:1: error: unexpected character: no token starts with it\n".to_string(),
+            "a.rs:1:1: error: unexpected character U+FEFF: no token starts with it\n".to_string(),
         ),
     ] {
         check_text("starts_of_files", &[], text, &output, 1);
@@ -141,22 +141,112 @@ fn line_endings() {
 
 #[test]
 fn editions() {
-    let prefix = "a.rs:1:1: error: unknown prefix before a quote or `#`\n";
-    let guarded = "a.rs:1:1: error: reserved syntax: guarded string\n";
-    for (arguments, text, output, status) in [
-        (&[][..], "z\"a\"", prefix, 1),
-        (&["--edition", "2021"], "z\"a\"", prefix, 1),
-        (&["--edition=2018"], "z\"a\"", "", 0),
-        (&["--edition", "2015"], "z\"a\"", "", 0),
-        // Before 2021, this is a name, `#` and a name.
-        (&["--edition=2018"], "k#a", "", 0),
-        (&["--edition=2021"], "k#a", prefix, 1),
-        (&[], "##", guarded, 1),
-        (&["--edition=2024"], "##", guarded, 1),
-        (&["--edition=2021"], "##", "", 0),
+    let prefix = "unknown prefix before a quote or `#`\n";
+    let guarded = "reserved syntax: guarded string\n";
+    let escape = "unknown escape: write a backslash as `\\\\`\n";
+    let unterminated = "unterminated string: missing closing quote\n";
+    let long = "too many characters: expected one between single quotes\n";
+    let empty = "number has no digits\n";
+    // A text, and a column and a message for each error.
+    for (years, text, errors) in [
+        (&["2021", "2024"][..], "z\"a\"", &[(1, prefix)][..]),
+        (&["2015", "2018"], "z\"a\"", &[]),
+        // Before 2021, `k` is a name. rustc has no forced keywords.
+        (
+            &["2015", "2018"],
+            "k#b\"\\q\" 0x",
+            &[(5, escape), (9, empty)],
+        ),
+        (
+            &["2021", "2024"],
+            "k#b\"\\q\" 0x",
+            &[(1, prefix), (5, escape), (9, empty)],
+        ),
+        (&["2024"], "k#a\"\"", &[(1, prefix), (3, prefix)]),
+        // Before 2021, C strings are a name and a string or hashes.
+        (
+            &["2015", "2018", "2021", "2024"],
+            "c\"\\q\" 0x",
+            &[(3, escape), (7, empty)],
+        ),
+        (&["2015", "2018"], "c\"\0\" c\"a", &[(7, unterminated)]),
+        (&["2021", "2024"], "cr\"\\q\" cr#\"\\q\"#", &[]),
+        (
+            &["2015", "2018"],
+            "cr\"\\q\" 0x",
+            &[(4, escape), (8, empty)],
+        ),
+        (
+            &["2015", "2018"],
+            "cr#\"\\q\"# cr##a 0x",
+            &[(5, escape), (16, empty)],
+        ),
+        (
+            &["2015", "2018"],
+            "cr#a#\"\\q\" c\"\"c\"\" 0x",
+            &[(7, escape), (18, empty)],
+        ),
+        // Since 2021, a raw lifetime and a quote are a character.
+        (&["2021", "2024"], "'r#fn'a' 0x", &[(1, long), (10, empty)]),
+        (&["2015", "2018"], "'r#fn'a' 0x", &[(10, empty)]),
+        (&["2021", "2024"], "'r#fn 'a' 'r#a", &[]),
+        // In 2024, guarded strings are reserved.
+        (
+            &["2015", "2018", "2021"],
+            "#\"\\q\"# ## ##\"\\q\"##",
+            &[(3, escape), (14, escape)],
+        ),
+        (
+            &["2024"],
+            "#\"\\q\"# ## ##\"\\q\"##",
+            &[(1, guarded), (8, guarded), (11, guarded)],
+        ),
+        (
+            &["2024"],
+            "#\"0x\" 0x \"\\q\"",
+            &[(1, guarded), (7, empty), (11, escape)],
+        ),
+        (&["2024"], "#\"a\\\"b\"c 0x", &[(1, guarded), (10, empty)]),
+        (&["2024"], "##\"a\"### 0x", &[(1, guarded), (10, empty)]),
+        (
+            &["2024"],
+            "##### 0x",
+            &[(1, guarded), (3, guarded), (7, empty)],
+        ),
+        (
+            &["2024"],
+            "#\"#\"#\" # 0x",
+            &[(1, guarded), (6, unterminated)],
+        ),
+        // Hashes and quotes that are not adjacent are allowed.
+        (&["2024"], "# \"\" #'a' #b\"\" r#\"\"#", &[]),
+        // rustc stops after an unterminated one.
+        (
+            &["2024"],
+            "0x ##\"0x ## \\\"",
+            &[(1, empty), (6, unterminated)],
+        ),
     ] {
-        check_text("editions", arguments, text, output, status);
+        let line = |(column, message): &(i32, &str)| format!("a.rs:1:{column}: error: {message}");
+        let output: String = errors.iter().map(line).collect();
+        for year in years {
+            let status = (!errors.is_empty()).into();
+            check_text("editions", &["--edition", year], text, &output, status);
+            if *year == "2024" {
+                check_text("editions", &[], text, &output, status);
+            }
+        }
     }
+}
+
+/// A second search for a quote after each of these hashes would take minutes.
+#[test]
+fn many_hashes() {
+    let folder = empty_folder("many_hashes");
+    fs::write(folder.join("a.rs"), "#".repeat(1 << 20)).unwrap();
+    let ended = rust_lex(&folder, &["check", "a.rs"]).output().unwrap();
+    assert_eq!(text_of(&ended.stdout).lines().count(), 1 << 19);
+    assert_eq!(ended.status.code(), Some(1));
 }
 
 /// Returns a folder with this name and five files.
@@ -212,28 +302,81 @@ fn several_files() {
 #[test]
 fn files_that_cannot_be_checked() {
     let folder = folder_of_files("unreadable");
-    for (file, reason) in [
-        ("latin.rs", "invalid UTF-8 at byte offset 6\n"),
-        // The rest of these messages comes from the operating system.
-        ("missing.rs", ""),
-    ] {
-        let arguments = ["check", "one.rs", file, "./one.rs"];
-        let ended = rust_lex(&folder, &arguments).output().unwrap();
-        let errors = text_of(&ended.stderr);
-        assert!(
-            errors.starts_with(&format!("rust-lex: {file}: {reason}")),
-            "{errors}"
-        );
-        let summary = "\nrust-lex: 2 files checked, 1 not checked: 2 errors, 0 warnings\n";
-        assert!(errors.ends_with(summary), "{errors}");
-        assert_eq!(errors.lines().count(), 2, "{errors}");
-        let one = "one.rs:1:1: error: number has no digits\n";
-        assert_eq!(text_of(&ended.stdout), format!("{one}./{one}"));
-        assert_eq!(ended.status.code(), Some(2), "{file}");
-    }
+    let one = "one.rs:1:1: error: number has no digits\n";
+    let arguments = ["check", "one.rs", "missing.rs", "./one.rs"];
+    let ended = rust_lex(&folder, &arguments).output().unwrap();
+    let errors = text_of(&ended.stderr);
+    // The rest of the message comes from the operating system.
+    assert!(errors.starts_with("rust-lex: missing.rs: "), "{errors}");
+    let summary = "\nrust-lex: 2 files checked, 1 not checked: 2 errors, 0 warnings\n";
+    assert!(errors.ends_with(summary), "{errors}");
+    assert_eq!(errors.lines().count(), 2, "{errors}");
+    assert_eq!(text_of(&ended.stdout), format!("{one}./{one}"));
+    assert_eq!(ended.status.code(), Some(2));
 }
 
-/// A folder stands for the `*.rs` files in it and below, without hidden folders, `target` and symbolic links.
+/// The first invalid bytes have a position, as in rustc. Nothing else is reported for the file.
+#[test]
+fn not_utf8() {
+    let folder = empty_folder("not_utf8");
+    let summary = "rust-lex: 0 files checked, 1 not checked: 1 error, 0 warnings\n";
+    for (text, position, range) in [
+        (&b"\xff"[..], [1, 1], [0, 1]),
+        (b"0x\xffa\xff", [1, 3], [2, 3]),
+        ("0x\n\u{e9}\u{1f642}\t\r".as_bytes(), [2, 5], [11, 12]),
+        (b"\r\n\r\n", [3, 1], [4, 5]),
+        (b"\xef\xbb\xbfa", [1, 2], [4, 5]),
+    ] {
+        let [line, column] = position;
+        let [start, end] = range;
+        let text = if text.contains(&0xff) {
+            text.to_vec()
+        } else {
+            [text, b"\xff\n"].concat()
+        };
+        fs::write(folder.join("a.rs"), text).unwrap();
+        for (format, output) in [
+            (
+                "short",
+                format!("a.rs:{line}:{column}: error: invalid UTF-8\n"),
+            ),
+            (
+                "github",
+                format!(
+                    "::error file=a.rs,line={line},col={column},title=rust-lex (invalid-utf8)\
+                     ::a.rs:{line}:{column}: invalid UTF-8\n"
+                ),
+            ),
+            (
+                "json",
+                format!(
+                    "{{\"file\":\"a.rs\",\"line\":{line},\"column\":{column},\"start\":{start},\"end\":{end},\
+                     \"severity\":\"error\",\"code\":\"invalid-utf8\",\"message\":\"invalid UTF-8\"}}\n"
+                ),
+            ),
+        ] {
+            let mut program = rust_lex(&folder, &["check", "--format", format, "a.rs"]);
+            check_ended(&program.output().unwrap(), &output, summary, 2, format);
+        }
+    }
+    // An incomplete character at the end.
+    let ended = run_with_input(&mut rust_lex(&folder, &["check", "-"]), b"a\xe2\x82");
+    check_ended(
+        &ended,
+        "<stdin>:1:2: error: invalid UTF-8\n",
+        summary,
+        2,
+        "incomplete",
+    );
+    let ended = run_with_input(
+        &mut rust_lex(&folder, &["check", "--format=json", "-"]),
+        b"a\xe2\x82",
+    );
+    assert!(text_of(&ended.stdout).contains("\"start\":1,\"end\":3,"));
+}
+
+/// For a folder, the `*.rs` files in it and below are checked, without hidden folders, build folders of Cargo and symbolic
+/// links.
 #[test]
 fn folders() {
     let folder = empty_folder("folders");
@@ -259,6 +402,8 @@ fn folders() {
         ".git/n.rs",
         "b/.hidden/n.rs",
         "b/target/n.rs",
+        "b/target/CACHEDIR.TAG",
+        "b/c/CACHEDIR.TAG",
         "target/n.rs",
         "target/e/w.rs",
         "b/rs",
@@ -280,14 +425,17 @@ fn folders() {
                 "./b/x.rs",
                 "./b.rs",
                 "./d.rs/z.rs",
+                // There is no file CACHEDIR.TAG here.
+                "./target/e/w.rs",
+                "./target/n.rs",
             ][..],
         ),
         (&["b", "a.rt"], &["b/c/y.rs", "b/x.rs", "a.rt"]),
         (&["d.rs", "b/c"], &["d.rs/z.rs", "b/c/y.rs"]),
         // The arguments are not skipped.
         (
-            &["target", "b/.hidden"],
-            &["target/e/w.rs", "target/n.rs", "b/.hidden/n.rs"],
+            &["b/target", "b/.hidden"],
+            &["b/target/n.rs", "b/.hidden/n.rs"],
         ),
     ] {
         let line = |file| format!("{file}:1:1: error: number has no digits\n");
@@ -303,42 +451,218 @@ fn folders() {
             &arguments.concat(),
         );
     }
-    let empty = folder.join("empty");
-    fs::create_dir(&empty).unwrap();
-    let ended = rust_lex(&empty, &["check", "."]).output().unwrap();
-    check_ended(&ended, "", &summary(0, ""), 0, "an empty folder");
+    fs::create_dir(folder.join("empty")).unwrap();
+    let ended = rust_lex(&folder, &["check", "empty"]).output().unwrap();
+    let warning = "rust-lex: warning: no Rust files in empty\n";
+    check_ended(
+        &ended,
+        "",
+        &(warning.to_string() + &summary(0, "")),
+        0,
+        "an empty folder",
+    );
+}
+
+#[test]
+fn excluded_files() {
+    let folder = empty_folder("excluded");
+    for name in ["a", "a/b", "ab"] {
+        fs::create_dir(folder.join(name)).unwrap();
+        fs::write(folder.join(name).join("x.rs"), "0x").unwrap();
+    }
+    for (excluded, input, files) in [
+        (&["a"][..], ".", &["./ab/x.rs"][..]),
+        (&["./a/"], ".", &["./ab/x.rs"]),
+        (&["a/b"], "./.", &["././a/x.rs", "././ab/x.rs"]),
+        (&["a/b/x.rs", "ab"], "a", &["a/x.rs"]),
+        (&["./a/x.rs"], "a", &["a/b/x.rs"]),
+        // The rest of a name is not enough.
+        (&["x.rs", "b", "a/b/x"], "a", &["a/b/x.rs", "a/x.rs"]),
+        // The arguments themselves can be excluded.
+        (&["a"], "a/x.rs", &[]),
+        (&["a/x.rs"], "./a/x.rs", &[]),
+    ] {
+        let mut arguments = vec!["check".to_string(), input.to_string()];
+        for (at, path) in excluded.iter().enumerate() {
+            match at {
+                0 => arguments.extend(["--exclude".to_string(), path.to_string()]),
+                _ => arguments.push(format!("--exclude={path}")),
+            }
+        }
+        let arguments: Vec<&str> = arguments.iter().map(String::as_str).collect();
+        let line = |file| format!("{file}:1:1: error: number has no digits\n");
+        let lines: String = files.iter().map(line).collect();
+        let ended = rust_lex(&folder, &arguments).output().unwrap();
+        let status = (!files.is_empty()).into();
+        check_ended(
+            &ended,
+            &lines,
+            &summary(files.len(), &lines),
+            status,
+            &arguments.concat(),
+        );
+    }
+    let ended = rust_lex(&folder, &["check", "a", "--exclude", "a"])
+        .output()
+        .unwrap();
+    let warning = "rust-lex: warning: no Rust files in a\n";
+    check_ended(
+        &ended,
+        "",
+        &(warning.to_string() + &summary(0, "")),
+        0,
+        "all are excluded",
+    );
+}
+
+/// Crates that allow the lints of rustc for these characters need this option.
+#[test]
+fn allowed_text_direction() {
+    let text = "// \u{202e}\nconst A: &str = \"\u{2066}\"; 0x";
+    let direction = "bidirectional control character: code may be displayed in a different order\n";
+    let empty = "a.rs:2:22: error: number has no digits\n";
+    let all = format!("a.rs:1:1: error: {direction}a.rs:2:17: error: {direction}{empty}");
+    check_text("direction", &[], text, &all, 1);
+    for allow in [
+        &["--allow", "text-direction"][..],
+        &["--allow=text-direction", "--allow", "text-direction"],
+    ] {
+        check_text("direction", allow, text, empty, 1);
+    }
+    check_text(
+        "direction",
+        &["--allow=text-direction"],
+        "/* \u{2069} */",
+        "",
+        0,
+    );
 }
 
 #[test]
 fn formats() {
     let folder = empty_folder("formats");
-    let text = "0x \"\\q\"\n\"a\\\n\n b\"";
+    let text = "\u{feff}0x \"\\q\"\n\"a\\\n\n b\"";
     for name in ["a.rs", "b,:%.rs"] {
         fs::write(folder.join(name), text).unwrap();
     }
-    let lines = "a.rs:1:1: error: number has no digits\n\
-        a.rs:1:5: error: unknown escape: write a backslash as `\\\\`\n\
-        a.rs:2:3: warning: skipped blank line: an escaped newline skips it too\n";
-    let commands = "::error file=NAME,line=1,col=1::number has no digits\n\
-        ::error file=NAME,line=1,col=5::unknown escape: write a backslash as `\\\\`\n\
-        ::warning file=NAME,line=2,col=3::skipped blank line: an escaped newline skips it too\n";
+    let [digits, escape, skipped] = [
+        "number has no digits",
+        "unknown escape: write a backslash as `\\\\`",
+        "skipped blank line: an escaped newline skips it too",
+    ];
+    let lines = format!(
+        "a.rs:1:1: error: {digits}\na.rs:1:5: error: {escape}\na.rs:2:3: warning: {skipped}\n"
+    );
+    let commands = format!(
+        "::error file=FILE,line=1,col=1,title=rust-lex (empty-number)::NAME:1:1: {digits}\n\
+         ::error file=FILE,line=1,col=5,title=rust-lex (invalid-escape)::NAME:1:5: {escape}\n\
+         ::warning file=FILE,line=2,col=3,title=rust-lex (multiple-skipped-lines-warning)\
+         ::NAME:2:3: {skipped}\n"
+    );
+    let of_file = commands.replace("FILE", "a.rs").replace("NAME", "a.rs");
+    let objects = format!(
+        r#"{{"file":"NAME","line":1,"column":1,"start":3,"end":5,"severity":"error","code":"empty-number","message":"{digits}"}}
+{{"file":"NAME","line":1,"column":5,"start":7,"end":9,"severity":"error","code":"invalid-escape","message":"{}"}}
+{{"file":"NAME","line":2,"column":3,"start":13,"end":17,"severity":"warning","code":"multiple-skipped-lines-warning","message":"{skipped}"}}
+"#,
+        escape.replace('\\', "\\\\")
+    );
     for (arguments, output) in [
-        (&["--format", "short", "a.rs"][..], lines.to_string()),
-        (&["--format=short", "a.rs"], lines.to_string()),
-        (
-            &["--format", "github", "a.rs"],
-            commands.replace("NAME", "a.rs"),
-        ),
+        (&["--format", "short", "a.rs"][..], lines.clone()),
+        (&["--format=short", "a.rs"], lines.clone()),
+        (&["--format", "github", "a.rs"], of_file.clone()),
+        // GitHub compares the name with the names in a pull request.
+        (&["--format", "github", "./a.rs"], of_file),
         (
             &["--format=github", "b,:%.rs"],
-            commands.replace("NAME", "b%2C%3A%25.rs"),
+            commands
+                .replace("FILE", "b%2C%3A%25.rs")
+                .replace("NAME", "b,:%25.rs"),
+        ),
+        (
+            &["--format", "json", "a.rs"],
+            objects.replace("NAME", "a.rs"),
+        ),
+        (
+            &["--format=json", "./a.rs"],
+            objects.replace("NAME", "./a.rs"),
         ),
     ] {
-        let ended = rust_lex(&folder, &[&["check"], arguments].concat())
-            .output()
-            .unwrap();
-        check_ended(&ended, &output, &summary(1, lines), 1, &arguments.concat());
+        let mut program = rust_lex(&folder, &[&["check"], arguments].concat());
+        let about = arguments.concat();
+        check_ended(
+            &program.output().unwrap(),
+            &output,
+            &summary(1, &lines),
+            1,
+            &about,
+        );
     }
+    let stdin = summary(1, ": error: ");
+    for (format, output) in [
+        (
+            "github",
+            format!("::error title=rust-lex (empty-number)::<stdin>:1:1: {digits}\n"),
+        ),
+        (
+            "json",
+            format!(
+                "{{\"file\":\"<stdin>\",\"line\":1,\"column\":1,\"start\":0,\"end\":2,\
+                 \"severity\":\"error\",\"code\":\"empty-number\",\"message\":\"{digits}\"}}\n"
+            ),
+        ),
+    ] {
+        let mut program = rust_lex(&folder, &["check", "--format", format, "-"]);
+        check_ended(
+            &run_with_input(&mut program, b"0x"),
+            &output,
+            &stdin,
+            1,
+            format,
+        );
+    }
+}
+
+/// Names with special characters in each format, and files that cannot be read.
+#[cfg(target_os = "linux")]
+#[test]
+fn names_in_formats() {
+    let folder = empty_folder("names_in_formats");
+    fs::write(folder.join("a\"\\\x1b\n.rs"), "0x").unwrap();
+    let summary = "rust-lex: 1 file checked: 1 error, 0 warnings\n";
+    let missing = "rust-lex: b,.rs: No such file or directory (os error 2)\n\
+        rust-lex: 0 files checked, 1 not checked: 0 errors, 0 warnings\n";
+    let command =
+        "::error file=b%2C.rs,title=rust-lex::b,.rs: No such file or directory (os error 2)\n";
+    check_shell(
+        &folder,
+        &[
+            (
+                "$P check --format json a*",
+                "{\"file\":\"a\\\"\\\\\\u001b\\u000a.rs\",\"line\":1,\"column\":1,\"start\":0,\"end\":2,\
+                 \"severity\":\"error\",\"code\":\"empty-number\",\"message\":\"number has no digits\"}\n",
+                summary,
+                1,
+            ),
+            (
+                "$P check --format github a*",
+                "::error file=a\"\\\x1b%0A.rs,line=1,col=1,title=rust-lex (empty-number)\
+                 ::a\"\\\\\\u{1b}\\n.rs:1:1: number has no digits\n",
+                summary,
+                1,
+            ),
+            ("$P check --format=github b,.rs", command, missing, 2),
+            ("$P check --format=short b,.rs", "", missing, 2),
+            ("$P check --format=json b,.rs", "", missing, 2),
+            (
+                "$P check --format=github - < /",
+                "::error title=rust-lex::<stdin>: Is a directory (os error 21)\n",
+                "rust-lex: <stdin>: Is a directory (os error 21)\n\
+                 rust-lex: 0 files checked, 1 not checked: 0 errors, 0 warnings\n",
+                2,
+            ),
+        ],
+    );
 }
 
 #[test]
@@ -349,6 +673,7 @@ fn denied_warnings() {
     for arguments in [
         &["-D", "warnings"][..],
         &["-Dwarnings"],
+        &["-D", "warnings", "-Dwarnings", "--deny-warnings"],
         &["--deny-warnings"],
     ] {
         let words = [&["check"], arguments, &["a.rs"]].concat();
@@ -443,11 +768,12 @@ fn streams() {
             ("$P check - <&-", "", valid, 0),
             // Messages are in order with the lines of the files before and after.
             (
-                "$P check one.rs latin.rs one.rs 2>&1",
+                "$P check one.rs latin.rs no.rs one.rs 2>&1",
                 "one.rs:1:1: error: number has no digits\n\
-                 rust-lex: latin.rs: invalid UTF-8 at byte offset 6\n\
+                 latin.rs:1:7: error: invalid UTF-8\n\
+                 rust-lex: no.rs: No such file or directory (os error 2)\n\
                  one.rs:1:1: error: number has no digits\n\
-                 rust-lex: 2 files checked, 1 not checked: 2 errors, 0 warnings\n",
+                 rust-lex: 2 files checked, 2 not checked: 3 errors, 0 warnings\n",
                 "",
                 2,
             ),
