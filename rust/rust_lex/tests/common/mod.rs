@@ -20,8 +20,13 @@ pub fn empty_folder(name: &str) -> PathBuf {
 pub fn rust_lex(folder: &Path, arguments: &[&str]) -> Command {
     let mut command = Command::new(env!("CARGO_BIN_EXE_rust-lex"));
     command.current_dir(folder).args(arguments);
-    command.env_remove("NO_COLOR").stdin(Stdio::null());
+    without_colour_variables(&mut command).stdin(Stdio::null());
     command
+}
+
+fn without_colour_variables(command: &mut Command) -> &mut Command {
+    let command = command.env_remove("NO_COLOR");
+    command.env_remove("CLICOLOR").env_remove("CLICOLOR_FORCE")
 }
 
 /// Runs a command with this text on standard input.
@@ -56,7 +61,7 @@ pub fn check_shell(folder: &Path, cases: &[ShellCase<'_>]) {
         let mut shell = Command::new("sh");
         shell.args(["-c", command]).current_dir(folder);
         shell.env("P", env!("CARGO_BIN_EXE_rust-lex"));
-        shell.env_remove("NO_COLOR").stdin(Stdio::null());
+        without_colour_variables(&mut shell).stdin(Stdio::null());
         check_ended(&shell.output().unwrap(), output, messages, status, command);
     }
 }
