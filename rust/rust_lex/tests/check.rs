@@ -717,6 +717,23 @@ fn special_files() {
     );
 }
 
+/// A folder that cannot be read, since its path is too long.
+#[cfg(target_os = "linux")]
+#[test]
+fn folders_that_cannot_be_read() {
+    let folder = empty_folder("long_paths");
+    fs::write(folder.join("z.rs"), "0x").unwrap();
+    let make = "top=$PWD; name=$(printf %0250d 0); \
+        for i in 1 2 3 4 5 6 7 8 9 10 11 12 13 14 15 16 17; do mkdir $name && cd -P $name; done; cd $top";
+    let lines = "./z.rs:1:1: error: number has no digits\nstatus 2\n1\n\
+        rust-lex: 1 file checked, 1 not checked: 1 error, 0 warnings\n";
+    let check = format!(
+        "{make}; $P check . 2> messages; echo status $?; grep -c ': File name too long' messages; tail -1 messages"
+    );
+    check_shell(&folder, &[(&check, lines, "", 0)]);
+    fs::remove_dir_all(&folder).unwrap();
+}
+
 /// If the pipe is closed, the program ends quietly, with the exit status so far. Any other failed write is reported.
 #[cfg(target_os = "linux")]
 #[test]
