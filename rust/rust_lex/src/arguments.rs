@@ -84,11 +84,12 @@ fn parse_command(
             "--" => inputs.extend(words.by_ref().map(Input::new)),
             "--help" | "-h" => return Ok(Request::Help(help)),
             word => {
-                let (option, value) = match word.split_once('=') {
-                    Some((option, value)) => (option, Some(value)),
+                let (name, value) = match word.split_once('=') {
+                    Some((name, value)) => (name, Some(value)),
                     None => (word, None),
                 };
-                if !options.add(command, option, value, &mut words)? {
+                let words = &mut words;
+                if !options.add(command, &mut Given { name, value, words })? {
                     return Err(format!("unknown option '{word}': {see_help}"));
                 }
             }
@@ -111,112 +112,107 @@ impl Options {
         self.edition.unwrap_or(Edition::NEWEST)
     }
 
-    /// Adds an option with the value after its `=`. Without that, its value can be the next word. Returns whether the
-    /// command has this option.
-    fn add(
-        &mut self,
-        command: Command,
-        option: &str,
-        value: Option<&str>,
-        words: &mut impl Iterator<Item = OsString>,
-    ) -> Result<bool, String> {
-        let flag = || match value {
-            None => Ok(()),
-            Some(_) => Err(format!("{option} takes no value")),
-        };
-        let mut value_or_next = || value.map(OsString::from).or_else(|| words.next());
-        match (command, option) {
+    /// Adds an option. Returns whether the command has it.
+    fn add(&mut self, command: Command, given: &mut Given) -> Result<bool, String> {
+        match (command, given.name) {
             (_, "--edition") => {
                 let years: Vec<_> = Edition::ALL.iter().map(|it| (it.year(), *it)).collect();
-                set(
-                    &mut self.edition,
-                    option,
-                    choose(option, value_or_next(), &years)?,
-                )?;
+                given.set(&mut self.edition, &years)?;
+                Ok(true)
             }
-            (Command::Check, "--format") => {
-                let format = choose(option, value_or_next(), &MessageFormat::NAMES)?;
-                set(&mut self.format, option, format)?;
-            }
-            (Command::Check, "-D") => {
-                self.denies_warnings = choose(option, value_or_next(), &[("warnings", true)])?;
-            }
-            (Command::Check, "-Dwarnings" | "--deny-warnings") => {
-                flag()?;
-                self.denies_warnings = true;
-            }
-            (Command::Check, "--allow") => {
-                let names = [("text-direction", true)];
-                self.allows_text_direction = choose(option, value_or_next(), &names)?;
-            }
-            (Command::Check, "--exclude") => match value_or_next() {
+            (Command::Tokens, _) => Ok(false),
+            (Command::Check, _) => self.add_to_check(given),
+            (Command::Highlight, _) => self.add_to_highlight(given),
+        }
+    }
+
+    fn add_to_check(&mut self, given: &mut Given) -> Result<bool, String> {
+        match given.name {
+            "--format" => given.set(&mut self.format, &MessageFormat::NAMES)?,
+            "-D" => self.denies_warnings = given.choice(&[("warnings", true)])?,
+            "-Dwarnings" | "--deny-warnings" => self.denies_warnings = given.flag()?,
+            "--allow" => self.allows_text_direction = given.choice(&[("text-direction", true)])?,
+            "--exclude" => match given.value() {
                 Some(path) => self.excluded.push(path.into()),
                 None => return Err("--exclude needs a value: a file or a folder".to_string()),
             },
-            (Command::Highlight, "--color") => {
-                set(
-                    &mut self.color,
-                    option,
-                    choose(option, value_or_next(), &Color::NAMES)?,
-                )?;
-            }
-            (Command::Highlight, "--html") => {
-                let names = [("fragment", Markup::Fragment)];
-                let markup = match value {
-                    None => Markup::Page,
-                    Some(_) => choose(option, value.map(OsString::from), &names)?,
-                };
-                self.set_markup(markup)?;
-            }
-            (Command::Highlight, "--css") => {
-                flag()?;
-                self.set_markup(Markup::Css)?;
-            }
-            (Command::Highlight, "--raw") => {
-                flag()?;
-                self.set_markup(Markup::Raw)?;
-            }
             _ => return Ok(false),
         }
         Ok(true)
     }
 
-    fn set_markup(&mut self, markup: Markup) -> Result<(), String> {
-        let option = markup.option();
-        match self.markup.map(Markup::option) {
-            Some(earlier) if earlier != option => {
-                Err(format!("{earlier} and {option} exclude each other"))
+    fn add_to_highlight(&mut self, given: &mut Given) -> Result<bool, String> {
+        let markup = match (given.name, given.value) {
+            ("--color", _) => {
+                given.set(&mut self.color, &Color::NAMES)?;
+                return Ok(true);
             }
-            _ => set(&mut self.markup, option, markup),
+            ("--html", None) => Markup::Page,
+            ("--html", Some(_)) => given.choice(&[("fragment", Markup::Fragment)])?,
+            ("--css", _) => given.flag().map(|_| Markup::Css)?,
+            ("--raw", _) => given.flag().map(|_| Markup::Raw)?,
+            _ => return Ok(false),
+        };
+        match self.markup.replace(markup).map(Markup::option) {
+            None => Ok(true),
+            Some(earlier) if earlier == given.name => Err(format!("{earlier} is given twice")),
+            Some(earlier) => Err(format!("{earlier} and {} exclude each other", given.name)),
         }
     }
 }
 
-/// Sets an option, unless it is already set.
-fn set<T>(option: &mut Option<T>, name: &str, value: T) -> Result<(), String> {
-    match option.replace(value) {
-        None => Ok(()),
-        Some(_) => Err(format!("{name} is given twice")),
-    }
+/// An option in the arguments.
+struct Given<'a> {
+    name: &'a str,
+    /// The value after `=`.
+    value: Option<&'a str>,
+    /// The next arguments.
+    words: &'a mut dyn Iterator<Item = OsString>,
 }
 
-/// Returns the choice with this name, which is the value of an option.
-fn choose<T: Copy>(
-    option: &str,
-    name: Option<OsString>,
-    choices: &[(impl ToString, T)],
-) -> Result<T, String> {
-    let names: Vec<String> = choices.iter().map(|(name, _)| name.to_string()).collect();
-    let expected = match &names[..] {
-        [others @ .., last] if !others.is_empty() => format!("{} or {last}", others.join(", ")),
-        _ => names.concat(),
-    };
-    let name = name.ok_or_else(|| format!("{option} needs a value: {expected}"))?;
-    let name = name.to_string_lossy();
-    match names.iter().position(|choice| *choice == name) {
-        Some(at) => Ok(choices[at].1),
-        None => Err(format!(
-            "invalid value '{name}' for {option}: expected {expected}"
-        )),
+impl Given<'_> {
+    /// Returns the value after `=` or, without that, the next argument.
+    fn value(&mut self) -> Option<OsString> {
+        let value = self.value.map(OsString::from);
+        value.or_else(|| self.words.next())
+    }
+
+    /// Returns `true` for an option that takes no value.
+    fn flag(&self) -> Result<bool, String> {
+        match self.value {
+            None => Ok(true),
+            Some(_) => Err(format!("{} takes no value", self.name)),
+        }
+    }
+
+    /// Returns the choice whose name is the value.
+    fn choice<T: Copy>(&mut self, choices: &[(impl ToString, T)]) -> Result<T, String> {
+        let option = self.name;
+        let names: Vec<String> = choices.iter().map(|(name, _)| name.to_string()).collect();
+        let expected = match &names[..] {
+            [others @ .., last] if !others.is_empty() => format!("{} or {last}", others.join(", ")),
+            _ => names.concat(),
+        };
+        let value = self.value();
+        let value = value.ok_or_else(|| format!("{option} needs a value: {expected}"))?;
+        let value = value.to_string_lossy();
+        match names.iter().position(|name| *name == value) {
+            Some(at) => Ok(choices[at].1),
+            None => Err(format!(
+                "invalid value '{value}' for {option}: expected {expected}"
+            )),
+        }
+    }
+
+    /// Sets an option to a choice, unless it is already set.
+    fn set<T: Copy>(
+        &mut self,
+        option: &mut Option<T>,
+        choices: &[(impl ToString, T)],
+    ) -> Result<(), String> {
+        match option.replace(self.choice(choices)?) {
+            None => Ok(()),
+            Some(_) => Err(format!("{} is given twice", self.name)),
+        }
     }
 }

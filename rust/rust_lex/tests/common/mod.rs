@@ -52,6 +52,17 @@ pub fn check_ended(ended: &Output, output: &str, messages: &str, status: i32, ab
     assert_eq!(ended.status.code(), Some(status), "{about}");
 }
 
+/// Returns the summary on standard error, for a number of files and the lines on standard output.
+pub fn summary(files: usize, lines: &str) -> String {
+    let count = |number, noun| format!("{number} {noun}{}", if number == 1 { "" } else { "s" });
+    let [errors, warnings] = [": error: ", ": warning: "].map(|it| lines.matches(it).count());
+    let (errors, warnings) = (count(errors, "error"), count(warnings, "warning"));
+    format!(
+        "rust-lex: {} checked: {errors}, {warnings}\n",
+        count(files, "file")
+    )
+}
+
 /// A shell command with `$P` for the program, its output, its messages, and its exit status.
 pub type ShellCase<'a> = (&'a str, &'a str, &'a str, i32);
 
