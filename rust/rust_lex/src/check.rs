@@ -1,79 +1,94 @@
 //! Checks files: malformed tokens, and errors and warnings in literals.
 
-use crate::inputs::Source;
+use crate::arguments::Options;
+use crate::errors::{TokenError, code_of, for_each_error, is_warning, message_of};
+use crate::inputs::{Failure, Source};
+use crate::messages::{Finding, MessageFormat, write_failure};
 use crate::position::Position;
-use rustc_lexer::tokenize_document;
-use rustc_lexer_highlight::{
-    Edition, EscapeErrorsInFile, TokenError, literal_contents, token_error,
-};
 use std::io::{self, Write};
+use std::path::PathBuf;
 
-/// The form of the lines for errors and warnings.
-#[derive(Clone, Copy, Default)]
-pub enum MessageFormat {
-    /// `FILE:LINE:COLUMN: error: MESSAGE`
-    #[default]
-    Short,
-    /// Workflow commands of GitHub.
-    GitHub,
-}
-
-impl MessageFormat {
-    pub const NAMES: [(&str, MessageFormat); 2] = [
-        ("short", MessageFormat::Short),
-        ("github", MessageFormat::GitHub),
-    ];
-}
-
-/// The options of a check, and what it has found so far.
+/// What a check has found so far.
+#[derive(Default)]
 pub struct Checker {
-    edition: Edition,
-    format: MessageFormat,
-    deny_warnings: bool,
+    options: Options,
     files: usize,
+    failures: usize,
     errors: usize,
     warnings: usize,
 }
 
 impl Checker {
-    pub fn new(edition: Edition, format: MessageFormat, deny_warnings: bool) -> Checker {
+    pub fn new(options: Options) -> Checker {
         Checker {
-            edition,
-            format,
-            deny_warnings,
-            files: 0,
-            errors: 0,
-            warnings: 0,
+            options,
+            ..Checker::default()
         }
     }
 
-    /// Writes a line for each error and warning of a file.
+    /// Writes a message for each error and warning of a file.
     pub fn check(&mut self, source: &Source, output: &mut impl Write) -> io::Result<()> {
         self.files += 1;
-        let mut position = Position::start_of(&source.text);
-        for_each_error(&source.text, self.edition, |offset, error| {
-            position.advance_to(offset);
-            let severity = if is_warning(error) && !self.deny_warnings {
+        let Source { input, text } = source;
+        let mut position = Position::start_of(text);
+        for_each_error(text, self.options.edition(), |range, error| {
+            if error == TokenError::TextDirectionCodepoint && self.options.allows_text_direction {
+                return Ok(());
+            }
+            position.advance_to(range.start);
+            let severity = if is_warning(error) && !self.options.denies_warnings {
                 self.warnings += 1;
                 "warning"
             } else {
                 self.errors += 1;
                 "error"
             };
-            let (name, line, column) = (&source.name, position.line, position.column);
-            match self.format {
-                MessageFormat::Short => {
-                    writeln!(output, "{name}:{line}:{column}: {severity}: {error}")?;
-                }
-                MessageFormat::GitHub => {
-                    let file = escape(name, "%\r\n:,");
-                    let message = escape(&error.to_string(), "%\r\n");
-                    let place = format!("file={file},line={line},col={column}");
-                    writeln!(output, "::{severity} {place}::{message}")?;
-                }
-            }
-            Ok(())
+            let finding = Finding {
+                input,
+                line: position.line,
+                column: position.column,
+                severity,
+                code: &code_of(error),
+                message: &message_of(error, &text[range.clone()]),
+                range,
+            };
+            finding.write(self.format(), output)
         })
+    }
+
+    /// Adds an input that is not checked. Writes a message if it is not UTF-8, or if the format has messages for files
+    /// that cannot be read.
+    pub fn add_failure(&mut self, failure: &Failure, output: &mut impl Write) -> io::Result<()> {
+        self.failures += 1;
+        match failure {
+            Failure::NotUtf8(input, bytes) => {
+                self.errors += 1;
+                let (position, range) = Position::of_invalid_utf8(bytes);
+                let finding = Finding {
+                    input,
+                    line: position.line,
+                    column: position.column,
+                    range,
+                    severity: "error",
+                    code: "invalid-utf8",
+                    message: "invalid UTF-8",
+                };
+                finding.write(self.format(), output)
+            }
+            Failure::Unreadable(input, error) => match self.format() {
+                MessageFormat::GitHub => write_failure(input, error, output),
+                MessageFormat::Short | MessageFormat::Json => Ok(()),
+            },
+        }
+    }
+
+    /// Returns the files and folders that are not checked.
+    pub fn excluded(&self) -> &[PathBuf] {
+        &self.options.excluded
+    }
+
+    fn format(&self) -> MessageFormat {
+        self.options.format.unwrap_or_default()
     }
 
     pub fn has_errors(&self) -> bool {
@@ -81,10 +96,10 @@ impl Checker {
     }
 
     /// Returns the summary, such as `2 files checked: 1 error, 0 warnings`.
-    pub fn summary(&self, failures: usize) -> String {
-        let not_checked = match failures {
+    pub fn summary(&self) -> String {
+        let not_checked = match self.failures {
             0 => String::new(),
-            _ => format!(", {failures} not checked"),
+            failures => format!(", {failures} not checked"),
         };
         let (files, errors) = (count(self.files, "file"), count(self.errors, "error"));
         let warnings = count(self.warnings, "warning");
@@ -96,45 +111,4 @@ impl Checker {
 fn count(number: usize, noun: &str) -> String {
     let plural = if number == 1 { "" } else { "s" };
     format!("{number} {noun}{plural}")
-}
-
-/// Replaces the reserved characters of a workflow command by `%` and two hexadecimal digits.
-fn escape(text: &str, reserved: &str) -> String {
-    let mut escaped = String::new();
-    for c in text.chars() {
-        match reserved.contains(c) {
-            true => escaped.push_str(&format!("%{:02X}", u32::from(c))),
-            false => escaped.push(c),
-        }
-    }
-    escaped
-}
-
-/// Calls a function for each error and warning of a file in order, with its byte offset.
-///
-/// The offset is the start of the token. For an error in the contents of a literal, it is the start of the range of the
-/// error.
-fn for_each_error(
-    text: &str,
-    edition: Edition,
-    mut report: impl FnMut(usize, TokenError) -> io::Result<()>,
-) -> io::Result<()> {
-    for piece in tokenize_document(text, edition).pieces() {
-        let (kind, text, start) = (piece.token.kind, piece.text, piece.range().start);
-        if let Some(error) = token_error(kind, text, edition) {
-            report(start, error)?;
-        }
-        if let Some((mode, contents)) = literal_contents(kind, text) {
-            let start = start + contents.start;
-            for (range, error) in EscapeErrorsInFile::new(&text[contents], mode) {
-                report(start + range.start, TokenError::InLiteral(error))?;
-            }
-        }
-    }
-    Ok(())
-}
-
-/// Returns whether this is a warning. A file with warnings is valid.
-fn is_warning(error: TokenError) -> bool {
-    matches!(error, TokenError::InLiteral(error) if !error.is_fatal())
 }

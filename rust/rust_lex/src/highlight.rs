@@ -1,7 +1,7 @@
 //! Prints files in colours, or one file as a web page.
 
 use crate::page::{FOOT, HEAD};
-use rustc_lexer_highlight::{Edition, Format, write_highlighted};
+use rustc_lexer_highlight::{Edition, Format, STYLE_SHEET, write_highlighted};
 use std::env;
 use std::fmt;
 use std::io::{self, IsTerminal, Write};
@@ -9,7 +9,7 @@ use std::io::{self, IsTerminal, Write};
 /// When to print colours.
 #[derive(Clone, Copy, Default)]
 pub enum Color {
-    /// On a terminal, unless `NO_COLOR` has a value or `TERM` is `dumb`.
+    /// Usually on a terminal, but environment variables can change that.
     #[default]
     Auto,
     Always,
@@ -28,9 +28,16 @@ impl Color {
             Color::Always => true,
             Color::Never => false,
             Color::Auto => {
-                let is_off = env::var_os("NO_COLOR").is_some_and(|value| !value.is_empty())
-                    || env::var_os("TERM").is_some_and(|value| value == "dumb");
-                !is_off && io::stdout().is_terminal()
+                let value = |name| env::var_os(name).filter(|value| !value.is_empty());
+                if value("NO_COLOR").is_some() {
+                    false
+                } else if value("CLICOLOR_FORCE").is_some_and(|value| value != "0") {
+                    true
+                } else {
+                    value("CLICOLOR").is_none_or(|value| value != "0")
+                        && value("TERM").is_some_and(|value| value != "dumb")
+                        && io::stdout().is_terminal()
+                }
             }
         }
     }
@@ -40,55 +47,88 @@ impl Color {
 #[derive(Clone, Copy, PartialEq, Eq)]
 pub enum Markup {
     /// A web page.
-    Html,
+    Page,
+    /// The part of a web page that is the file.
+    Fragment,
+    /// The style sheet of the page.
+    Css,
     /// Plain text with control characters as they are.
     Raw,
+}
+
+impl Markup {
+    /// Returns the option that selects it.
+    pub fn option(self) -> &'static str {
+        match self {
+            Markup::Page | Markup::Fragment => "--html",
+            Markup::Css => "--css",
+            Markup::Raw => "--raw",
+        }
+    }
 }
 
 /// Returns the output format for the options.
 pub fn format(markup: Option<Markup>, color: Color) -> Format {
     match markup {
-        Some(Markup::Html) => Format::Html,
+        Some(Markup::Page | Markup::Fragment | Markup::Css) => Format::Html,
         Some(Markup::Raw) => Format::Raw,
         None if color.is_wanted() => Format::Colours,
         None => Format::NoColours,
     }
 }
 
-/// Writes a file, or a whole page if the format is HTML.
+/// Writes a file, or a whole page.
 pub fn write(
+    text: &str,
+    markup: Option<Markup>,
+    format: Format,
+    edition: Edition,
+    output: &mut impl Write,
+) -> io::Result<()> {
+    if markup != Some(Markup::Page) {
+        return write_text(text, format, edition, output);
+    }
+    let [start, end] = HEAD;
+    write!(output, "{start}{STYLE_SHEET}{end}")?;
+    write_text(text, format, edition, output)?;
+    output.write_all(FOOT.as_bytes())
+}
+
+fn write_text(
     text: &str,
     format: Format,
     edition: Edition,
     output: &mut impl Write,
 ) -> io::Result<()> {
-    let (head, foot) = match format {
-        Format::Html => (HEAD.concat(), FOOT),
-        Format::Colours | Format::NoColours | Format::Raw => (String::new(), ""),
+    let mut output = TextOutput {
+        output,
+        error: Ok(()),
     };
-    let highlighted = Highlighted {
-        text,
-        format,
-        edition,
+    let written = if format == Format::Colours {
+        let mut lines = ColoursOfLines {
+            output: &mut output,
+            colour: String::new(),
+        };
+        write_highlighted(format, edition, text, &mut lines)
+    } else {
+        write_highlighted(format, edition, text, &mut output)
     };
-    write!(output, "{head}{highlighted}{foot}")
+    written.or(output.error)
 }
 
-/// A file, whose `Display` is the highlighted text.
-struct Highlighted<'a> {
-    text: &'a str,
-    format: Format,
-    edition: Edition,
+/// Writes text to a writer of bytes, and keeps its error.
+struct TextOutput<'a, W> {
+    output: &'a mut W,
+    error: io::Result<()>,
 }
 
-impl fmt::Display for Highlighted<'_> {
-    fn fmt(&self, f: &mut fmt::Formatter<'_>) -> fmt::Result {
-        match self.format {
-            Format::Colours => {
-                let mut lines = ColoursOfLines::new(f);
-                write_highlighted(self.format, self.edition, self.text, &mut lines)
-            }
-            _ => write_highlighted(self.format, self.edition, self.text, f),
+impl<W: Write> fmt::Write for TextOutput<'_, W> {
+    fn write_str(&mut self, text: &str) -> fmt::Result {
+        self.error = self.output.write_all(text.as_bytes());
+        if self.error.is_err() {
+            Err(fmt::Error)
+        } else {
+            Ok(())
         }
     }
 }
@@ -100,28 +140,28 @@ struct ColoursOfLines<W> {
     output: W,
     /// The escape sequences since the last reset.
     colour: String,
-    /// Whether the last of them is incomplete.
-    in_sequence: bool,
 }
 
 impl<W: fmt::Write> ColoursOfLines<W> {
-    fn new(output: W) -> ColoursOfLines<W> {
-        ColoursOfLines {
-            output,
-            colour: String::new(),
-            in_sequence: false,
+    fn write_sequence(&mut self, sequence: &str) -> fmt::Result {
+        if sequence == RESET {
+            self.colour.clear();
+        } else {
+            self.colour.push_str(sequence);
         }
+        self.output.write_str(sequence)
     }
 
     /// Writes text without escape sequences.
-    fn write_text(&mut self, text: &str) -> fmt::Result {
+    fn write_shown(&mut self, text: &str) -> fmt::Result {
         if self.colour.is_empty() {
             return self.output.write_str(text);
         }
         let mut rest = text;
-        while let Some((contents, next)) = rest.split_once('\n') {
-            self.output.write_str(contents)?;
-            self.output.write_str("\x1b[0m\n")?;
+        while let Some((line, next)) = rest.split_once('\n') {
+            self.output.write_str(line)?;
+            self.output.write_str(RESET)?;
+            self.output.write_char('\n')?;
             self.output.write_str(&self.colour)?;
             rest = next;
         }
@@ -129,28 +169,23 @@ impl<W: fmt::Write> ColoursOfLines<W> {
     }
 }
 
+const RESET: &str = "\x1b[0m";
+
 impl<W: fmt::Write> fmt::Write for ColoursOfLines<W> {
-    fn write_str(&mut self, mut text: &str) -> fmt::Result {
-        while !text.is_empty() {
-            if !self.in_sequence {
-                let start = text.find('\x1b').unwrap_or(text.len());
-                let (before, rest) = text.split_at(start);
-                self.write_text(before)?;
-                self.in_sequence = !rest.is_empty();
-                text = rest;
-                continue;
+    /// Writes text in which each escape sequence is complete.
+    fn write_str(&mut self, text: &str) -> fmt::Result {
+        let mut rest = text;
+        while !rest.is_empty() {
+            if rest.starts_with('\x1b') {
+                let end = rest.bytes().position(|byte| byte == b'm');
+                let end = end.map_or(rest.len(), |at| at + 1);
+                self.write_sequence(&rest[..end])?;
+                rest = &rest[end..];
+            } else {
+                let end = rest.find('\x1b').unwrap_or(rest.len());
+                self.write_shown(&rest[..end])?;
+                rest = &rest[end..];
             }
-            let end = text.find('m').map_or(text.len(), |at| at + 1);
-            let (part, rest) = text.split_at(end);
-            self.output.write_str(part)?;
-            self.colour.push_str(part);
-            if part.ends_with('m') {
-                self.in_sequence = false;
-                if self.colour.ends_with("\x1b[0m") {
-                    self.colour.clear();
-                }
-            }
-            text = rest;
         }
         Ok(())
     }

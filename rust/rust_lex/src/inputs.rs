@@ -1,37 +1,83 @@
 //! The inputs: files, standard input, and the files in folders.
 
-use crate::streams::Stream;
+use crate::position::Position;
 use std::ffi::{OsStr, OsString};
-use std::fs::{self, DirEntry, File};
+use std::fmt;
+use std::fs::{self, File};
 use std::io::{self, Read};
-use std::path::Path;
+use std::path::{MAIN_SEPARATOR, Path, PathBuf};
 
 /// The maximum length of a text in bytes.
 const MAX_LEN: u64 = u32::MAX as u64;
 
-/// A text of at most `MAX_LEN` bytes, with its name for messages.
+/// An input. Its `Display` is the name for messages.
+#[derive(Clone)]
+pub enum Input {
+    Stdin,
+    /// A file or a folder.
+    Path(PathBuf),
+}
+
+impl Input {
+    pub fn new(argument: OsString) -> Input {
+        if argument == "-" {
+            Input::Stdin
+        } else {
+            Input::Path(argument.into())
+        }
+    }
+
+    pub fn is_folder(&self) -> bool {
+        matches!(self, Input::Path(path) if path.is_dir())
+    }
+
+    /// Reads the whole text.
+    pub fn read(self) -> Result<Source, Failure> {
+        let bytes = match &self {
+            Input::Stdin => read_all(io::stdin().lock(), 0),
+            Input::Path(path) => File::open(path).and_then(|file| {
+                let len = file.metadata()?.len();
+                read_all(file, len)
+            }),
+        };
+        match bytes.map(String::from_utf8) {
+            Ok(Ok(text)) => Ok(Source { input: self, text }),
+            Ok(Err(error)) => Err(Failure::NotUtf8(self, error.into_bytes())),
+            Err(error) => Err(Failure::Unreadable(self, error)),
+        }
+    }
+}
+
+impl fmt::Display for Input {
+    fn fmt(&self, f: &mut fmt::Formatter<'_>) -> fmt::Result {
+        match self {
+            Input::Stdin => f.write_str("<stdin>"),
+            Input::Path(path) => f.write_str(&printable(&path.to_string_lossy())),
+        }
+    }
+}
+
+/// A text of at most `MAX_LEN` bytes.
 pub struct Source {
-    pub name: String,
+    pub input: Input,
     pub text: String,
 }
 
-/// Reads a file, or standard input for `-`. The error is a message that names it.
-pub fn read(input: &OsString) -> Result<Source, String> {
-    let name = name_of(input);
-    let bytes = if input == "-" {
-        read_all(Stream::stdin(), 0)
-    } else {
-        File::open(input).and_then(|file| {
-            let len = file.metadata()?.len();
-            read_all(file, len)
-        })
-    };
-    let bytes = bytes.map_err(|error| format!("{name}: {error}"))?;
-    match String::from_utf8(bytes) {
-        Ok(text) => Ok(Source { name, text }),
-        Err(error) => {
-            let offset = error.utf8_error().valid_up_to();
-            Err(format!("{name}: invalid UTF-8 at byte offset {offset}"))
+/// An input without a text. Its `Display` is a message.
+pub enum Failure {
+    Unreadable(Input, io::Error),
+    /// These are the bytes.
+    NotUtf8(Input, Vec<u8>),
+}
+
+impl fmt::Display for Failure {
+    fn fmt(&self, f: &mut fmt::Formatter<'_>) -> fmt::Result {
+        match self {
+            Failure::Unreadable(input, error) => write!(f, "{input}: {error}"),
+            Failure::NotUtf8(input, bytes) => {
+                let (position, _) = Position::of_invalid_utf8(bytes);
+                write!(f, "{input}:{position}: invalid UTF-8")
+            }
         }
     }
 }
@@ -49,61 +95,83 @@ fn read_all(source: impl Read, len: u64) -> io::Result<Vec<u8>> {
     Ok(bytes)
 }
 
-fn name_of(input: &OsStr) -> String {
-    match input == "-" {
-        true => "<stdin>".to_string(),
-        false => printable(&input.to_string_lossy()),
-    }
-}
-
-/// Returns the text with its control characters escaped, since a terminal would obey them.
+/// Returns a name or an argument without characters that a terminal obeys: they are escaped. A backslash is escaped
+/// too, so that the result is unambiguous, except where it separates folders.
 pub fn printable(text: &str) -> String {
     let mut printable = String::new();
     for c in text.chars() {
-        match c.is_control() {
-            true => printable.extend(c.escape_default()),
-            false => printable.push(c),
+        let changes_direction = matches!(c, '\u{202a}'..='\u{202e}' | '\u{2066}'..='\u{2069}');
+        if c.is_control() || changes_direction || c == '\\' && MAIN_SEPARATOR != '\\' {
+            printable.extend(c.escape_default());
+        } else {
+            printable.push(c);
         }
     }
     printable
 }
 
-/// Returns the inputs, and for each folder the `*.rs` files in it and in the folders below, ordered by name. An error is
-/// a message about a folder that cannot be read.
-pub fn files_of(mut inputs: Vec<OsString>) -> impl Iterator<Item = Result<OsString, String>> {
-    inputs.reverse();
-    // The next input is at the end.
-    std::iter::from_fn(move || {
-        while let Some(input) = inputs.pop() {
-            if input == "-" || !Path::new(&input).is_dir() {
-                return Some(Ok(input));
-            }
-            match entries(Path::new(&input)) {
-                Ok(entries) => inputs.extend(entries.into_iter().rev()),
-                Err(error) => return Some(Err(format!("{}: {error}", name_of(&input)))),
-            }
-        }
-        None
-    })
+/// Returns the input if it is a file or standard input, and for a folder the `*.rs` files in it and in the folders
+/// below, ordered by name, with the folders that cannot be read. Excluded files and folders are left out.
+pub fn files_of(input: &Input, excluded: &[PathBuf]) -> Vec<Result<Input, Failure>> {
+    let mut files = Vec::new();
+    match input {
+        Input::Path(path) if is_excluded(path, excluded) => {}
+        Input::Path(path) if path.is_dir() => add_files_in(path, excluded, &mut files),
+        _ => files.push(Ok(input.clone())),
+    }
+    files
 }
 
-/// Returns the paths of the files to check and the folders to visit in a folder, ordered by name.
-fn entries(folder: &Path) -> io::Result<Vec<OsString>> {
-    let mut paths = Vec::new();
-    for entry in fs::read_dir(folder)? {
-        let entry = entry?;
-        if is_visited(&entry)? {
-            paths.push(entry.path().into_os_string());
+fn add_files_in(folder: &Path, excluded: &[PathBuf], files: &mut Vec<Result<Input, Failure>>) {
+    let entries = match entries(folder) {
+        Ok(entries) => entries,
+        Err(error) => {
+            files.push(Err(Failure::Unreadable(Input::Path(folder.into()), error)));
+            return;
+        }
+    };
+    for (path, is_folder) in entries {
+        if is_excluded(&path, excluded) {
+            continue;
+        }
+        if is_folder {
+            add_files_in(&path, excluded, files);
+        } else {
+            files.push(Ok(Input::Path(path)));
         }
     }
-    paths.sort();
-    Ok(paths)
 }
 
-/// Returns whether to check or visit an entry of a folder. Symbolic links are not followed.
-fn is_visited(entry: &DirEntry) -> io::Result<bool> {
-    let (name, kind) = (entry.file_name(), entry.file_type()?);
+/// Returns the files to check and the folders to visit in a folder, ordered by name, and for each whether it is a
+/// folder. Symbolic links are not followed.
+fn entries(folder: &Path) -> io::Result<Vec<(PathBuf, bool)>> {
+    let mut entries = Vec::new();
+    for entry in fs::read_dir(folder)? {
+        let entry = entry?;
+        let (path, kind) = (entry.path(), entry.file_type()?);
+        let is_source = kind.is_file() && path.extension() == Some(OsStr::new("rs"));
+        if is_source || kind.is_dir() && !is_skipped(&path) {
+            entries.push((path, kind.is_dir()));
+        }
+    }
+    entries.sort();
+    Ok(entries)
+}
+
+/// Returns whether a folder is hidden, or is a folder `target` that Cargo has marked as a cache.
+fn is_skipped(folder: &Path) -> bool {
+    let name = folder.file_name().unwrap_or_default();
     let is_hidden = name.as_encoded_bytes().starts_with(b".");
-    let is_source = kind.is_file() && Path::new(&name).extension() == Some(OsStr::new("rs"));
-    Ok(is_source || kind.is_dir() && !is_hidden && name != "target")
+    is_hidden || name == "target" && folder.join("CACHEDIR.TAG").exists()
+}
+
+/// Returns whether a path is one of the excluded paths, or is below one.
+fn is_excluded(path: &Path, excluded: &[PathBuf]) -> bool {
+    let path = without_dot(path);
+    excluded.iter().any(|it| path.starts_with(without_dot(it)))
+}
+
+/// Returns a path without `./` in front of it.
+pub fn without_dot(path: &Path) -> &Path {
+    path.strip_prefix(".").unwrap_or(path)
 }

@@ -3,23 +3,25 @@
 
 mod arguments;
 mod check;
+mod errors;
 mod help;
 mod highlight;
 mod inputs;
+mod messages;
 mod page;
 mod position;
-mod streams;
+mod rustc_tokens;
 mod tokens;
 
-use arguments::{Command, Request};
+use arguments::{Command, Options, Request};
 use check::Checker;
-use inputs::{Source, files_of, printable, read};
-use rustc_lexer::Edition;
+use highlight::Markup;
+use inputs::{Failure, Input, Source, files_of, printable};
+use rustc_lexer_highlight::STYLE_SHEET;
 use std::env;
 use std::fmt::Display;
-use std::io::{self, BufWriter, ErrorKind, Write};
+use std::io::{self, BufWriter, ErrorKind, StdoutLock, Write};
 use std::process::ExitCode;
-use streams::Stream;
 
 /// The exit status. If several apply, the highest wins.
 #[derive(Clone, Copy, PartialEq, Eq, PartialOrd, Ord)]
@@ -33,7 +35,7 @@ enum Status {
 
 fn main() -> ExitCode {
     let mut run = Run {
-        output: BufWriter::new(Stream::stdout()),
+        output: BufWriter::with_capacity(1 << 16, io::stdout().lock()),
         status: Status::Success,
     };
     let done = match arguments::parse(env::args_os().skip(1)) {
@@ -54,83 +56,105 @@ fn main() -> ExitCode {
 
 /// Prints a message on standard error. If that fails, the exit status still reports a failure.
 fn print_message(message: impl Display) {
-    let _ = writeln!(io::stderr(), "rust-lex: {message}");
+    // One write, since messages of processes that run at the same time can mix.
+    let _ = io::stderr().write_all(format!("rust-lex: {message}\n").as_bytes());
 }
 
 /// A run of the program. Its methods return an error only if a write to the output fails.
 struct Run {
-    output: BufWriter<Stream>,
+    output: BufWriter<StdoutLock<'static>>,
     status: Status,
 }
 
 impl Run {
     fn execute(&mut self, request: Request) -> io::Result<()> {
-        let (command, options, inputs) = match request {
-            Request::Help(text) => return self.output.write_all(text.as_bytes()),
-            Request::Version => {
-                return writeln!(self.output, "rust-lex {}", env!("CARGO_PKG_VERSION"));
+        match request {
+            Request::Help(text) => self.output.write_all(text.as_bytes()),
+            Request::Version => writeln!(self.output, "rust-lex {}", env!("CARGO_PKG_VERSION")),
+            Request::Run(Command::Tokens, options, inputs) => self.list(&options, inputs),
+            Request::Run(Command::Check, options, inputs) => self.check(options, inputs),
+            Request::Run(Command::Highlight, options, inputs) => self.highlight(&options, inputs),
+        }
+    }
+
+    fn list(&mut self, options: &Options, inputs: Vec<Input>) -> io::Result<()> {
+        let has_titles = inputs.len() > 1;
+        self.for_each(inputs, |Source { input, text }, output| {
+            if has_titles {
+                writeln!(output, "==> {input} <==")?;
             }
-            Request::Run(command, options, inputs) => (command, options, inputs),
-        };
-        let edition = options.edition.unwrap_or(Edition::NEWEST);
-        match command {
-            Command::Tokens => {
-                let has_titles = inputs.len() > 1;
-                self.for_each(inputs.iter().map(read), |output, source| {
-                    if has_titles {
-                        writeln!(output, "==> {} <==", source.name)?;
-                    }
-                    tokens::list(&source.text, edition, output)
-                })?;
-            }
-            Command::Highlight => {
-                let color = options.color.unwrap_or_default();
-                let format = highlight::format(options.markup, color);
-                self.for_each(inputs.iter().map(read), |output, source| {
-                    highlight::write(&source.text, format, edition, output)
-                })?;
-            }
-            Command::Check => {
-                let format = options.format.unwrap_or_default();
-                let mut checker = Checker::new(edition, format, options.deny_warnings.is_some());
-                let sources = files_of(inputs).map(|file| read(&file?));
-                let checked =
-                    self.for_each(sources, |output, source| checker.check(source, output));
-                // Also if nobody reads the output any more, as after `| head`.
-                if checker.has_errors() {
-                    self.status = self.status.max(Status::Errors);
-                }
-                let failures = checked?;
-                self.output.flush()?;
-                print_message(checker.summary(failures));
+            tokens::list(&text, options.edition(), output)
+        })
+    }
+
+    fn highlight(&mut self, options: &Options, inputs: Vec<Input>) -> io::Result<()> {
+        if options.markup == Some(Markup::Css) {
+            return self.output.write_all(STYLE_SHEET.as_bytes());
+        }
+        let format = highlight::format(options.markup, options.color.unwrap_or_default());
+        self.for_each(inputs, |Source { text, .. }, output| {
+            highlight::write(&text, options.markup, format, options.edition(), output)
+        })
+    }
+
+    /// Calls a function for each input, and reports those that cannot be read.
+    fn for_each(
+        &mut self,
+        inputs: Vec<Input>,
+        mut write: impl FnMut(Source, &mut BufWriter<StdoutLock>) -> io::Result<()>,
+    ) -> io::Result<()> {
+        for input in inputs {
+            match input.read() {
+                Ok(source) => write(source, &mut self.output)?,
+                Err(failure) => self.fail(failure)?,
             }
         }
         Ok(())
     }
 
-    /// Calls a function for each source. Reports those that cannot be read, and returns how many these are.
-    fn for_each(
-        &mut self,
-        sources: impl Iterator<Item = Result<Source, String>>,
-        mut write: impl FnMut(&mut BufWriter<Stream>, &Source) -> io::Result<()>,
-    ) -> io::Result<usize> {
-        let mut failures = 0;
-        for source in sources {
-            match source {
-                Ok(source) => write(&mut self.output, &source)?,
-                Err(message) => {
-                    self.fail(message)?;
-                    failures += 1;
+    fn check(&mut self, options: Options, inputs: Vec<Input>) -> io::Result<()> {
+        let mut checker = Checker::new(options);
+        let checked = self.check_inputs(inputs, &mut checker);
+        // Also if nobody reads the output any more, as after `| head`.
+        if checker.has_errors() {
+            self.status = self.status.max(Status::Errors);
+        }
+        checked?;
+        self.report(checker.summary())
+    }
+
+    fn check_inputs(&mut self, inputs: Vec<Input>, checker: &mut Checker) -> io::Result<()> {
+        for input in inputs {
+            let files = files_of(&input, checker.excluded());
+            if files.is_empty() && input.is_folder() {
+                self.report(format_args!("warning: no Rust files in {input}"))?;
+            }
+            for file in files {
+                match file.and_then(Input::read) {
+                    Ok(source) => checker.check(&source, &mut self.output)?,
+                    Err(failure) => {
+                        checker.add_failure(&failure, &mut self.output)?;
+                        match failure {
+                            Failure::Unreadable(..) => self.fail(failure)?,
+                            Failure::NotUtf8(..) => self.status = Status::Failure,
+                        }
+                    }
                 }
             }
         }
-        Ok(failures)
+        Ok(())
     }
 
     /// Writes all output so far, and then reports a failure.
     fn fail(&mut self, message: impl Display) -> io::Result<()> {
-        self.output.flush()?;
+        self.report(message)?;
         self.status = Status::Failure;
+        Ok(())
+    }
+
+    /// Writes all output so far, and then prints a message.
+    fn report(&mut self, message: impl Display) -> io::Result<()> {
+        self.output.flush()?;
         print_message(message);
         Ok(())
     }

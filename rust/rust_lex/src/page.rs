@@ -1,10 +1,8 @@
 //! The web page around a highlighted file.
 
-use rustc_lexer_highlight::STYLE_SHEET;
-
-/// The parts of the page before the text. The last one ends with a newline, since browsers drop a newline right after
-/// `<pre>`.
-pub const HEAD: [&str; 3] = [
+/// The page before the style sheet, and the page between it and the text, which ends with a newline, since browsers drop
+/// a newline right after `<pre>`.
+pub const HEAD: [&str; 2] = [
     "<!DOCTYPE html>
 <html lang=\"en\">
 <head>
@@ -13,7 +11,6 @@ pub const HEAD: [&str; 3] = [
 <title>Rust</title>
 <style>
 ",
-    STYLE_SHEET,
     ":root { color-scheme: light dark; }
 body { margin: 0; }
 pre { margin: 0; padding: 1em 1.5em; font: 14px/1.5 ui-monospace, \"DejaVu Sans Mono\", monospace; tab-size: 4;

@@ -1,6 +1,9 @@
 //! Lines and columns.
 
-/// A position in a file, which moves from the start to the end.
+use std::fmt;
+use std::ops::Range;
+
+/// A position in a file, which moves from the start to the end. Its `Display` is `LINE:COLUMN`.
 ///
 /// Lines and columns count like in rustc: from 1, with columns in characters. A line ends after a newline, and a byte
 /// order mark at the start of the file has no column.
@@ -24,6 +27,17 @@ impl<'a> Position<'a> {
         }
     }
 
+    /// Returns the position and the byte range of the first invalid bytes of a file that is not UTF-8.
+    pub fn of_invalid_utf8(bytes: &'a [u8]) -> (Position<'a>, Range<usize>) {
+        let (valid, invalid) = match bytes.utf8_chunks().next() {
+            Some(chunk) => (chunk.valid(), chunk.invalid()),
+            None => ("", &[][..]),
+        };
+        let mut position = Position::start_of(valid);
+        position.advance_to(valid.len());
+        (position, valid.len()..valid.len() + invalid.len())
+    }
+
     /// Moves forward to a byte offset.
     pub fn advance_to(&mut self, offset: usize) {
         let (passed, rest) = self.rest.split_at(offset - self.offset);
@@ -36,5 +50,11 @@ impl<'a> Position<'a> {
             }
         }
         (self.rest, self.offset) = (rest, offset);
+    }
+}
+
+impl fmt::Display for Position<'_> {
+    fn fmt(&self, f: &mut fmt::Formatter<'_>) -> fmt::Result {
+        write!(f, "{}:{}", self.line, self.column)
     }
 }

@@ -1,39 +1,72 @@
 //! Lists the tokens of files, in the format of `lexdump`.
 
-use lexdump_run::rattle_std;
-use lexdump_run::{Watched, write_listing};
-use rustc_lexer::{Edition, Token, tokenize_document};
+use rustc_lexer::LiteralKind::{self, *};
+use rustc_lexer::{DocStyle, Edition, Token, TokenKind, tokenize_document};
 use std::io::{self, Write};
 
-/// The number of tokens that are listed at once.
-const BATCH: usize = 4096;
-
-/// Writes a line for each token of a file.
+/// Writes a line for each token of a file: its offset, length and kind, and the fields of the kind.
 pub fn list(text: &str, edition: Edition, output: &mut impl Write) -> io::Result<()> {
-    let mut tokens = tokenize_document(text, edition);
-    loop {
-        let start = text.len() - tokens.as_str().len();
-        let batch: Vec<Token> = tokens.by_ref().take(BATCH).collect();
-        if batch.is_empty() {
-            return Ok(());
-        }
-        let mut lines = Watched::new(Lines(Vec::new()));
-        let start = u32::try_from(start).expect("the text is under 4 GiB");
-        write_listing(&mut lines, start, &batch).expect("writing to a list succeeds");
-        output.write_all(&lines.into_inner().0)?;
+    let tokens = tokenize_document(text, edition);
+    let mut start = tokens.offset();
+    for Token { kind, len } in tokens {
+        write!(output, "{start} {len} ")?;
+        output.write_all(kind.name().as_bytes())?;
+        write_fields(kind, output)?;
+        output.write_all(b"\n")?;
+        start += len as usize;
     }
+    Ok(())
 }
 
-/// A list of bytes, as a writer for `write_listing`.
-struct Lines(Vec<u8>);
-
-impl rattle_std::io::Write for Lines {
-    fn write(&mut self, bytes: &[u8]) -> io::Result<usize> {
-        self.0.extend(bytes);
-        Ok(bytes.len())
+fn write_fields(kind: TokenKind, output: &mut impl Write) -> io::Result<()> {
+    match kind {
+        TokenKind::LineComment { doc_style } | TokenKind::BlockComment { doc_style, .. } => {
+            let style = match doc_style {
+                None => "none",
+                Some(DocStyle::Outer) => "outer",
+                Some(DocStyle::Inner) => "inner",
+            };
+            write!(output, " doc_style={style}")?;
+            if let TokenKind::BlockComment { terminated, .. } = kind {
+                write!(output, " terminated={terminated}")?;
+            }
+        }
+        TokenKind::Frontmatter {
+            has_invalid_preceding_whitespace: space,
+            invalid_infostring,
+        } => {
+            write!(output, " has_invalid_preceding_whitespace={space}")?;
+            write!(output, " invalid_infostring={invalid_infostring}")?;
+        }
+        TokenKind::Lifetime { starts_with_number } => {
+            write!(output, " starts_with_number={starts_with_number}")?;
+        }
+        TokenKind::Literal { kind, suffix_start } => {
+            write!(output, " kind={}", kind.name())?;
+            write_literal_fields(kind, output)?;
+            write!(output, " suffix_start={suffix_start}")?;
+        }
+        _ => {}
     }
+    Ok(())
+}
 
-    fn flush(&mut self) -> io::Result<()> {
-        Ok(())
+fn write_literal_fields(kind: LiteralKind, output: &mut impl Write) -> io::Result<()> {
+    match kind {
+        Int { base, .. } | Float { base, .. } => write!(output, " base={}", base as u8)?,
+        Char { terminated }
+        | Byte { terminated }
+        | Str { terminated }
+        | ByteStr { terminated }
+        | CStr { terminated } => write!(output, " terminated={terminated}")?,
+        RawStr { n_hashes } | RawByteStr { n_hashes } | RawCStr { n_hashes } => match n_hashes {
+            Some(n_hashes) => write!(output, " n_hashes={n_hashes}")?,
+            None => write!(output, " n_hashes=none")?,
+        },
+    }
+    match kind {
+        Int { empty_int, .. } => write!(output, " empty_int={empty_int}"),
+        Float { empty_exponent, .. } => write!(output, " empty_exponent={empty_exponent}"),
+        _ => Ok(()),
     }
 }

@@ -7,7 +7,7 @@ use std::fs;
 
 /// Arguments, separated by spaces, and the message.
 #[rustfmt::skip]
-const REJECTED: [(&str, &str); 36] = [
+const REJECTED: [(&str, &str); 49] = [
     ("", "no command: see 'rust-lex --help'"),
     ("check", "no files: see 'rust-lex check --help'"),
     ("check --edition 2021", "no files: see 'rust-lex check --help'"),
@@ -21,29 +21,42 @@ const REJECTED: [(&str, &str); 36] = [
     ("check -x one.rs", "unknown option '-x': see 'rust-lex check --help'"),
     ("check --- one.rs", "unknown option '---': see 'rust-lex check --help'"),
     ("check --help=yes", "unknown option '--help=yes': see 'rust-lex check --help'"),
-    ("check --deny-warnings=no one.rs", "unknown option '--deny-warnings=no': see 'rust-lex check --help'"),
+    ("check --deny-warnings=no one.rs", "--deny-warnings takes no value"),
+    ("check -Dwarnings= one.rs", "-Dwarnings takes no value"),
     ("check --html one.rs", "unknown option '--html': see 'rust-lex check --help'"),
     ("tokens --color auto", "unknown option '--color': see 'rust-lex tokens --help'"),
     ("tokens --format short", "unknown option '--format': see 'rust-lex tokens --help'"),
     ("highlight --format short", "unknown option '--format': see 'rust-lex highlight --help'"),
-    ("highlight --html=yes", "unknown option '--html=yes': see 'rust-lex highlight --help'"),
-    ("highlight --raw=", "unknown option '--raw=': see 'rust-lex highlight --help'"),
+    ("highlight --html=yes", "invalid value 'yes' for --html: expected fragment"),
+    ("highlight --css=", "--css takes no value"),
+    ("highlight --raw=", "--raw takes no value"),
     ("check one.rs --edition", "--edition needs a value: 2015, 2018, 2021 or 2024"),
     ("check --edition 2022 one.rs", "invalid value '2022' for --edition: expected 2015, 2018, 2021 or 2024"),
     ("tokens --edition=", "invalid value '' for --edition: expected 2015, 2018, 2021 or 2024"),
     ("highlight --edition=2021=", "invalid value '2021=' for --edition: expected 2015, 2018, 2021 or 2024"),
     ("check --edition one.rs", "invalid value 'one.rs' for --edition: expected 2015, 2018, 2021 or 2024"),
-    ("check --format json one.rs", "invalid value 'json' for --format: expected short or github"),
+    ("check --format xml one.rs", "invalid value 'xml' for --format: expected short, github or json"),
     ("check -D errors one.rs", "invalid value 'errors' for -D: expected warnings"),
     ("check one.rs -D", "-D needs a value: warnings"),
     ("highlight --color Always", "invalid value 'Always' for --color: expected auto, always or never"),
-    ("check --edition 2021 --edition=2021 one.rs", "--edition repeats or contradicts an earlier option"),
-    ("check --format short --format short one.rs", "--format repeats or contradicts an earlier option"),
-    ("check -D warnings --deny-warnings one.rs", "--deny-warnings repeats or contradicts an earlier option"),
-    ("highlight --color=auto --color auto", "--color repeats or contradicts an earlier option"),
-    ("highlight --html --html", "--html repeats or contradicts an earlier option"),
-    ("highlight --raw --html", "--html repeats or contradicts an earlier option"),
+    ("check --allow all one.rs", "invalid value 'all' for --allow: expected text-direction"),
+    ("check one.rs --allow", "--allow needs a value: text-direction"),
+    ("check one.rs --exclude", "--exclude needs a value: a file or a folder"),
+    ("tokens --exclude one.rs", "unknown option '--exclude': see 'rust-lex tokens --help'"),
+    ("highlight --allow text-direction", "unknown option '--allow': see 'rust-lex highlight --help'"),
+    ("check --edition 2021 --edition=2021 one.rs", "--edition is given twice"),
+    ("check --format short --format short one.rs", "--format is given twice"),
+    ("highlight --color=auto --color auto", "--color is given twice"),
+    ("highlight --html --html", "--html is given twice"),
+    ("highlight --html --html=fragment", "--html is given twice"),
+    ("highlight --raw --html", "--raw and --html exclude each other"),
+    ("highlight --html=fragment --css", "--html and --css exclude each other"),
     ("highlight --html one.rs one.rs", "--html takes at most one file"),
+    ("highlight --html=fragment one.rs -", "--html takes at most one file"),
+    ("highlight --css one.rs", "--css takes no file"),
+    ("help token", "unknown command 'token': see 'rust-lex --help'"),
+    ("help --x", "unknown option '--x': see 'rust-lex --help'"),
+    ("help check check", "help takes at most one command"),
 ];
 
 #[test]
@@ -69,15 +82,20 @@ fn help_and_version() {
         check_ended(&ended, version, "", 0, word);
     }
     for (command, words) in [
-        (&[][..], "tokens check highlight --help --version status:"),
+        (
+            &[][..],
+            "tokens check highlight help --help --version status:",
+        ),
         (&["tokens"], "--edition 2024 --help -- FILE"),
         (
             &["check"],
-            "--edition --format short github -D --deny-warnings --help -- FOLDER status:",
+            "--edition --exclude --allow text-direction -D warnings --deny-warnings \
+             --format short: github: json: --help -- FOLDER CACHEDIR.TAG status:",
         ),
         (
             &["highlight"],
-            "--html --raw --color auto always never --edition --help --",
+            "--html --html=fragment --css --raw --color auto, always never \
+             NO_COLOR CLICOLOR, CLICOLOR_FORCE TERM --edition --help --",
         ),
     ] {
         for option in ["--help", "-h"] {
@@ -93,28 +111,33 @@ fn help_and_version() {
                 assert!(help.contains(word), "{word}");
             }
             assert!(
-                help.lines().all(|line| line.chars().count() <= 120),
+                help.lines().all(|line| line.chars().count() <= 80),
                 "{help}"
             );
+            let mut same = rust_lex(&folder, &[&["help"], command].concat());
+            check_ended(&same.output().unwrap(), &help, "", 0, "help COMMAND");
         }
     }
 }
 
-/// A file whose name is not UTF-8 is checked like others.
+/// Names that are not UTF-8 or contain special characters, and how they are printed.
 #[cfg(target_os = "linux")]
 #[test]
-fn names_without_utf8() {
+fn names_of_files() {
     use std::os::unix::ffi::OsStrExt;
     let folder = empty_folder("names");
-    let name = std::ffi::OsStr::from_bytes(b"a\xff.rs");
-    fs::write(folder.join(name), "0x").unwrap();
-    let line = "a\u{fffd}.rs:1:1: error: number has no digits\n";
-    let ended = rust_lex(&folder, &["check"]).arg(name).output().unwrap();
-    check_ended(
-        &ended,
-        line,
-        "rust-lex: 1 file checked: 1 error, 0 warnings\n",
-        1,
-        "check",
-    );
+    for (name, printed) in [
+        (&b"a\xff.rs"[..], "a\u{fffd}.rs"),
+        (b"\x1b[31m\n.rs", "\\u{1b}[31m\\n.rs"),
+        ("\u{202e}a\u{2069}.rs".as_bytes(), "\\u{202e}a\\u{2069}.rs"),
+        (b"\\n.rs", "\\\\n.rs"),
+        ("\u{e9} \".rs".as_bytes(), "\u{e9} \".rs"),
+    ] {
+        let name = std::ffi::OsStr::from_bytes(name);
+        fs::write(folder.join(name), "0x").unwrap();
+        let ended = rust_lex(&folder, &["check"]).arg(name).output().unwrap();
+        let line = format!("{printed}:1:1: error: number has no digits\n");
+        let summary = "rust-lex: 1 file checked: 1 error, 0 warnings\n";
+        check_ended(&ended, &line, summary, 1, printed);
+    }
 }

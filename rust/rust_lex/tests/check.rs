@@ -2,20 +2,9 @@
 
 mod common;
 
-use common::{check_ended, check_shell, empty_folder, run_with_input, rust_lex, text_of};
+use common::{check_ended, check_shell, empty_folder, run_with_input, rust_lex, summary, text_of};
 use std::fs;
 use std::path::PathBuf;
-
-/// Returns the summary on standard error, for a number of files and the lines on standard output.
-fn summary(files: usize, lines: &str) -> String {
-    let count = |number, noun| format!("{number} {noun}{}", if number == 1 { "" } else { "s" });
-    let [errors, warnings] = [": error: ", ": warning: "].map(|it| lines.matches(it).count());
-    let (errors, warnings) = (count(errors, "error"), count(warnings, "warning"));
-    format!(
-        "rust-lex: {} checked: {errors}, {warnings}\n",
-        count(files, "file")
-    )
-}
 
 /// Checks the output and the exit status for a file `a.rs` with this text, in a folder with this name.
 fn check_text(name: &str, arguments: &[&str], text: &str, output: &str, status: i32) {
@@ -46,7 +35,7 @@ fn files() {
         ),
         (
             "¬\n  1e \u{1f642}é\n",
-            "a.rs:1:1: error: unexpected character: no token starts with it\n\
+            "a.rs:1:1: error: unexpected character U+00AC: no token starts with it\n\
              a.rs:2:3: error: exponent has no digits\n\
              a.rs:2:6: error: invalid identifier: contains an emoji\n",
             1,
@@ -110,7 +99,7 @@ fn starts_of_files() {
         ("#!/bin/sh\n\n---\n", format!("a.rs:3:1: error: {unclosed}")),
         (
             "\u{feff}\u{feff}",
-            "a.rs:1:1: error: unexpected character: no token starts with it\n".to_string(),
+            "a.rs:1:1: error: unexpected character U+FEFF: no token starts with it\n".to_string(),
         ),
     ] {
         check_text("starts_of_files", &[], text, &output, 1);
@@ -141,22 +130,112 @@ fn line_endings() {
 
 #[test]
 fn editions() {
-    let prefix = "a.rs:1:1: error: unknown prefix before a quote or `#`\n";
-    let guarded = "a.rs:1:1: error: reserved syntax: guarded string\n";
-    for (arguments, text, output, status) in [
-        (&[][..], "z\"a\"", prefix, 1),
-        (&["--edition", "2021"], "z\"a\"", prefix, 1),
-        (&["--edition=2018"], "z\"a\"", "", 0),
-        (&["--edition", "2015"], "z\"a\"", "", 0),
-        // Before 2021, this is a name, `#` and a name.
-        (&["--edition=2018"], "k#a", "", 0),
-        (&["--edition=2021"], "k#a", prefix, 1),
-        (&[], "##", guarded, 1),
-        (&["--edition=2024"], "##", guarded, 1),
-        (&["--edition=2021"], "##", "", 0),
+    let prefix = "unknown prefix before a quote or `#`\n";
+    let guarded = "reserved syntax: guarded string\n";
+    let escape = "unknown escape: write a backslash as `\\\\`\n";
+    let unterminated = "unterminated string: missing closing quote\n";
+    let long = "too many characters: expected one between single quotes\n";
+    let empty = "number has no digits\n";
+    // A text, and a column and a message for each error.
+    for (years, text, errors) in [
+        (&["2021", "2024"][..], "z\"a\"", &[(1, prefix)][..]),
+        (&["2015", "2018"], "z\"a\"", &[]),
+        // Before 2021, `k` is a name. rustc has no forced keywords.
+        (
+            &["2015", "2018"],
+            "k#b\"\\q\" 0x",
+            &[(5, escape), (9, empty)],
+        ),
+        (
+            &["2021", "2024"],
+            "k#b\"\\q\" 0x",
+            &[(1, prefix), (5, escape), (9, empty)],
+        ),
+        (&["2024"], "k#a\"\"", &[(1, prefix), (3, prefix)]),
+        // Before 2021, C strings are a name and a string or hashes.
+        (
+            &["2015", "2018", "2021", "2024"],
+            "c\"\\q\" 0x",
+            &[(3, escape), (7, empty)],
+        ),
+        (&["2015", "2018"], "c\"\0\" c\"a", &[(7, unterminated)]),
+        (&["2021", "2024"], "cr\"\\q\" cr#\"\\q\"#", &[]),
+        (
+            &["2015", "2018"],
+            "cr\"\\q\" 0x",
+            &[(4, escape), (8, empty)],
+        ),
+        (
+            &["2015", "2018"],
+            "cr#\"\\q\"# cr##a 0x",
+            &[(5, escape), (16, empty)],
+        ),
+        (
+            &["2015", "2018"],
+            "cr#a#\"\\q\" c\"\"c\"\" 0x",
+            &[(7, escape), (18, empty)],
+        ),
+        // Since 2021, a raw lifetime and a quote are a character.
+        (&["2021", "2024"], "'r#fn'a' 0x", &[(1, long), (10, empty)]),
+        (&["2015", "2018"], "'r#fn'a' 0x", &[(10, empty)]),
+        (&["2021", "2024"], "'r#fn 'a' 'r#a", &[]),
+        // In 2024, guarded strings are reserved.
+        (
+            &["2015", "2018", "2021"],
+            "#\"\\q\"# ## ##\"\\q\"##",
+            &[(3, escape), (14, escape)],
+        ),
+        (
+            &["2024"],
+            "#\"\\q\"# ## ##\"\\q\"##",
+            &[(1, guarded), (8, guarded), (11, guarded)],
+        ),
+        (
+            &["2024"],
+            "#\"0x\" 0x \"\\q\"",
+            &[(1, guarded), (7, empty), (11, escape)],
+        ),
+        (&["2024"], "#\"a\\\"b\"c 0x", &[(1, guarded), (10, empty)]),
+        (&["2024"], "##\"a\"### 0x", &[(1, guarded), (10, empty)]),
+        (
+            &["2024"],
+            "##### 0x",
+            &[(1, guarded), (3, guarded), (7, empty)],
+        ),
+        (
+            &["2024"],
+            "#\"#\"#\" # 0x",
+            &[(1, guarded), (6, unterminated)],
+        ),
+        // Hashes and quotes that are not adjacent are allowed.
+        (&["2024"], "# \"\" #'a' #b\"\" r#\"\"#", &[]),
+        // rustc stops after an unterminated one.
+        (
+            &["2024"],
+            "0x ##\"0x ## \\\"",
+            &[(1, empty), (6, unterminated)],
+        ),
     ] {
-        check_text("editions", arguments, text, output, status);
+        let line = |(column, message): &(i32, &str)| format!("a.rs:1:{column}: error: {message}");
+        let output: String = errors.iter().map(line).collect();
+        for year in years {
+            let status = (!errors.is_empty()).into();
+            check_text("editions", &["--edition", year], text, &output, status);
+            if *year == "2024" {
+                check_text("editions", &[], text, &output, status);
+            }
+        }
     }
+}
+
+/// A second search for a quote after each of these hashes would take minutes.
+#[test]
+fn many_hashes() {
+    let folder = empty_folder("many_hashes");
+    fs::write(folder.join("a.rs"), "#".repeat(1 << 18)).unwrap();
+    let ended = rust_lex(&folder, &["check", "a.rs"]).output().unwrap();
+    assert_eq!(text_of(&ended.stdout).lines().count(), 1 << 17);
+    assert_eq!(ended.status.code(), Some(1));
 }
 
 /// Returns a folder with this name and five files.
@@ -212,28 +291,21 @@ fn several_files() {
 #[test]
 fn files_that_cannot_be_checked() {
     let folder = folder_of_files("unreadable");
-    for (file, reason) in [
-        ("latin.rs", "invalid UTF-8 at byte offset 6\n"),
-        // The rest of these messages comes from the operating system.
-        ("missing.rs", ""),
-    ] {
-        let arguments = ["check", "one.rs", file, "./one.rs"];
-        let ended = rust_lex(&folder, &arguments).output().unwrap();
-        let errors = text_of(&ended.stderr);
-        assert!(
-            errors.starts_with(&format!("rust-lex: {file}: {reason}")),
-            "{errors}"
-        );
-        let summary = "\nrust-lex: 2 files checked, 1 not checked: 2 errors, 0 warnings\n";
-        assert!(errors.ends_with(summary), "{errors}");
-        assert_eq!(errors.lines().count(), 2, "{errors}");
-        let one = "one.rs:1:1: error: number has no digits\n";
-        assert_eq!(text_of(&ended.stdout), format!("{one}./{one}"));
-        assert_eq!(ended.status.code(), Some(2), "{file}");
-    }
+    let one = "one.rs:1:1: error: number has no digits\n";
+    let arguments = ["check", "one.rs", "missing.rs", "./one.rs"];
+    let ended = rust_lex(&folder, &arguments).output().unwrap();
+    let errors = text_of(&ended.stderr);
+    // The rest of the message comes from the operating system.
+    assert!(errors.starts_with("rust-lex: missing.rs: "), "{errors}");
+    let summary = "\nrust-lex: 2 files checked, 1 not checked: 2 errors, 0 warnings\n";
+    assert!(errors.ends_with(summary), "{errors}");
+    assert_eq!(errors.lines().count(), 2, "{errors}");
+    assert_eq!(text_of(&ended.stdout), format!("{one}./{one}"));
+    assert_eq!(ended.status.code(), Some(2));
 }
 
-/// A folder stands for the `*.rs` files in it and below, without hidden folders, `target` and symbolic links.
+/// For a folder, the `*.rs` files in it and below are checked, without hidden folders, build folders of Cargo and symbolic
+/// links.
 #[test]
 fn folders() {
     let folder = empty_folder("folders");
@@ -259,6 +331,8 @@ fn folders() {
         ".git/n.rs",
         "b/.hidden/n.rs",
         "b/target/n.rs",
+        "b/target/CACHEDIR.TAG",
+        "b/c/CACHEDIR.TAG",
         "target/n.rs",
         "target/e/w.rs",
         "b/rs",
@@ -280,14 +354,17 @@ fn folders() {
                 "./b/x.rs",
                 "./b.rs",
                 "./d.rs/z.rs",
+                // There is no file CACHEDIR.TAG here.
+                "./target/e/w.rs",
+                "./target/n.rs",
             ][..],
         ),
         (&["b", "a.rt"], &["b/c/y.rs", "b/x.rs", "a.rt"]),
         (&["d.rs", "b/c"], &["d.rs/z.rs", "b/c/y.rs"]),
         // The arguments are not skipped.
         (
-            &["target", "b/.hidden"],
-            &["target/e/w.rs", "target/n.rs", "b/.hidden/n.rs"],
+            &["b/target", "b/.hidden"],
+            &["b/target/n.rs", "b/.hidden/n.rs"],
         ),
     ] {
         let line = |file| format!("{file}:1:1: error: number has no digits\n");
@@ -303,42 +380,91 @@ fn folders() {
             &arguments.concat(),
         );
     }
-    let empty = folder.join("empty");
-    fs::create_dir(&empty).unwrap();
-    let ended = rust_lex(&empty, &["check", "."]).output().unwrap();
-    check_ended(&ended, "", &summary(0, ""), 0, "an empty folder");
+    fs::create_dir(folder.join("empty")).unwrap();
+    let ended = rust_lex(&folder, &["check", "empty"]).output().unwrap();
+    let warning = "rust-lex: warning: no Rust files in empty\n";
+    check_ended(
+        &ended,
+        "",
+        &(warning.to_string() + &summary(0, "")),
+        0,
+        "an empty folder",
+    );
 }
 
 #[test]
-fn formats() {
-    let folder = empty_folder("formats");
-    let text = "0x \"\\q\"\n\"a\\\n\n b\"";
-    for name in ["a.rs", "b,:%.rs"] {
-        fs::write(folder.join(name), text).unwrap();
+fn excluded_files() {
+    let folder = empty_folder("excluded");
+    for name in ["a", "a/b", "ab"] {
+        fs::create_dir(folder.join(name)).unwrap();
+        fs::write(folder.join(name).join("x.rs"), "0x").unwrap();
     }
-    let lines = "a.rs:1:1: error: number has no digits\n\
-        a.rs:1:5: error: unknown escape: write a backslash as `\\\\`\n\
-        a.rs:2:3: warning: skipped blank line: an escaped newline skips it too\n";
-    let commands = "::error file=NAME,line=1,col=1::number has no digits\n\
-        ::error file=NAME,line=1,col=5::unknown escape: write a backslash as `\\\\`\n\
-        ::warning file=NAME,line=2,col=3::skipped blank line: an escaped newline skips it too\n";
-    for (arguments, output) in [
-        (&["--format", "short", "a.rs"][..], lines.to_string()),
-        (&["--format=short", "a.rs"], lines.to_string()),
-        (
-            &["--format", "github", "a.rs"],
-            commands.replace("NAME", "a.rs"),
-        ),
-        (
-            &["--format=github", "b,:%.rs"],
-            commands.replace("NAME", "b%2C%3A%25.rs"),
-        ),
+    for (excluded, input, files) in [
+        (&["a"][..], ".", &["./ab/x.rs"][..]),
+        (&["./a/"], ".", &["./ab/x.rs"]),
+        (&["a/b"], "./.", &["././a/x.rs", "././ab/x.rs"]),
+        (&["a/b/x.rs", "ab"], "a", &["a/x.rs"]),
+        (&["./a/x.rs"], "a", &["a/b/x.rs"]),
+        // The rest of a name is not enough.
+        (&["x.rs", "b", "a/b/x"], "a", &["a/b/x.rs", "a/x.rs"]),
+        // The arguments themselves can be excluded.
+        (&["a"], "a/x.rs", &[]),
+        (&["a/x.rs"], "./a/x.rs", &[]),
     ] {
-        let ended = rust_lex(&folder, &[&["check"], arguments].concat())
-            .output()
-            .unwrap();
-        check_ended(&ended, &output, &summary(1, lines), 1, &arguments.concat());
+        let mut arguments = vec!["check".to_string(), input.to_string()];
+        for (at, path) in excluded.iter().enumerate() {
+            match at {
+                0 => arguments.extend(["--exclude".to_string(), path.to_string()]),
+                _ => arguments.push(format!("--exclude={path}")),
+            }
+        }
+        let arguments: Vec<&str> = arguments.iter().map(String::as_str).collect();
+        let line = |file| format!("{file}:1:1: error: number has no digits\n");
+        let lines: String = files.iter().map(line).collect();
+        let ended = rust_lex(&folder, &arguments).output().unwrap();
+        let status = (!files.is_empty()).into();
+        check_ended(
+            &ended,
+            &lines,
+            &summary(files.len(), &lines),
+            status,
+            &arguments.concat(),
+        );
     }
+    let ended = rust_lex(&folder, &["check", "a", "--exclude", "a"])
+        .output()
+        .unwrap();
+    let warning = "rust-lex: warning: no Rust files in a\n";
+    check_ended(
+        &ended,
+        "",
+        &(warning.to_string() + &summary(0, "")),
+        0,
+        "all are excluded",
+    );
+}
+
+/// Crates that allow the lints of rustc for these characters need this option.
+#[test]
+fn allowed_text_direction() {
+    let text = "// \u{202e}\nconst A: &str = \"\u{2066}\"; 0x";
+    let direction = "bidirectional control character: code may be displayed in a different order\n";
+    let empty = "a.rs:2:22: error: number has no digits\n";
+    let all = format!("a.rs:1:1: error: {direction}a.rs:2:17: error: {direction}{empty}");
+    check_text("direction", &[], text, &all, 1);
+    for allow in [
+        &["--allow", "text-direction"][..],
+        &["--allow=text-direction", "--allow", "text-direction"],
+    ] {
+        check_text("direction", allow, text, empty, 1);
+    }
+    check_text(
+        "direction",
+        &["--allow=text-direction"],
+        "/* \u{2069} */",
+        "",
+        0,
+    );
 }
 
 #[test]
@@ -349,6 +475,7 @@ fn denied_warnings() {
     for arguments in [
         &["-D", "warnings"][..],
         &["-Dwarnings"],
+        &["-D", "warnings", "-Dwarnings", "--deny-warnings"],
         &["--deny-warnings"],
     ] {
         let words = [&["check"], arguments, &["a.rs"]].concat();
@@ -392,6 +519,23 @@ fn special_files() {
     );
 }
 
+/// A folder that cannot be read, since its path is too long.
+#[cfg(target_os = "linux")]
+#[test]
+fn folders_that_cannot_be_read() {
+    let folder = empty_folder("long_paths");
+    fs::write(folder.join("z.rs"), "0x").unwrap();
+    let make = "top=$PWD; name=$(printf %0250d 0); \
+        for i in 1 2 3 4 5 6 7 8 9 10 11 12 13 14 15 16 17; do mkdir $name && cd -P $name; done; cd $top";
+    let lines = "./z.rs:1:1: error: number has no digits\nstatus 2\n1\n\
+        rust-lex: 1 file checked, 1 not checked: 1 error, 0 warnings\n";
+    let check = format!(
+        "{make}; $P check . 2> messages; echo status $?; grep -c ': File name too long' messages; tail -1 messages"
+    );
+    check_shell(&folder, &[(&check, lines, "", 0)]);
+    fs::remove_dir_all(&folder).unwrap();
+}
+
 /// If the pipe is closed, the program ends quietly, with the exit status so far. Any other failed write is reported.
 #[cfg(target_os = "linux")]
 #[test]
@@ -427,10 +571,11 @@ fn streams() {
             ("$P check --help > /dev/full", "", full, 2),
             ("$P check valid.rs > /dev/full", "", valid, 0),
             (
+                // As in other programs in Rust, a closed stream is empty, or discards the output.
                 "$P check one.rs >&-",
                 "",
-                "rust-lex: standard output: the stream is closed\n",
-                2,
+                "rust-lex: 1 file checked: 1 error, 0 warnings\n",
+                1,
             ),
             ("$P check missing.rs 2> /dev/full", "", "", 2),
             (
@@ -439,19 +584,15 @@ fn streams() {
                 &format!("rust-lex: <stdin>: Is a directory (os error 21)\n{none}"),
                 2,
             ),
-            (
-                "$P check - <&-",
-                "",
-                &format!("rust-lex: <stdin>: the stream is closed\n{none}"),
-                2,
-            ),
+            ("$P check - <&-", "", valid, 0),
             // Messages are in order with the lines of the files before and after.
             (
-                "$P check one.rs latin.rs one.rs 2>&1",
+                "$P check one.rs latin.rs no.rs one.rs 2>&1",
                 "one.rs:1:1: error: number has no digits\n\
-                 rust-lex: latin.rs: invalid UTF-8 at byte offset 6\n\
+                 latin.rs:1:7: error: invalid UTF-8\n\
+                 rust-lex: no.rs: No such file or directory (os error 2)\n\
                  one.rs:1:1: error: number has no digits\n\
-                 rust-lex: 2 files checked, 1 not checked: 2 errors, 0 warnings\n",
+                 rust-lex: 2 files checked, 2 not checked: 3 errors, 0 warnings\n",
                 "",
                 2,
             ),

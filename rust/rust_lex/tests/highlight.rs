@@ -54,6 +54,8 @@ fn formats() {
 #[test]
 fn page() {
     let folder = empty_folder("page");
+    let css = rust_lex(&folder, &["highlight", "--css"]).output().unwrap();
+    check_ended(&css, STYLE_SHEET, "", 0, "--css");
     for arguments in [
         &["--html"][..],
         &["--html", "--color=always"],
@@ -68,8 +70,18 @@ fn page() {
             "{page}"
         );
         assert!(!page.contains("<script"));
-        assert!(page.contains(&format!("<style>\n{STYLE_SHEET}")));
+        assert!(page.contains(&format!("\n<style>\n{STYLE_SHEET}")));
     }
+    // Only what is between `<pre>` and `</pre>`.
+    let fragment = "<span class=\"keyword\">fn</span> &lt;";
+    let mut program = rust_lex(&folder, &["highlight", "--html=fragment"]);
+    check_ended(
+        &run_with_input(&mut program, b"fn <"),
+        fragment,
+        "",
+        0,
+        "--html=fragment",
+    );
 }
 
 #[test]
@@ -81,7 +93,7 @@ fn several_files() {
     fs::write(folder.join("--raw"), "0x").unwrap();
     let (missing, utf8) = (
         "rust-lex: none: No such file or directory (os error 2)\n",
-        "rust-lex: latin: invalid UTF-8 at byte offset 1\n",
+        "rust-lex: latin:1:2: invalid UTF-8\n",
     );
     for (arguments, output, messages, status) in [
         (&["t", "-", "t"][..], "fn abfn a", "", 0),
@@ -110,53 +122,58 @@ fn terminals_and_streams() {
     let folder = empty_folder("terminals");
     fs::write(folder.join("t"), "fn a").unwrap();
     let colours = "\x1b[35mfn\x1b[0m a";
+    // Colours are the default only on a terminal. Variables, options, and the output on a terminal and in a file.
+    for (variables, options, on_terminal, in_file) in [
+        ("TERM=xterm", "", colours, "fn a"),
+        ("TERM=xterm NO_COLOR=", "", colours, "fn a"),
+        ("TERM=xterm NO_COLOR=1", "", "fn a", "fn a"),
+        ("TERM=xterm CLICOLOR=1", "", colours, "fn a"),
+        ("TERM=xterm CLICOLOR=", "", colours, "fn a"),
+        ("TERM=xterm CLICOLOR=0", "", "fn a", "fn a"),
+        ("TERM=xterm CLICOLOR_FORCE=0", "", colours, "fn a"),
+        ("TERM=xterm CLICOLOR_FORCE=", "", colours, "fn a"),
+        ("TERM=xterm CLICOLOR_FORCE=1", "", colours, colours),
+        (
+            "TERM=dumb CLICOLOR=0 CLICOLOR_FORCE=1",
+            "",
+            colours,
+            colours,
+        ),
+        ("TERM=xterm CLICOLOR_FORCE=1 NO_COLOR=1", "", "fn a", "fn a"),
+        (
+            "TERM=xterm CLICOLOR_FORCE=1",
+            "--color=never",
+            "fn a",
+            "fn a",
+        ),
+        ("TERM=dumb", "", "fn a", "fn a"),
+        ("TERM=", "", "fn a", "fn a"),
+        ("-u TERM", "", "fn a", "fn a"),
+        ("-u TERM CLICOLOR=1", "", "fn a", "fn a"),
+        (
+            "TERM=dumb NO_COLOR=1 CLICOLOR=0",
+            "--color=always",
+            colours,
+            colours,
+        ),
+        ("TERM=xterm", "--color=never", "fn a", "fn a"),
+        ("TERM=xterm", "--color=auto", colours, "fn a"),
+        ("TERM=xterm", "--raw", "fn a", "fn a"),
+    ] {
+        let command = format!("$P highlight {options} t");
+        for (command, output) in [
+            (
+                format!("env {variables} script -qec '{command}' /dev/null"),
+                on_terminal,
+            ),
+            (format!("env {variables} {command}"), in_file),
+        ] {
+            check_shell(&folder, &[(&command, output, "", 0)]);
+        }
+    }
     check_shell(
         &folder,
         &[
-            // Colours are the default only if the output is a terminal.
-            (
-                r#"TERM=xterm script -qec "$P highlight t" /dev/null"#,
-                colours,
-                "",
-                0,
-            ),
-            (
-                r#"TERM=xterm NO_COLOR= script -qec "$P highlight t" /dev/null"#,
-                colours,
-                "",
-                0,
-            ),
-            (
-                r#"TERM=xterm NO_COLOR=1 script -qec "$P highlight t" /dev/null"#,
-                "fn a",
-                "",
-                0,
-            ),
-            (
-                r#"TERM=dumb script -qec "$P highlight t" /dev/null"#,
-                "fn a",
-                "",
-                0,
-            ),
-            (
-                r#"TERM=dumb script -qec "$P highlight --color=always t" /dev/null"#,
-                colours,
-                "",
-                0,
-            ),
-            (
-                r#"TERM=xterm script -qec "$P highlight --color=never t" /dev/null"#,
-                "fn a",
-                "",
-                0,
-            ),
-            (
-                r#"TERM=xterm script -qec "$P highlight t > o" /dev/null; cat o"#,
-                "fn a",
-                "",
-                0,
-            ),
-            ("NO_COLOR=1 $P highlight --color=always t", colours, "", 0),
             (
                 "head -c 131073 /dev/zero | tr '\\0' x | $P highlight | wc -c",
                 "131073\n",
@@ -169,18 +186,8 @@ fn terminals_and_streams() {
                 "rust-lex: /: Is a directory (os error 21)\n",
                 2,
             ),
-            (
-                "$P highlight <&-",
-                "",
-                "rust-lex: <stdin>: the stream is closed\n",
-                2,
-            ),
-            (
-                "$P highlight t >&-",
-                "",
-                "rust-lex: standard output: the stream is closed\n",
-                2,
-            ),
+            ("$P highlight <&-", "", "", 0),
+            ("$P highlight t >&-", "", "", 0),
             (
                 "$P highlight t > /dev/full",
                 "",

@@ -1,12 +1,12 @@
 //! Compares with rustc: it reports the same errors and warnings at the same lines and columns. Without rustc, the tests
-//! are skipped.
+//! are skipped, except in CI.
 
 mod common;
 
 use common::{empty_folder, rust_lex, text_of};
-use std::fs;
 use std::path::Path;
 use std::process::Command;
+use std::{env, fs};
 
 /// The contents of a line, the columns of its errors, and the columns of rustc if they differ.
 #[rustfmt::skip]
@@ -95,8 +95,7 @@ const FILES: [(&str, &[&str], &[&str]); 35] = [
     ("pub const A: &str = \"a\\\r\n \u{a0}b\";\r\n", &["1:23 warning"], &[]),
     ("pub const A: &str = \"a\\\n\n\u{a0}\\u{}\";\n", &["1:23 warning", "1:23 warning", "3:2"], &[]),
     ("pub const A: &str = \"\\x1\r\n\r\r\n\";\r\n", &["1:22", "2:1"], &["1:25", "2:1"]),
-    // rustc reads a guarded string as one token.
-    ("pub const A: &str = stringify!(#\"a\");\n", &["1:32", "1:34", "1:35"], &["1:32"]),
+    ("pub const A: &str = stringify!(#\"a\");\n", &["1:32"], &[]),
     ("pub const A: &str = stringify!(k#a);\n", &["1:32"], &[]),
     // A byte order mark has no column.
     ("\u{feff}pub const A: u8 = b'a';\n", &[], &[]),
@@ -109,11 +108,17 @@ const FILES: [(&str, &[&str], &[&str]); 35] = [
     ("\u{feff}/* a", &["1:1"], &[]),
 ];
 
-/// Returns whether rustc can be run, and prints a line if not.
+/// Returns the command for rustc.
+fn rustc() -> Command {
+    Command::new(env::var_os("RUSTC").unwrap_or("rustc".into()))
+}
+
+/// Returns whether rustc can be run, and prints a line if not. In CI, rustc must be there.
 fn has_rustc() -> bool {
-    let found = Command::new("rustc").arg("--version").output();
+    let found = rustc().arg("--version").output();
     let found = found.is_ok_and(|ended| ended.status.success());
     if !found {
+        assert!(env::var_os("CI").is_none(), "rustc is not installed");
         println!("rustc is not installed: skipped");
     }
     found
@@ -140,7 +145,7 @@ fn positions(output: &str, is_warning: fn(&str) -> bool) -> Vec<String> {
 
 /// Returns the positions that rustc reports for `a.rs` in this folder. Its output goes to the same folder.
 fn positions_of_rustc(folder: &Path, edition: &str) -> Vec<String> {
-    let mut rustc = Command::new("rustc");
+    let mut rustc = rustc();
     rustc.args([
         "--edition",
         edition,
@@ -212,21 +217,59 @@ fn the_same_positions() {
     }
 }
 
-/// Older editions reserve fewer prefixes.
+/// Editions, a line of tokens, and the columns of its errors in them.
+#[rustfmt::skip]
+const EDITIONS: [(&[&str], &str, &[usize]); 33] = [
+    (OLD, "z\"a\" 'z#a k#a ## 'r#a", &[]),
+    (&["2021"], "z\"a\" 'z#a k#a ## 'r#a", &[1, 6, 11]),
+    (&["2024"], "z\"a\" 'z#a k#a ## 'r#a", &[1, 6, 11, 15]),
+    // rustc 1.95 has no forced keywords.
+    (OLD, "k#b\"\\x\" 0x k#c\"\\x\" k#r\"\\x\"", &[5, 9, 16]),
+    (NEW, "k#b\"\\x\" 0x k#r\"\\x\"", &[1, 5, 9, 12]),
+    (&["2024"], "k#a\"b\" k#a#\"b\"", &[1, 3, 8, 10, 11]),
+    (OLD, "c\"\\x\" 0x", &[3, 7]),
+    (NEW, "c\"\\x\" 0x", &[3, 7]),
+    (OLD, "cr\"\\x\" 0x", &[4, 8]),
+    (NEW, "cr\"\\x\" 0x", &[8]),
+    (OLD, "cr#async cr##a cr'a' c'a' c#a", &[]),
+    (NEW, "cr'a' c'a' c#a", &[1, 7, 12]),
+    (OLD, "cr\"\\\"\" cr#\"a\"# cr#\"\\x\"#", &[20]),
+    (OLD, "cr#\"\"#\"\"# c\"\"c\"\" c\"\"x 0x", &[23]),
+    (OLD, "c\"\0\" c\"\\0\" c\"\\u{}\"", &[14]),
+    (NEW, "c\"\0\" c\"\\0\" c\"\\u{}\"", &[3, 8, 14]),
+    (OLD, "c\"a", &[2]),
+    (OLD, "0x cr#\"a", &[1, 7]),
+    (OLD, "'r#fn'a' 0x", &[10]),
+    (NEW, "'r#fn'a' 0x 'r#fn 'a'", &[1, 10]),
+    (NEW, "'r#self'a' 'r#a''b'", &[1, 1, 12, 17, 19]),
+    (NEW, "'r#fn'", &[1, 6]),
+    (&["2015", "2018", "2021"], "#\"\\x\"# ## ##\"\\x\"##", &[3, 14]),
+    (&["2024"], "#\"\\x\"# ## ##\"\\x\"##", &[1, 8, 11]),
+    (&["2024"], "#\"0x\" 0x \"\\x\"", &[1, 7, 11]),
+    (&["2024"], "#\"a\\\"b\"c 0x #\"\\x\"_", &[1, 10, 13]),
+    (&["2024"], "##\"a\"### 0x ##\"a\"# 0x", &[1, 10, 13, 20]),
+    (&["2024"], "##### 0x #### a## z#\"a\"", &[1, 3, 7, 10, 12, 15, 16, 19, 20]),
+    (&["2024"], "# \"\" #'a' #b\"\" r#\"\"# 0x", &[22]),
+    (&["2024"], "0x #\"0x", &[1, 5]),
+    (&["2024"], "0x ##\"0x ## \\\"", &[1, 6]),
+    (&["2024"], "#\"#\"#\" # 0x", &[1, 6]),
+    (&["2024"], "#\"/*\" /* #\"a\" */ // #\"", &[1]),
+];
+
+/// The editions before and after C strings and other prefixes.
+const OLD: &[&str] = &["2015", "2018"];
+const NEW: &[&str] = &["2021", "2024"];
+
 #[test]
 fn the_same_editions() {
     if !has_rustc() {
         return;
     }
-    let text = "pub const A: &str = stringify!(z\"a\" 'z#a k#a\n##\n'r#a);\n";
-    let prefixes = ["1:32", "1:37", "1:42"].map(String::from);
-    let all = ["1:32", "1:37", "1:42", "2:1"].map(String::from);
-    for (edition, wanted) in [
-        ("2015", &[][..]),
-        ("2018", &[]),
-        ("2021", &prefixes),
-        ("2024", &all),
-    ] {
-        check("judged_editions", text, edition, wanted, wanted);
+    for (editions, line, columns) in EDITIONS {
+        let text = format!("pub const A: &str = stringify!(\n{line}\n);\n");
+        let positions: Vec<String> = columns.iter().map(|column| format!("2:{column}")).collect();
+        for edition in editions {
+            check("judged_editions", &text, edition, &positions, &positions);
+        }
     }
 }

@@ -2,8 +2,11 @@
 
 mod common;
 
-use common::{check_ended, empty_folder, run_with_input, rust_lex};
-use std::fs;
+use common::{check_ended, empty_folder, run_with_input, rust_lex, text_of};
+use lexdump_run::rattle_std::io::Write;
+use lexdump_run::{Watched, write_listing};
+use rustc_lexer::{Edition, tokenize_document};
+use std::{fs, io};
 
 /// Arguments, standard input, and the listing.
 const LISTINGS: [(&[&str], &str, &str); 10] = [
@@ -50,15 +53,58 @@ fn listings() {
     }
 }
 
-/// Offsets go on after the first batch of tokens.
+/// Texts with every kind of token, and every value of their fields.
+const TEXTS: [&str; 11] = [
+    "#!/bin/sh\n---cargo\n---\n",
+    " ---a b\n---\n",
+    "fn main() { a && b | !c; } @#~?:$=<>-*/^%+,. [] 'a 'b: '1 '\u{e9}\u{1f642}",
+    "// a\n/// b\n//! c\n/* d */ /** e */ /*! f */ /* g",
+    "/** a",
+    "0b1 0o7 42 0xf 0b 0x_ 1.5 0b1.0 1e 0x1.0 2e9f64 1_u8",
+    "'a' b'b' \"c\"x b\"d\" c\"e\" r\"f\" br#\"g\"# cr##\"h\"##s",
+    "r#~ br#x cr#y r#a 'r#b k#c z#d 'z#e z\"f\" #\"g\"# ##",
+    "a\u{1f642} \u{1f642} \u{ac} \0 \u{feff}",
+    "b\"a",
+    "\u{e9} '",
+];
+
+/// A list of bytes, as a writer for `lexdump`.
+struct Lines(Vec<u8>);
+
+impl Write for Lines {
+    fn write(&mut self, bytes: &[u8]) -> io::Result<usize> {
+        self.0.extend(bytes);
+        Ok(bytes.len())
+    }
+
+    fn flush(&mut self) -> io::Result<()> {
+        Ok(())
+    }
+}
+
+/// Checks each prefix of each text.
 #[test]
-fn many_tokens() {
-    let folder = empty_folder("many_tokens");
-    fs::write(folder.join("a.rs"), "a ".repeat(10_000)).unwrap();
-    let ended = rust_lex(&folder, &["tokens", "a.rs"]).output().unwrap();
-    let line = |at| format!("{} 1 Ident\n{} 1 Whitespace\n", 2 * at, 2 * at + 1);
-    let listing: String = (0..10_000).map(line).collect();
-    check_ended(&ended, &listing, "", 0, "10,000 words");
+fn the_listing_of_lexdump() {
+    let folder = empty_folder("lexdump");
+    for text in TEXTS {
+        for text in text
+            .char_indices()
+            .map(|(start, _)| &text[..start])
+            .chain([text])
+        {
+            for edition in Edition::ALL.iter().copied() {
+                let tokens = tokenize_document(text, edition);
+                let start = tokens.offset() as u32;
+                let mut lines = Watched::new(Lines(Vec::new()));
+                write_listing(&mut lines, start, &tokens.into_vec()).unwrap();
+                let listing = lines.into_inner().0;
+                let mut program = rust_lex(&folder, &["tokens", "--edition"]);
+                program.arg(edition.year().to_string());
+                let ended = run_with_input(&mut program, text.as_bytes());
+                check_ended(&ended, text_of(&listing), "", 0, text);
+            }
+        }
+    }
 }
 
 #[test]

@@ -20,8 +20,13 @@ pub fn empty_folder(name: &str) -> PathBuf {
 pub fn rust_lex(folder: &Path, arguments: &[&str]) -> Command {
     let mut command = Command::new(env!("CARGO_BIN_EXE_rust-lex"));
     command.current_dir(folder).args(arguments);
-    command.env_remove("NO_COLOR").stdin(Stdio::null());
+    without_colour_variables(&mut command).stdin(Stdio::null());
     command
+}
+
+fn without_colour_variables(command: &mut Command) -> &mut Command {
+    let command = command.env_remove("NO_COLOR");
+    command.env_remove("CLICOLOR").env_remove("CLICOLOR_FORCE")
 }
 
 /// Runs a command with this text on standard input.
@@ -47,6 +52,17 @@ pub fn check_ended(ended: &Output, output: &str, messages: &str, status: i32, ab
     assert_eq!(ended.status.code(), Some(status), "{about}");
 }
 
+/// Returns the summary on standard error, for a number of files and the lines on standard output.
+pub fn summary(files: usize, lines: &str) -> String {
+    let count = |number, noun| format!("{number} {noun}{}", if number == 1 { "" } else { "s" });
+    let [errors, warnings] = [": error: ", ": warning: "].map(|it| lines.matches(it).count());
+    let (errors, warnings) = (count(errors, "error"), count(warnings, "warning"));
+    format!(
+        "rust-lex: {} checked: {errors}, {warnings}\n",
+        count(files, "file")
+    )
+}
+
 /// A shell command with `$P` for the program, its output, its messages, and its exit status.
 pub type ShellCase<'a> = (&'a str, &'a str, &'a str, i32);
 
@@ -56,7 +72,7 @@ pub fn check_shell(folder: &Path, cases: &[ShellCase<'_>]) {
         let mut shell = Command::new("sh");
         shell.args(["-c", command]).current_dir(folder);
         shell.env("P", env!("CARGO_BIN_EXE_rust-lex"));
-        shell.env_remove("NO_COLOR").stdin(Stdio::null());
+        without_colour_variables(&mut shell).stdin(Stdio::null());
         check_ended(&shell.output().unwrap(), output, messages, status, command);
     }
 }
