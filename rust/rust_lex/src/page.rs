@@ -18,6 +18,7 @@ pub const HEAD: [&str; 2] = [
 ",
 ];
 
+/// The style sheet of the page.
 pub const STYLE_SHEET: &str = "\
 :root { color-scheme: light dark; --back: #ffffff; --plain: #24292f; --comment: #6e7781; --doc: #2f6f4f;
   --keyword: #a0268c; --type: #0b5cad; --text: #0a6b2d; --escape: #0f7c86; --number: #9a4a00; --lifetime: #8a5a00;
