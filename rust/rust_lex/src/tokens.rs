@@ -6,16 +6,14 @@ use std::io::{self, Write};
 
 /// Writes a line for each token of a file: its offset, length and kind, and the fields of the kind.
 pub fn list(text: &str, edition: Edition, output: &mut impl Write) -> io::Result<()> {
-    let tokens = tokenize_document(text, edition);
+    let mut tokens = tokenize_document(text, edition);
     let mut start = tokens.offset();
-    for Token { kind, len } in tokens {
-        write!(output, "{start} {len} ")?;
-        output.write_all(kind.name().as_bytes())?;
-        write_fields(kind, output)?;
-        output.write_all(b"\n")?;
+    tokens.try_for_each(|Token { kind, len }| {
+        write!(output, "{start} {len} {}", kind.name())?;
         start += len as usize;
-    }
-    Ok(())
+        write_fields(kind, output)?;
+        output.write_all(b"\n")
+    })
 }
 
 fn write_fields(kind: TokenKind, output: &mut impl Write) -> io::Result<()> {

@@ -194,6 +194,12 @@ fn terminals_and_streams() {
                 "rust-lex: standard output: No space left on device (os error 28)\n",
                 2,
             ),
+            (
+                "head -c 131073 /dev/zero | $P highlight - none > /dev/full",
+                "",
+                "rust-lex: standard output: No space left on device (os error 28)\n",
+                2,
+            ),
             // The reader of the pipe has ended before the program starts.
             (
                 "mkfifo f; : < f & exec 3> f; wait; rm f; $P highlight t none >&3 2>&-",

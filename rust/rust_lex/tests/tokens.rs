@@ -2,7 +2,7 @@
 
 mod common;
 
-use common::{check_ended, empty_folder, run_with_input, rust_lex, text_of};
+use common::{check_ended, check_shell, empty_folder, run_with_input, rust_lex, text_of};
 use lexdump_run::rattle_std::io::Write;
 use lexdump_run::{Watched, write_listing};
 use rustc_lexer::{Edition, tokenize_document};
@@ -118,4 +118,32 @@ fn several_files() {
     let ended = run_with_input(&mut rust_lex(&folder, &arguments), b"+");
     let listing = "==> a.rs <==\n0 1 Ident\n==> <stdin> <==\n0 1 Plus\n==> b.rs <==\n";
     check_ended(&ended, listing, "", 0, "three inputs");
+}
+
+#[cfg(target_os = "linux")]
+#[test]
+fn failures() {
+    let folder = empty_folder("failed_listings");
+    fs::write(folder.join("a.rs"), "a").unwrap();
+    fs::write(folder.join("many.rs"), "a ".repeat(100_000)).unwrap();
+    fs::write(folder.join("latin.rs"), b"a\n\xff").unwrap();
+    let full = "rust-lex: standard output: No space left on device (os error 28)\n";
+    check_shell(
+        &folder,
+        &[
+            ("$P tokens a.rs > /dev/full", "", full, 2),
+            ("$P tokens many.rs none > /dev/full", "", full, 2),
+            ("$P tokens many.rs | head -1", "0 1 Ident\n", "", 0),
+            ("$P tokens <&-", "", "", 0),
+            ("$P tokens -- -", "", "", 0),
+            (
+                "$P tokens latin.rs none a.rs 2>&1",
+                "rust-lex: latin.rs:2:1: invalid UTF-8\n\
+                 rust-lex: none: No such file or directory (os error 2)\n\
+                 ==> a.rs <==\n0 1 Ident\n",
+                "",
+                2,
+            ),
+        ],
+    );
 }
