@@ -295,6 +295,36 @@ fn header_has_the_messages_of_errors_in_literals() {
     );
 }
 
+/// `calls.c` checks this order.
+#[test]
+fn header_has_the_order_of_statuses() {
+    let header = header();
+    let comment = header.split_once("returns the first of these:").unwrap().1;
+    let comment = comment.split_once('.').unwrap().0;
+    let listed = comment
+        .split([',', ' ', '\n', '*'])
+        .filter(|name| !name.is_empty());
+    let calls = fs::read_to_string(top().join("c/calls.c")).unwrap();
+    let order = calls.split_once("order[] = {").unwrap().1;
+    let order = order.split_once('}').unwrap().0.split([',', ' ', '\n']);
+    let checked = order.filter_map(|name| name.strip_prefix("RUSTC_LEXER_"));
+    assert_eq!(listed.collect::<Vec<_>>(), checked.collect::<Vec<_>>());
+}
+
+/// The longest message is that of a raw string, if its numbers have ten digits.
+#[test]
+fn header_has_room_for_every_message() {
+    let longest = "unterminated raw string: expected 4294967295 `#` after the closing quote, \
+        found 4294967294 at byte 4294967295";
+    let header = header();
+    let before = header
+        .split_once(" bytes are enough for every message")
+        .unwrap()
+        .0;
+    let enough: usize = before.rsplit(' ').next().unwrap().parse().unwrap();
+    assert!(longest.len() <= enough, "{enough}");
+}
+
 #[test]
 fn programs_with_checks() {
     let library = static_library();

@@ -165,6 +165,16 @@ fn positions_are_in_utf_16_units() {
 }
 
 #[test]
+fn inserted_text_keeps_its_blanks() {
+    let mut document = open("");
+    document.change(None, " fn ").unwrap();
+    document.change(Some((0, 4)..(0, 4)), " 1 ").unwrap();
+    document.change(Some((0, 7)..(0, 7)), "let").unwrap();
+    #[rustfmt::skip]
+    assert_eq!(document.full(), [0, 1, 2, 1, 0,  0, 4, 1, 4, 0,  0, 2, 3, 1, 0]);
+}
+
+#[test]
 fn a_delta_is_small() {
     let mut document = open("fn f() { 1 }\n");
     assert_eq!(document.full(), [0, 0, 2, 1, 0, 0, 9, 1, 4, 0]);
