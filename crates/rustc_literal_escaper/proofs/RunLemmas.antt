@@ -137,7 +137,7 @@ module _ (raw : Bool) (total : ℕ) where
       plain_items (total - length left) run ++ items_from (front_by raw) total (chars left)
   run-items rest run left e whole is = grind (arith, common_steps, chars-simple, items-run, encodes-chars)
 
-  items-nothing : (left : List ℕ) → length left ≡ 0 → items_from (front_by raw) total (chars left) ≡ []
+  pub items-nothing : (left : List ℕ) → length left ≡ 0 → items_from (front_by raw) total (chars left) ≡ []
   items-nothing left e =
       ap (λ (xs : List ℕ). items_from (front_by raw) total (chars xs)) (nil_from_length left e)
       ∙ (ap (λ (s : List ℕ). items_from (front_by raw) total s) chars-nil ∙ nothing (front_by raw) (place total))

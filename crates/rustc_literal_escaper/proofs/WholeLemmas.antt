@@ -25,10 +25,6 @@ pub chars_two : (bs : List ℕ) → 2 ≤ length bs → length bs < 3 → slice_
     → chars bs ≡ slice_index bs 0 ∷ slice_index bs 1 ∷ []
 chars_two bs l m a b = chars_are bs _ (grind (arith, common_steps)) (grind (arith, common_steps, nat_tests))
 
-pub chars_three : (bs : List ℕ) → 3 ≤ length bs → length bs < 4 → slice_index bs 0 < 128 → slice_index bs 1 < 128
-    → slice_index bs 2 < 128 → chars bs ≡ slice_index bs 0 ∷ slice_index bs 1 ∷ slice_index bs 2 ∷ []
-chars_three bs l m a b d = chars_are bs _ (grind (arith, common_steps)) (grind (arith, common_steps, nat_tests))
-
 -- An unescaped ASCII character.
 plain_is : (s : List ℕ) (c : ℕ) → s ≡ c ∷ [] → c < 128 → unescaped c ≡ Plain c → (c ≡ 92 → ⊥) → IsShort s c
 plain_is s c at small plain other = record {
@@ -108,17 +104,10 @@ braces_whole : (bs digits : List ℕ) (e : Element) → bs ≡ 117 ∷ 123 ∷ d
     → (e, []) ≡ escape (chars bs)
 braces_whole bs digits e is h = grind (arith, common_steps, list_all-append, chars_are)
 
-braces_is : (bs : List ℕ) (n : ℕ) → length bs ≡ n + 4 → slice_index bs 0 ≡ 117 → slice_index bs 1 ≡ 123
-    → slice_index bs (length bs - 1) ≡ 125 → bs ≡ 117 ∷ 123 ∷ (slice_index bs 2 ∷ take n (drop 3 bs)) ++ (125 ∷ [])
-braces_is bs n e u brace close = grind (arith, common_steps, get_or-drop, last_byte)
-
-pub number_escape : (bs : List ℕ) (r : Option Element) → 4 ≤ length bs → slice_index bs 0 ≡ 117
-    → slice_index bs 1 ≡ 123 → slice_index bs (length bs - 1) ≡ 125
-    → IfSome r (λ e. (list_all is_ascii (slice_index bs 2 ∷ take (length bs - 1 - 3) (drop 3 bs)) ≡ true) × ((e, []) ≡ braced (slice_index bs 2 ∷ take (length bs - 1 - 3) (drop 3 bs) ++ (125 ∷ []))))
-    → IfSome r (λ e. (e, []) ≡ escape (chars bs))
-number_escape bs None l u brace close h = tt
-number_escape bs (Some e) l u brace close h =
-    braces_whole bs (slice_index bs 2 ∷ take (length bs - 1 - 3) (drop 3 bs)) e (braces_is bs (length bs - 1 - 3) (omega arith) u brace close) h
+braces_is : (bs : List ℕ) (n : ℕ) → length bs ≡ n + 5 → slice_index bs 0 ≡ 92 → slice_index bs 1 ≡ 117
+    → slice_index bs 2 ≡ 123 → slice_index bs (length bs - 1) ≡ 125
+    → bs ≡ 92 ∷ 117 ∷ 123 ∷ (slice_index bs 3 ∷ take n (drop 4 bs)) ++ (125 ∷ [])
+braces_is bs n e slash u brace close = grind (arith, common_steps, get_or-drop, last_byte)
 
 -- ---- an escape that is the whole text
 
@@ -128,9 +117,16 @@ past_backslash bs rest e = ap chars e ∙ chars-simple true (92 ∷ []) rest ref
 starts-single : (s left : List ℕ) (e : Element) → s ≡ 92 ∷ left → (e, []) ≡ escape left → StartsWithSingle s e []
 starts-single s left e at is = rw at (grind (arith, common_steps, nat_tests))
 
-pub whole_is : (bs rest : List ℕ) (r : Option Element) → bs ≡ 92 ∷ rest → IfSome r (λ e. (e, []) ≡ escape (chars rest))
+pub number_whole : (bs : List ℕ) (r : Option Element) → 5 ≤ length bs → slice_index bs 0 ≡ 92
+    → slice_index bs 1 ≡ 117 → slice_index bs 2 ≡ 123 → slice_index bs (length bs - 1) ≡ 125
+    → IfSome r (in_braces (slice_index bs 3 ∷ take (length bs - 1 - 4) (drop 4 bs)))
     → IfSome r (λ e. StartsWithSingle (chars bs) e [])
-whole_is bs rest None whole h = tt
-whole_is bs rest (Some e) whole h = starts-single (chars bs) (chars rest) e (past_backslash bs rest whole) h
+number_whole bs None l slash u brace close h = tt
+number_whole bs (Some e) l slash u brace close h =
+    let digits : List ℕ = slice_index bs 3 ∷ take (length bs - 1 - 4) (drop 4 bs) in
+    let rest : List ℕ = 117 ∷ 123 ∷ digits ++ (125 ∷ []) in
+    starts-single (chars bs) (chars rest) e
+    (past_backslash bs rest (braces_is bs (length bs - 1 - 4) (omega arith) slash u brace close))
+    (braces_whole rest digits e refl h)
 
 pub ruleset whole_lemmas = (all_more, all_none, digit_ascii, first_digit, no_digits, number_ends)

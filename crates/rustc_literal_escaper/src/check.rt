@@ -7,14 +7,13 @@ ghost use Rattle.rustc_literal_escaper.specs.Answers.{errors_of};
 ghost use Rattle.rustc_literal_escaper.specs.Meaning as spec;
 ghost use Rattle.rustc_literal_escaper.specs.Meaning.{errors_in};
 ghost use Rattle.rustc_literal_escaper.specs.model.Elements.{front_by, items_from, place};
-ghost use Rattle.rustc_literal_escaper.specs.model.Plain.{is_simple, Passes};
 ghost use Rattle.rustc_literal_escaper.specs.model.Single as model;
 
 use crate::element::Element;
 use crate::elements::{ElementsOf, Sink, each};
 use crate::error::EscapeError;
 use crate::mode::Mode;
-use crate::simple::{is_short_and_simple, split_if_long};
+use crate::simple::{is_short_and_simple, split_simple};
 use crate::single::error_in_single;
 use crate::text::{Plain, Text};
 use std::ops::Range;
@@ -79,64 +78,39 @@ fn each_error<F: FnMut(Range<usize>, EscapeError)>(src: &str, mode: Mode, callba
     ensures calls { (last : F) × FoldsTo (λ f error g. F.step f error.0 error.1 tt g)
         callback (errors_of mode src.now) last }
 {
-    let raw = is_raw(mode);
     if src.is_empty() {
         return;
     }
+    let raw = is_raw(mode);
     if raw && is_short_and_simple(src) {
         return;
     }
-    let (_, left) = split_if_long(src, raw);
-    if is_valid(src.len(), left, raw, mode) {
+    let (_, left) = split_simple(src, raw);
+    if left.is_empty() {
+        return;
+    }
+    // A search of fewer bytes costs more than it saves.
+    if left.len() >= 4 && is_valid(src.len(), left, raw, mode) {
         return;
     }
     let mut errors = Errors { mode, callback };
     each(&mut Plain::ending(src.len(), left), raw, None, &mut errors);
 }
 
-/// For a rest of fewer bytes, a search for errors costs more than it saves.
-const SHORT_REST: usize = 4;
-
 /// Returns `true` if the rest of a string of `total` bytes has no errors and no warnings, or `false` if it may have some.
-/// The search is not generic, so it is optimized with this crate.
-#[inline(always)]
+/// This search is not generic, so it is optimized with this crate.
+#[inline(never)]
 fn is_valid(total: usize, left: &str, raw: bool, mode: Mode) -> bool
     requires within { length left.now ≤ total }
     ensures { result ≡ true
         → errors_in mode (items_from (front_by raw) total (chars left.now)) ≡ [] }
 {
-    if left.len() < SHORT_REST {
-        return left.is_empty();
-    }
+    let mut elements = ElementsOf::of_text(Plain::ending(total, left), raw);
     match mode {
-        Mode::Str | Mode::RawStr => is_valid_str(total, left, raw),
-        Mode::ByteStr | Mode::RawByteStr => is_valid_byte_str(total, left, raw),
+        Mode::Str | Mode::RawStr => elements.next_error(Mode::Str).is_none(),
+        Mode::ByteStr | Mode::RawByteStr => elements.next_error(Mode::ByteStr).is_none(),
         _ => false,
     }
-}
-
-/// Implements [`is_valid`] for strings and raw strings.
-#[inline(never)]
-fn is_valid_str(total: usize, left: &str, raw: bool) -> bool
-    requires within { length left.now ≤ total }
-    ensures { result ≡ true
-        → errors_in Mode.Str (items_from (front_by raw) total (chars left.now)) ≡ [] }
-{
-    ElementsOf::of_text(Plain::ending(total, left), raw)
-        .next_error(Mode::Str)
-        .is_none()
-}
-
-/// Implements [`is_valid`] for byte strings and raw byte strings.
-#[inline(never)]
-fn is_valid_byte_str(total: usize, left: &str, raw: bool) -> bool
-    requires within { length left.now ≤ total }
-    ensures { result ≡ true
-        → errors_in Mode.ByteStr (items_from (front_by raw) total (chars left.now)) ≡ [] }
-{
-    ElementsOf::of_text(Plain::ending(total, left), raw)
-        .next_error(Mode::ByteStr)
-        .is_none()
 }
 
 /// Returns whether a literal of this kind is raw.

@@ -4,7 +4,6 @@ ghost use Rattle.std.specs.Prelude.{if◌then◌else◌, MatchOption};
 ghost use Rattle.std.specs.Char.{digit_value, is_ascii};
 ghost use Rattle.std.specs.List.{list_all};
 ghost use Rattle.std.specs.Option.{IfSome};
-ghost use Rattle.std.specs.Str.{chars};
 ghost use Rattle.rustc_literal_escaper.specs.model.Escape as spec;
 ghost use Rattle.rustc_literal_escaper.specs.declared.element.Element.TheVariants.{Byte};
 ghost use Rattle.rustc_literal_escaper.specs.model.Escape.{closed_at_run, StartsWith};
@@ -27,34 +26,10 @@ pub fn read_escape<T: Text>(rest: &mut T) -> Element
     escape_at(next, rest)
 }
 
-/// Returns the escape that is all of these bytes after a backslash, if it has two digits or is a number of at most six.
-#[inline(never)]
-#[tactic(auto, using(crate::proofs::WholeLemmas::chars_three))]
-pub(crate) fn escape_of(rest: &[u8]) -> Option<Element>
-    ensures { IfSome result (λ e. (e, []) ≡ spec.escape (chars rest.now)) }
-{
-    match rest {
-        [b'x', high, low] => whole_byte(*high, *low),
-        [b'u', b'{', first, digits @ .., b'}'] => whole_number(*first, digits),
-        _ => None,
-    }
-}
-
-/// Returns the byte of two digits, if they are digits.
-#[inline(always)]
-fn whole_byte(high: u8, low: u8) -> Option<Element>
-    ensures { IfSome result (λ e. (high < 128) × (low < 128)
-        × ((e, []) ≡ spec.hex (high ∷ low ∷ []))) }
-{
-    let high = hex_digit(high as char)?;
-    let low = hex_digit(low as char)?;
-    Some(Element::Byte((high * 16 + low) as u8))
-}
-
 /// Returns the number with these digits, if there are at most six and no underscores.
-#[inline(always)]
+#[inline(never)]
 #[tactic(auto, using(crate::proofs::DigitLemmas::digit_lemmas, crate::proofs::WholeLemmas::whole_lemmas, std::proofs::lemmas::Grind::common_steps))]
-fn whole_number(first: u8, digits: &[u8]) -> Option<Element>
+pub(crate) fn whole_number(first: u8, digits: &[u8]) -> Option<Element>
     ensures { IfSome result (λ e. (list_all is_ascii (first ∷ digits.now) ≡ true)
         × ((e, []) ≡ spec.braced (first ∷ digits.now ++ (125 ∷ [])))) }
 {

@@ -7,7 +7,7 @@ ghost use Rattle.rustc_literal_escaper.specs.model.Plain as spec;
 
 use std::simd::prelude::*;
 
-/// Splits a text after the simple characters at its start.
+/// Splits a text after the simple characters at its start. A short text is not searched.
 #[inline(always)]
 #[tactic(auto, using(crate::proofs::LaneLemmas::run_front))]
 pub(crate) fn split_simple(text: &str, raw: bool) -> (&[u8], &str)
@@ -16,27 +16,12 @@ pub(crate) fn split_simple(text: &str, raw: bool) -> (&[u8], &str)
     ensures text { IsUtf8 result.1.now }
     ensures sizes { length text.now ≡ length result.0.now + length result.1.now }
 {
+    let least = if raw { 16 } else { 4 };
+    if text.len() < least {
+        return (&[], text);
+    }
     let end = simple_end(text.as_bytes(), raw);
     (&text.as_bytes()[..end], &text[end..])
-}
-
-// A string of fewer bytes is read without a search for simple characters.
-const SHORT: usize = 4;
-
-const SHORT_RAW: usize = 16;
-
-/// Splits a text after the simple characters at its start. A short text is not searched.
-#[inline(always)]
-pub(crate) fn split_if_long(src: &str, raw: bool) -> (&[u8], &str)
-    ensures simple { list_all (spec.is_simple raw) result.0.now ≡ true }
-    ensures whole { src.now ≡ result.0.now ++ result.1.now }
-    ensures text { IsUtf8 result.1.now }
-    ensures sizes { length src.now ≡ length result.0.now + length result.1.now }
-{
-    if src.len() < SHORT || (raw && src.len() < SHORT_RAW) {
-        return (&[], src);
-    }
-    split_simple(src, raw)
 }
 
 /// Returns the text after the simple characters at its start. A text of fewer than 32 bytes is not searched.

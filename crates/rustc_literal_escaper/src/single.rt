@@ -10,7 +10,7 @@ ghost use Rattle.rustc_literal_escaper.specs.model.Single as spec;
 
 use crate::element::Element;
 use crate::error::EscapeError;
-use crate::escape::{escape_of, read_escape, short};
+use crate::escape::{read_escape, short, whole_number};
 use crate::mode::Mode;
 use crate::strings::{AsByte, AsChar, Meaning};
 use crate::text::{Plain, Text};
@@ -119,13 +119,13 @@ fn is_plain(c: char) -> bool
     !matches!(c, '\n' | '\t' | '\'' | '\r' | '\\')
 }
 
-/// Returns the escape that is the whole text, if it has two digits or is a number of at most six.
+/// Returns the escape that is the whole text, if it is a number of at most six digits.
 #[inline(always)]
 fn whole_escape(src: &str) -> Option<Element>
     ensures { IfSome result (λ e. spec.StartsWithSingle (chars src.now) e []) }
 {
     match src.as_bytes() {
-        [b'\\', rest @ ..] => escape_of(rest),
+        [b'\\', b'u', b'{', first, digits @ .., b'}'] => whole_number(*first, digits),
         _ => None,
     }
 }

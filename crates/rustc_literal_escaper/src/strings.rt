@@ -1,5 +1,5 @@
 //! Reads strings of every kind and passes their units to a callback.
-ghost use Rattle.std.specs.Prelude.{◌≡◌, ◌≤◌, true, false, length};
+ghost use Rattle.std.specs.Prelude.{◌≡◌, true, false, length};
 ghost use Rattle.std.specs.List.{FoldsTo, list_all};
 ghost use Rattle.rustc_literal_escaper.specs.Answers.{items_of};
 ghost use Rattle.rustc_literal_escaper.specs.Meaning.{byte_of, char_of, raw_unit_of, unit_of};
@@ -8,7 +8,7 @@ ghost use Rattle.rustc_literal_escaper.specs.model.Plain.{is_ascii_value, plain_
 use crate::element::Element;
 use crate::elements::{Sink, each};
 use crate::error::EscapeError;
-use crate::simple::split_if_long;
+use crate::simple::split_simple;
 use crate::text::Plain;
 use crate::unit::{MixedUnit, NonZeroChar};
 use std::marker::PhantomData;
@@ -225,11 +225,6 @@ impl Meaning for AsMixedUnit {
     fn of(element: Element) -> Result<MixedUnit, EscapeError> {
         element.to_mixed_unit()
     }
-
-    #[inline(always)]
-    fn of_ascii(byte: u8) -> Result<MixedUnit, EscapeError> {
-        Ok(MixedUnit::Char(NonZeroChar::of_nonzero(byte as char)))
-    }
 }
 
 /// The values in raw C strings: characters other than U+0000.
@@ -264,8 +259,11 @@ fn each_unit<M: Meaning, F: FnMut(Range<usize>, Result<M::Meant, EscapeError>)>(
     ensures calls { (last : F) × FoldsTo (λ f item g. F.step f item.0 (M.meaning item.1) tt g)
         callback (items_of raw src.now) last }
 {
-    let (run, left) = split_if_long(src, raw);
-    each_ascii::<M, F>(run, run.len(), &mut callback);
+    if src.is_empty() {
+        return;
+    }
+    let (run, left) = split_simple(src, raw);
+    each_ascii::<M, F>(run, &mut callback);
     if left.is_empty() {
         return;
     }
@@ -276,22 +274,20 @@ fn each_unit<M: Meaning, F: FnMut(Range<usize>, Result<M::Meant, EscapeError>)>(
     each(&mut Plain::ending(src.len(), left), raw, None, &mut units);
 }
 
-/// Calls `callback` with the byte range and the value of each of these ASCII characters. The last one ends at `end`.
+/// Calls `callback` with the byte range and the value of each ASCII character at the start of a text.
 #[inline(always)]
 fn each_ascii<M: Meaning, F: FnMut(Range<usize>, Result<M::Meant, EscapeError>)>(
     run: &[u8],
-    end: usize,
     callback: &mut F,
 )
     requires callable { F.IsAlwaysCallable callback.old }
     requires values { list_all is_ascii_value run.now ≡ true }
-    requires within { length run.now ≤ end }
     ensures callable { F.IsAlwaysCallable callback.new }
     ensures calls { FoldsTo (λ f item g. F.step f item.0 (M.meaning item.1) tt g)
-        callback.old (plain_items end run.now) callback.new }
+        callback.old (plain_items (length run.now) run.now) callback.new }
 {
     let mut left = run;
-    let mut start = end - run.len();
+    let mut start = 0;
     'run: while let Some((byte, tail)) = left.split_first() {
         callback(start..start + 1, M::of_ascii(*byte));
         start += 1;

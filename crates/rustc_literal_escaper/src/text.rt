@@ -64,10 +64,7 @@ impl<'a> Plain<'a> {
     pub fn new(text: &'a str) -> Plain<'a>
         ensures { result ≡ (length text.now, chars text.now) }
     {
-        Plain {
-            total: text.len(),
-            ahead: text.chars(),
-        }
+        Plain::ending(text.len(), text)
     }
 
     /// Returns the characters at the end of a text of `total` bytes.

@@ -5,7 +5,7 @@ use crate::generated::element::Element;
 use crate::generated::elements::{ElementsOf, Sink, each};
 use crate::generated::error::EscapeError;
 use crate::generated::mode::Mode;
-use crate::generated::simple::{is_short_and_simple, split_if_long};
+use crate::generated::simple::{is_short_and_simple, split_simple};
 use crate::generated::single::error_in_single;
 use crate::generated::text::{Plain, Text};
 use core::ops::Range;
@@ -55,52 +55,35 @@ fn each_single_error<F: FnMut(Range<usize>, EscapeError)>(src: &str, mode: Mode,
 /// It is inlined into each arm of its caller, so that the mode is a constant there.
 #[inline(always)]
 fn each_error<F: FnMut(Range<usize>, EscapeError)>(src: &str, mode: Mode, callback: F) {
-    let raw = is_raw(mode);
     if src.is_empty() {
         return;
     }
+    let raw = is_raw(mode);
     if raw && is_short_and_simple(src) {
         return;
     }
-    let (_, left) = split_if_long(src, raw);
-    if is_valid(src.len(), left, raw, mode) {
+    let (_, left) = split_simple(src, raw);
+    if left.is_empty() {
+        return;
+    }
+    // A search of fewer bytes costs more than it saves.
+    if left.len() >= 4 && is_valid(src.len(), left, raw, mode) {
         return;
     }
     let mut errors = Errors { mode, callback };
     each(&mut Plain::ending(src.len(), left), raw, None, &mut errors);
 }
 
-/// For a rest of fewer bytes, a search for errors costs more than it saves.
-const SHORT_REST: usize = 4;
-
 /// Returns `true` if the rest of a string of `total` bytes has no errors and no warnings, or `false` if it may have some.
-/// The search is not generic, so it is optimized with this crate.
-#[inline(always)]
+/// This search is not generic, so it is optimized with this crate.
+#[inline(never)]
 fn is_valid(total: usize, left: &str, raw: bool, mode: Mode) -> bool {
-    if left.len() < SHORT_REST {
-        return left.is_empty();
-    }
+    let mut elements = ElementsOf::of_text(Plain::ending(total, left), raw);
     match mode {
-        Mode::Str | Mode::RawStr => is_valid_str(total, left, raw),
-        Mode::ByteStr | Mode::RawByteStr => is_valid_byte_str(total, left, raw),
+        Mode::Str | Mode::RawStr => elements.next_error(Mode::Str).is_none(),
+        Mode::ByteStr | Mode::RawByteStr => elements.next_error(Mode::ByteStr).is_none(),
         _ => false,
     }
-}
-
-/// Implements [`is_valid`] for strings and raw strings.
-#[inline(never)]
-fn is_valid_str(total: usize, left: &str, raw: bool) -> bool {
-    ElementsOf::of_text(Plain::ending(total, left), raw)
-        .next_error(Mode::Str)
-        .is_none()
-}
-
-/// Implements [`is_valid`] for byte strings and raw byte strings.
-#[inline(never)]
-fn is_valid_byte_str(total: usize, left: &str, raw: bool) -> bool {
-    ElementsOf::of_text(Plain::ending(total, left), raw)
-        .next_error(Mode::ByteStr)
-        .is_none()
 }
 
 /// Returns whether a literal of this kind is raw.

@@ -16,27 +16,9 @@ pub fn read_escape<T: Text>(rest: &mut T) -> Element {
     escape_at(next, rest)
 }
 
-/// Returns the escape that is all of these bytes after a backslash, if it has two digits or is a number of at most six.
-#[inline(never)]
-pub(crate) fn escape_of(rest: &[u8]) -> Option<Element> {
-    match rest {
-        [b'x', high, low] => whole_byte(*high, *low),
-        [b'u', b'{', first, digits @ .., b'}'] => whole_number(*first, digits),
-        _ => None,
-    }
-}
-
-/// Returns the byte of two digits, if they are digits.
-#[inline(always)]
-fn whole_byte(high: u8, low: u8) -> Option<Element> {
-    let high = hex_digit(high as char)?;
-    let low = hex_digit(low as char)?;
-    Some(Element::Byte((high * 16 + low) as u8))
-}
-
 /// Returns the number with these digits, if there are at most six and no underscores.
-#[inline(always)]
-fn whole_number(first: u8, digits: &[u8]) -> Option<Element> {
+#[inline(never)]
+pub(crate) fn whole_number(first: u8, digits: &[u8]) -> Option<Element> {
     let mut value = hex_digit(first as char)?;
     let mut count: usize = 1;
     let mut rest = digits;

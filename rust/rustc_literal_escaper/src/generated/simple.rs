@@ -3,25 +3,15 @@
 
 use crate::support::simd::*;
 
-/// Splits a text after the simple characters at its start.
-#[inline(always)]
-pub(crate) fn split_simple(text: &str, raw: bool) -> (&[u8], &str) {
-    let end = simple_end(text.as_bytes(), raw);
-    (&text.as_bytes()[..end], &text[end..])
-}
-
-// A string of fewer bytes is read without a search for simple characters.
-const SHORT: usize = 4;
-
-const SHORT_RAW: usize = 16;
-
 /// Splits a text after the simple characters at its start. A short text is not searched.
 #[inline(always)]
-pub(crate) fn split_if_long(src: &str, raw: bool) -> (&[u8], &str) {
-    if src.len() < SHORT || (raw && src.len() < SHORT_RAW) {
-        return (&[], src);
+pub(crate) fn split_simple(text: &str, raw: bool) -> (&[u8], &str) {
+    let least = if raw { 16 } else { 4 };
+    if text.len() < least {
+        return (&[], text);
     }
-    split_simple(src, raw)
+    let end = simple_end(text.as_bytes(), raw);
+    (&text.as_bytes()[..end], &text[end..])
 }
 
 /// Returns the text after the simple characters at its start. A text of fewer than 32 bytes is not searched.

@@ -3,7 +3,7 @@
 
 use crate::generated::element::Element;
 use crate::generated::error::EscapeError;
-use crate::generated::escape::{escape_of, read_escape, short};
+use crate::generated::escape::{read_escape, short, whole_number};
 use crate::generated::mode::Mode;
 use crate::generated::strings::{AsByte, AsChar, Meaning};
 use crate::generated::text::{Plain, Text};
@@ -98,11 +98,11 @@ fn is_plain(c: char) -> bool {
     !matches!(c, '\n' | '\t' | '\'' | '\r' | '\\')
 }
 
-/// Returns the escape that is the whole text, if it has two digits or is a number of at most six.
+/// Returns the escape that is the whole text, if it is a number of at most six digits.
 #[inline(always)]
 fn whole_escape(src: &str) -> Option<Element> {
     match src.as_bytes() {
-        [b'\\', rest @ ..] => escape_of(rest),
+        [b'\\', b'u', b'{', first, digits @ .., b'}'] => whole_number(*first, digits),
         _ => None,
     }
 }

@@ -4,7 +4,7 @@
 use crate::generated::element::Element;
 use crate::generated::elements::{Sink, each};
 use crate::generated::error::EscapeError;
-use crate::generated::simple::split_if_long;
+use crate::generated::simple::split_simple;
 use crate::generated::text::Plain;
 use crate::generated::unit::{MixedUnit, NonZeroChar};
 use core::marker::PhantomData;
@@ -174,11 +174,6 @@ impl Meaning for AsMixedUnit {
     fn of(element: Element) -> Result<MixedUnit, EscapeError> {
         element.to_mixed_unit()
     }
-
-    #[inline(always)]
-    fn of_ascii(byte: u8) -> Result<MixedUnit, EscapeError> {
-        Ok(MixedUnit::Char(NonZeroChar::of_nonzero(byte as char)))
-    }
 }
 
 /// The values in raw C strings: characters other than U+0000.
@@ -205,8 +200,11 @@ fn each_unit<M: Meaning, F: FnMut(Range<usize>, Result<M::Meant, EscapeError>)>(
     raw: bool,
     mut callback: F,
 ) {
-    let (run, left) = split_if_long(src, raw);
-    each_ascii::<M, F>(run, run.len(), &mut callback);
+    if src.is_empty() {
+        return;
+    }
+    let (run, left) = split_simple(src, raw);
+    each_ascii::<M, F>(run, &mut callback);
     if left.is_empty() {
         return;
     }
@@ -217,15 +215,14 @@ fn each_unit<M: Meaning, F: FnMut(Range<usize>, Result<M::Meant, EscapeError>)>(
     each(&mut Plain::ending(src.len(), left), raw, None, &mut units);
 }
 
-/// Calls `callback` with the byte range and the value of each of these ASCII characters. The last one ends at `end`.
+/// Calls `callback` with the byte range and the value of each ASCII character at the start of a text.
 #[inline(always)]
 fn each_ascii<M: Meaning, F: FnMut(Range<usize>, Result<M::Meant, EscapeError>)>(
     run: &[u8],
-    end: usize,
     callback: &mut F,
 ) {
     let mut left = run;
-    let mut start = end - run.len();
+    let mut start = 0;
     while let Some((byte, tail)) = left.split_first() {
         callback(start..start + 1, M::of_ascii(*byte));
         start += 1;

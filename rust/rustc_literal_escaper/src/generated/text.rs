@@ -30,10 +30,7 @@ impl<'a> Plain<'a> {
     /// Returns the characters of this text.
     #[inline(always)]
     pub fn new(text: &'a str) -> Plain<'a> {
-        Plain {
-            total: text.len(),
-            ahead: text.chars(),
-        }
+        Plain::ending(text.len(), text)
     }
 
     /// Returns the characters at the end of a text of `total` bytes.

@@ -42,16 +42,34 @@ returns-then-is_short_and_simple g c =
       );
     }
 
+pub returns-then-is_empty-2 : goal.returns-then-is_empty-2
+returns-then-is_empty-2 g c =
+    let mode = c.args.mode in
+    let left = c.split_simple.result.1.now in
+    let simple = rw c.is_raw-raw.ensures at c.split_simple.ensures.simple in
+    let none : length left ≡ 0 = grind (arith, common_steps, c.is_empty-2.ensures, c.if-is_empty-2.true) in
+    record {
+      calls = (
+        c.args.callback,
+        rw (
+            errors_of-past mode c.args.src.now c.split_simple.result.0.now left c.requires.double simple
+            c.split_simple.ensures.whole
+            ∙ errors-nothing (is_raw mode) (length c.args.src.now) mode left none
+            )
+            refl,
+      );
+    }
+
 pub returns-then-is_valid : goal.returns-then-is_valid
 returns-then-is_valid g c =
-    let simple = rw c.is_raw-raw.ensures at c.split_if_long.ensures.simple in
+    let simple = rw c.is_raw-raw.ensures at c.split_simple.ensures.simple in
     let none = rw c.is_raw-raw.ensures at (c.is_valid.ensures c.if-is_valid.true) in
     record {
       calls = (
         c.args.callback,
         rw (
-            errors_of-past c.args.mode c.args.src.now c.split_if_long.result.0.now c.split_if_long.result.1.now
-            c.requires.double simple c.split_if_long.ensures.whole
+            errors_of-past c.args.mode c.args.src.now c.split_simple.result.0.now c.split_simple.result.1.now
+            c.requires.double simple c.split_simple.ensures.whole
             ∙ none
             )
             refl,
@@ -61,12 +79,12 @@ returns-then-is_valid g c =
 pub returns : goal.returns
 returns g c =
     let runs = rw (c.ending.ensures, c.is_raw-raw.ensures) at c.each.ensures.runs in
-    let simple = rw c.is_raw-raw.ensures at c.split_if_long.ensures.simple in
+    let simple = rw c.is_raw-raw.ensures at c.split_simple.ensures.simple in
     record {
       calls = (
         c.each.new.sink.callback,
-        rw (errors_of-past c.args.mode c.args.src.now c.split_if_long.result.0.now c.split_if_long.result.1.now
-            c.requires.double simple c.split_if_long.ensures.whole)
+        rw (errors_of-past c.args.mode c.args.src.now c.split_simple.result.0.now c.split_simple.result.1.now
+            c.requires.double simple c.split_simple.ensures.whole)
             (folds_errors _ (λ s. s.callback) (λ s. s.mode) _ (λ s t i more took. took) runs),
       );
     }

@@ -1,12 +1,14 @@
-use Rattle.std.proofs.Common.{◌≡◌, ◌∷◌, ◌-◌, List, ℕ, arith, drop, length, take}
-use Rattle.std.proofs.lemmas.{Grind.{common_steps}, List.{length-drop, take_all}}
-use Rattle.rustc_literal_escaper.proofs.WholeLemmas.{whole_is}
+use Rattle.std.proofs.Common.{◌≡◌, ◌-◌, length, arith}
+use Rattle.std.specs.List.{slice_index}
+use Rattle.rustc_literal_escaper.proofs.WholeLemmas.{number_whole}
 use Rattle.rustc_literal_escaper.proofs.single.whole_escape.Goals as goal
 
 pub returns-in-92 : goal.returns-in-92
 returns-in-92 c =
-    let text : List ℕ = c.args.src.now in
-    let starts : text ≡ 92 ∷ drop 1 text = grind (arith, common_steps, c.as_bytes.ensures.value) in
-    let all : take (length text - 1) (drop 1 text) ≡ drop 1 text =
-    take_all (length text - 1) (drop 1 text) (omega (arith, length-drop 1 text)) in
-    whole_is text (drop 1 text) c.escape_of.result starts (rw (c.as_bytes.ensures.value, all) at c.escape_of.ensures)
+    let bytes = c.as_bytes.result.now in
+    let slash : slice_index bytes 0 ≡ 92 = grind arith in
+    let letter : slice_index bytes 1 ≡ 117 = grind arith in
+    let brace : slice_index bytes 2 ≡ 123 = grind arith in
+    let close : slice_index bytes (length bytes - 1) ≡ 125 = grind arith in
+    rw (c.as_bytes.ensures.value) at
+    (number_whole bytes c.whole_number.result c.in-92.len_at_least slash letter brace close c.whole_number.ensures)

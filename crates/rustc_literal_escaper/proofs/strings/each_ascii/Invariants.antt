@@ -8,8 +8,8 @@ abbrev pub invariant-run : goal.invariant-run
 invariant-run g l =
     goal.F-IsAlwaysCallable g l.callback
     × (list_all is_ascii_value l.left ≡ true)
-    × (l.start + length l.left ≡ l.end)
-    × ((last : _) → FoldsTo (λ f item h. goal.F-step g f item.0 (g.M.Meaning.meaning item.1) tt h) l.callback (plain_items l.end l.left) last → FoldsTo (λ f item h. goal.F-step g f item.0 (g.M.Meaning.meaning item.1) tt h) l.fn.callback (plain_items l.end l.fn.run) last)
+    × (l.start + length l.left ≡ length l.fn.run)
+    × ((last : _) → FoldsTo (λ f item h. goal.F-step g f item.0 (g.M.Meaning.meaning item.1) tt h) l.callback (plain_items (length l.fn.run) l.left) last → FoldsTo (λ f item h. goal.F-step g f item.0 (g.M.Meaning.meaning item.1) tt h) l.fn.callback (plain_items (length l.fn.run) l.fn.run) last)
 
 abbrev pub decreases-run : goal.decreases-run
 decreases-run g l = length l.left
