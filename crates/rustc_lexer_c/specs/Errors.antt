@@ -4,8 +4,8 @@ use Rattle.std.specs.Str.{IsUtf8}
 use Rattle.rustc_lexer.specs.Classes.{IsText}
 use Rattle.rustc_lexer.specs.declared.edition.Edition.{Edition}
 use Rattle.rustc_lexer.specs.LanguageCalls.{edition_of_year}
-use Rattle.rustc_lexer_highlight.specs.declared.errors.TokenError.{TokenError}
-use Rattle.rustc_lexer_highlight.specs.TokenError.{error_number, message}
+use Rattle.rustc_lexer_errors.specs.declared.errors.TokenError.{TokenError}
+use Rattle.rustc_lexer_errors.specs.TokenError.{error_number, message}
 use Rattle.rustc_lexer_c.specs.declared.status.Refusal.TheVariants.{BadEdition, NotUtf8, SmallBuffer, TooLong}
 use Rattle.rustc_lexer_c.specs.Status.{OK, refusal_number}
 

@@ -11,7 +11,7 @@ use Rattle.rustc_literal_escaper.specs.declared.mode.Mode.TheVariants.{CStr, Raw
 use Rattle.rustc_literal_escaper.specs.declared.unit.MixedUnit.{MixedUnit}
 use Rattle.rustc_literal_escaper.specs.declared.unit.MixedUnit.TheVariants.{Char as CharUnit, HighByte}
 use Rattle.rustc_literal_escaper.specs.Grammar.{Error, Item}
-use Rattle.rustc_lexer_highlight.specs.LineEnds.{escape_errors_in_file}
+use Rattle.rustc_lexer_errors.specs.LineEnds.{escape_errors_in_file}
 use Rattle.rustc_literal_escaper.specs.Answers.{byte_literal, char_literal, items_of}
 use Rattle.rustc_literal_escaper.specs.Meaning.{byte_of, char_of, is_fatal, is_raw, is_single, raw_unit_of, unit_of}
 pub use Rattle.rustc_literal_escaper.specs.Numbers.{error_number}

@@ -4,8 +4,8 @@ ghost use Rattle.std.specs.Fmt.{WritesInCalls};
 ghost use Rattle.rustc_lexer.specs.declared.edition.Edition.{Edition};
 ghost use Rattle.rustc_lexer.specs.declared.token.Token.{Token};
 ghost use Rattle.rustc_lexer.specs.LanguageCalls.{edition_of_year};
+ghost use Rattle.rustc_lexer_errors.specs.TokenError.{token_error};
 ghost use Rattle.rustc_lexer_highlight.specs.Class.{class_number, class_of};
-ghost use Rattle.rustc_lexer_highlight.specs.TokenError.{token_error};
 ghost use Rattle.rustc_lexer_c.specs.Errors as spec;
 ghost use Rattle.rustc_lexer_c.specs.model.Errors as model;
 ghost use Rattle.rustc_lexer_c.specs.Highlighted.{IsFront};
@@ -18,7 +18,8 @@ use crate::relex::edition_of;
 use crate::status::{OK, Refusal, done, refuse, text_of};
 use crate::token::CToken;
 use rustc_lexer::{Base, DocStyle, LiteralKind, TokenKind};
-use rustc_lexer_highlight::{TokenError, class_of, token_error};
+use rustc_lexer_errors::{TokenError, token_error};
+use rustc_lexer_highlight::class_of;
 use std::fmt;
 
 /// Writes the number of a token's class in the edition of a year. The token is passed as its numbers and its text.

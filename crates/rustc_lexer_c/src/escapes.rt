@@ -8,7 +8,7 @@ ghost use Rattle.rustc_literal_escaper.specs.Meaning.{is_raw, is_single, unit_of
 ghost use Rattle.rustc_lexer_c.specs.Escapes as spec;
 
 use crate::status::{Refusal, done, refuse, text_of, utf8_text_of};
-use rustc_lexer_highlight::EscapeErrorsInFile;
+use rustc_lexer_errors::EscapeErrorsInFile;
 use rustc_literal_escaper::{Element, Elements, EscapeError, Mode, unescape_byte, unescape_char};
 use std::ops::Range;
 

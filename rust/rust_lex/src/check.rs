@@ -2,10 +2,8 @@
 
 use crate::inputs::Source;
 use crate::position::Position;
-use rustc_lexer::tokenize_document;
-use rustc_lexer_highlight::{
-    Edition, EscapeErrorsInFile, TokenError, literal_contents, token_error,
-};
+use rustc_lexer::{Edition, tokenize_document};
+use rustc_lexer_errors::{EscapeErrorsInFile, TokenError, literal_contents, token_error};
 use std::io::{self, Write};
 
 /// The form of the lines for errors and warnings.

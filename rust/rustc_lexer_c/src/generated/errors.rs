@@ -7,7 +7,8 @@ use crate::generated::status::{OK, Refusal, done, refuse, text_of};
 use crate::generated::token::CToken;
 use core::fmt;
 use rustc_lexer::generated::{Base, DocStyle, LiteralKind, TokenKind};
-use rustc_lexer_highlight::{TokenError, class_of, token_error};
+use rustc_lexer_errors::generated::{TokenError, token_error};
+use rustc_lexer_highlight::class_of;
 
 /// Writes the number of a token's class in the edition of a year. The token is passed as its numbers and its text.
 pub fn rustc_lexer_class(text: &[u8], token: &CToken, edition: u32, number: &mut u32) -> u32 {

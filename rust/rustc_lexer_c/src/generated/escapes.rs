@@ -3,7 +3,7 @@
 
 use crate::generated::status::{Refusal, done, refuse, text_of, utf8_text_of};
 use core::ops::Range;
-use rustc_lexer_highlight::EscapeErrorsInFile;
+use rustc_lexer_errors::generated::EscapeErrorsInFile;
 use rustc_literal_escaper::generated::{
     Element, Elements, EscapeError, Mode, unescape_byte, unescape_char,
 };

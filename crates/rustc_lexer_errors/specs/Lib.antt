@@ -1,0 +1,7 @@
+pub mod Frontmatter
+pub mod LineEnds
+pub mod Literal
+pub mod TextError
+pub mod TokenError
+pub mod laws
+pub mod model

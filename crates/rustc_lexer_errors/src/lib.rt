@@ -1,0 +1,18 @@
+//! The errors of malformed tokens, the errors in literals, and the contents of literals.
+#![tactic(auto)]
+
+mod errors;
+mod escape_errors_in_file;
+mod frontmatter;
+mod line_ends;
+mod literal;
+mod text_error;
+
+pub use errors::{TokenError, token_error};
+pub use escape_errors_in_file::EscapeErrorsInFile;
+pub use literal::literal_contents;
+
+// For `rustc_lexer_highlight`, which highlights escapes and errors in literals.
+pub use escape_errors_in_file::{error_in_quotes, is_raw};
+pub use line_ends::file_elements;
+pub use literal::{between_quotes, mode_of};
