@@ -1,3 +1,4 @@
+pub mod DocCommentLemmas
 pub mod FileErrorLemmas
 pub mod FrontmatterLemmas
 pub mod LineEndLemmas

@@ -1,3 +1,4 @@
+pub mod DocComment
 pub mod Frontmatter
 pub mod LineEnds
 pub mod Literal

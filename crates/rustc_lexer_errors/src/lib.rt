@@ -1,6 +1,7 @@
-//! The errors of malformed tokens, the errors in literals, and the contents of literals.
+//! The errors of malformed tokens, the errors in literals, and the contents of literals and doc comments.
 #![tactic(auto)]
 
+mod doc_comment;
 mod errors;
 mod escape_errors_in_file;
 mod frontmatter;
@@ -8,6 +9,7 @@ mod line_ends;
 mod literal;
 mod text_error;
 
+pub use doc_comment::doc_comment_contents;
 pub use errors::{TokenError, token_error};
 pub use escape_errors_in_file::EscapeErrorsInFile;
 pub use literal::literal_contents;

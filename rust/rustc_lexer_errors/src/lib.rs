@@ -1,4 +1,4 @@
-//! Finds the errors of malformed Rust tokens, with a message for each, and the contents of literals.
+//! Finds the errors of malformed Rust tokens, with a message for each, and the contents of literals and doc comments.
 //!
 //! ```
 //! use rustc_lexer::{Edition, tokenize_document};
@@ -45,7 +45,7 @@
 pub mod generated;
 
 #[doc(inline)]
-pub use generated::{EscapeErrorsInFile, TokenError, literal_contents};
+pub use generated::{EscapeErrorsInFile, TokenError, doc_comment_contents, literal_contents};
 
 use rustc_lexer::{Edition, TokenKind};
 
