@@ -15,7 +15,7 @@ ghost use Rattle.rustc_lexer_c.specs.Status.{IsStatus, OK, refusal_number};
 
 use crate::buffer::Buffer;
 use crate::relex::edition_of;
-use crate::status::{OK, Refusal, done, refuse, text_of};
+use crate::status::{OK, Refusal, done, refuse, text_of, validate};
 use crate::token::CToken;
 use rustc_lexer::{Base, DocStyle, LiteralKind, TokenKind};
 use rustc_lexer_errors::{TokenError, token_error};
@@ -37,10 +37,7 @@ pub extern "C" fn rustc_lexer_class(
         → number.new ≡ class_number (class_of it.kind text.now year) }
     ensures refused { result ≢ OK → number.new ≡ 0 }
 {
-    let text = match text_of(text) {
-        Ok(text) => text,
-        Err(refusal) => return refuse(refusal, 0, number),
-    };
+    let text = validate!(text_of(text), 0, number);
     match edition_of(edition) {
         Some(edition) => done(
             u32::from(class_of(kind_of(token), text, edition).number()),
@@ -66,10 +63,7 @@ pub extern "C" fn rustc_lexer_token_error(
         → number.new ≡ spec.number_of (token_error it.kind text.now year) }
     ensures refused { result ≢ OK → number.new ≡ 0 }
 {
-    let text = match text_of(text) {
-        Ok(text) => text,
-        Err(refusal) => return refuse(refusal, 0, number),
-    };
+    let text = validate!(text_of(text), 0, number);
     match edition_of(edition) {
         Some(edition) => done(
             number_of(token_error(kind_of(token), text, edition)),
@@ -101,10 +95,7 @@ pub extern "C" fn rustc_lexer_token_error_message(
     ensures unchanged { result ≢ OK → result ≢ refusal_number SmallBuffer → buffer.new ≡ buffer.old }
 {
     *written = 0;
-    let text = match text_of(text) {
-        Ok(text) => text,
-        Err(refusal) => return refusal.number(),
-    };
+    let text = validate!(text_of(text));
     let Some(edition) = edition_of(edition) else {
         return Refusal::BadEdition.number();
     };
