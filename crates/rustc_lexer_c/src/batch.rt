@@ -52,7 +52,7 @@ pub extern "C" fn rustc_lexer_tokens_unchecked(
 {
     let text = validate!(utf8_text_of(text), 0, count);
     if !text.is_char_boundary(place.at as usize) {
-        return refuse(Refusal::BadPlace, 0, count);
+        return refuse(Refusal::InvalidPlace, 0, count);
     }
     done(fill(text, Edition::NEWEST, place, buffer), count)
 }
@@ -88,11 +88,11 @@ pub extern "C" fn rustc_lexer_tokens_in_unchecked(
 {
     let text = validate!(utf8_text_of(text), 0, count);
     if !text.is_char_boundary(place.at as usize) {
-        return refuse(Refusal::BadPlace, 0, count);
+        return refuse(Refusal::InvalidPlace, 0, count);
     }
     match edition_of(edition) {
         Some(edition) => done(fill(text, edition, place, buffer), count),
-        None => refuse(Refusal::BadEdition, 0, count),
+        None => refuse(Refusal::InvalidEdition, 0, count),
     }
 }
 

@@ -25,10 +25,10 @@ pub extern "C" fn rustc_lexer_is_token_boundary(
 {
     let text = validate!(text_of(text), 0, is);
     if !text.is_char_boundary(at) {
-        return refuse(Refusal::BadPlace, 0, is);
+        return refuse(Refusal::InvalidPlace, 0, is);
     }
     match edition_of(edition) {
         Some(edition) => done(u32::from(is_token_boundary(text, at, edition)), is),
-        None => refuse(Refusal::BadEdition, 0, is),
+        None => refuse(Refusal::InvalidEdition, 0, is),
     }
 }

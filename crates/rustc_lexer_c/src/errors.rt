@@ -10,7 +10,7 @@ ghost use Rattle.rustc_lexer_c.specs.Errors as spec;
 ghost use Rattle.rustc_lexer_c.specs.model.Errors as model;
 ghost use Rattle.rustc_lexer_c.specs.Highlighted.{IsFront};
 ghost use Rattle.rustc_lexer_c.specs.Numbers.{token_numbers};
-ghost use Rattle.rustc_lexer_c.specs.declared.status.Refusal.TheVariants.{BadEdition, SmallBuffer};
+ghost use Rattle.rustc_lexer_c.specs.declared.status.Refusal.TheVariants.{InvalidEdition, SmallBuffer};
 ghost use Rattle.rustc_lexer_c.specs.Status.{IsStatus, OK, refusal_number};
 
 use crate::buffer::Buffer;
@@ -31,7 +31,7 @@ pub extern "C" fn rustc_lexer_class(
     edition: u32,
     number: &mut u32,
 ) -> u32
-    ensures status { IsStatus text.now (edition_of_year edition ≢ None) (refusal_number BadEdition) result }
+    ensures status { IsStatus text.now (edition_of_year edition ≢ None) (refusal_number InvalidEdition) result }
     ensures class { result ≡ OK → (year : Edition) → edition_of_year edition ≡ Some year
         → (it : Token) → token_numbers it ≡ token.now
         → number.new ≡ class_number (class_of it.kind text.now year) }
@@ -43,7 +43,7 @@ pub extern "C" fn rustc_lexer_class(
             u32::from(class_of(kind_of(token), text, edition).number()),
             number,
         ),
-        None => refuse(Refusal::BadEdition, 0, number),
+        None => refuse(Refusal::InvalidEdition, 0, number),
     }
 }
 
@@ -57,7 +57,7 @@ pub extern "C" fn rustc_lexer_token_error(
     edition: u32,
     number: &mut u32,
 ) -> u32
-    ensures status { IsStatus text.now (edition_of_year edition ≢ None) (refusal_number BadEdition) result }
+    ensures status { IsStatus text.now (edition_of_year edition ≢ None) (refusal_number InvalidEdition) result }
     ensures error { result ≡ OK → (year : Edition) → edition_of_year edition ≡ Some year
         → (it : Token) → token_numbers it ≡ token.now
         → number.new ≡ spec.number_of (token_error it.kind text.now year) }
@@ -69,7 +69,7 @@ pub extern "C" fn rustc_lexer_token_error(
             number_of(token_error(kind_of(token), text, edition)),
             number,
         ),
-        None => refuse(Refusal::BadEdition, 0, number),
+        None => refuse(Refusal::InvalidEdition, 0, number),
     }
 }
 
@@ -97,7 +97,7 @@ pub extern "C" fn rustc_lexer_token_error_message(
     *written = 0;
     let text = validate!(text_of(text));
     let Some(edition) = edition_of(edition) else {
-        return Refusal::BadEdition.number();
+        return Refusal::InvalidEdition.number();
     };
     let error = token_error(kind_of(token), text, edition);
     let mut output = Buffer::new(buffer);

@@ -70,7 +70,7 @@ pub extern "C" fn rustc_lexer_unescape_unchecked(
     let text = validate!(utf8_text_of(text), 0, count);
     match mode_of(mode) {
         Some(mode) => done(fill_units(text, mode, passed, buffer), count),
-        None => refuse(Refusal::BadMode, 0, count),
+        None => refuse(Refusal::InvalidMode, 0, count),
     }
 }
 
@@ -114,7 +114,7 @@ pub extern "C" fn rustc_lexer_literal_errors_unchecked(
             fill_all(EscapeErrorsInFile::new(text, mode), passed, buffer),
             count,
         ),
-        None => refuse(Refusal::BadMode, 0, count),
+        None => refuse(Refusal::InvalidMode, 0, count),
     }
 }
 

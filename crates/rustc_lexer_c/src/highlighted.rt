@@ -42,10 +42,10 @@ pub extern "C" fn rustc_lexer_write_highlighted(
     *written = 0;
     let text = validate!(text_of(text));
     let Some(edition) = edition_of(edition) else {
-        return Refusal::BadEdition.number();
+        return Refusal::InvalidEdition.number();
     };
     let Some(format) = format_of(format) else {
-        return Refusal::BadFormat.number();
+        return Refusal::InvalidFormat.number();
     };
     let mut output = Buffer::new(buffer);
     let Ok(()) = fill(format, edition, count, text, &mut output) else {

@@ -98,10 +98,10 @@ pub extern "C" fn rustc_lexer_relex_unchecked(
 {
     let text = validate!(utf8_text_of(text), 0, count);
     let Some(edition) = edition_of(edition) else {
-        return refuse(Refusal::BadEdition, 0, count);
+        return refuse(Refusal::InvalidEdition, 0, count);
     };
     let Some(mut relex) = relex_at(text, old, change_of(edit), relexing) else {
-        return refuse(Refusal::BadEdit, 0, count);
+        return refuse(Refusal::InvalidEdit, 0, count);
     };
     *count = relex.fill(&mut Steps::new_in(edition), buffer);
     *relexing = relexing_numbers(&relex);

@@ -15,17 +15,17 @@ pub(crate) enum Refusal {
     /// The text has more than `u32::MAX` bytes.
     TooLong = 2,
     /// The offset is after the end of the text, or inside a character.
-    BadPlace = 3,
+    InvalidPlace = 3,
     /// Character number `prefix_len` of the text, counted from 1, is not an `r`.
     NotRaw = 4,
     /// No edition has the year.
-    BadEdition = 5,
+    InvalidEdition = 5,
     /// The edit cannot have resulted in the text, or relexing cannot continue from the numbers.
-    BadEdit = 6,
+    InvalidEdit = 6,
     /// No literal has the mode.
-    BadMode = 7,
+    InvalidMode = 7,
     /// No format has the number.
-    BadFormat = 8,
+    InvalidFormat = 8,
     /// The buffer is too small.
     SmallBuffer = 9,
 }

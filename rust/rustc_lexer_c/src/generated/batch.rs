@@ -40,7 +40,7 @@ pub fn rustc_lexer_tokens_unchecked(
 ) -> u32 {
     let text = validate!(utf8_text_of(text), 0, count);
     if !text.is_char_boundary(place.at as usize) {
-        return refuse(Refusal::BadPlace, 0, count);
+        return refuse(Refusal::InvalidPlace, 0, count);
     }
     done(fill(text, Edition::NEWEST, place, buffer), count)
 }
@@ -67,11 +67,11 @@ pub fn rustc_lexer_tokens_in_unchecked(
 ) -> u32 {
     let text = validate!(utf8_text_of(text), 0, count);
     if !text.is_char_boundary(place.at as usize) {
-        return refuse(Refusal::BadPlace, 0, count);
+        return refuse(Refusal::InvalidPlace, 0, count);
     }
     match edition_of(edition) {
         Some(edition) => done(fill(text, edition, place, buffer), count),
-        None => refuse(Refusal::BadEdition, 0, count),
+        None => refuse(Refusal::InvalidEdition, 0, count),
     }
 }
 

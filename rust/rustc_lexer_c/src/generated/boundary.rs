@@ -10,10 +10,10 @@ use rustc_lexer::generated::is_token_boundary;
 pub fn rustc_lexer_is_token_boundary(text: &[u8], at: usize, edition: u32, is: &mut u32) -> u32 {
     let text = validate!(text_of(text), 0, is);
     if !text.is_char_boundary(at) {
-        return refuse(Refusal::BadPlace, 0, is);
+        return refuse(Refusal::InvalidPlace, 0, is);
     }
     match edition_of(edition) {
         Some(edition) => done(u32::from(is_token_boundary(text, at, edition)), is),
-        None => refuse(Refusal::BadEdition, 0, is),
+        None => refuse(Refusal::InvalidEdition, 0, is),
     }
 }

@@ -18,7 +18,7 @@ pub fn rustc_lexer_class(text: &[u8], token: &CToken, edition: u32, number: &mut
             u32::from(class_of(kind_of(token), text, edition).number()),
             number,
         ),
-        None => refuse(Refusal::BadEdition, 0, number),
+        None => refuse(Refusal::InvalidEdition, 0, number),
     }
 }
 
@@ -31,7 +31,7 @@ pub fn rustc_lexer_token_error(text: &[u8], token: &CToken, edition: u32, number
             number_of(token_error(kind_of(token), text, edition)),
             number,
         ),
-        None => refuse(Refusal::BadEdition, 0, number),
+        None => refuse(Refusal::InvalidEdition, 0, number),
     }
 }
 
@@ -49,7 +49,7 @@ pub fn rustc_lexer_token_error_message(
     *written = 0;
     let text = validate!(text_of(text));
     let Some(edition) = edition_of(edition) else {
-        return Refusal::BadEdition.number();
+        return Refusal::InvalidEdition.number();
     };
     let error = token_error(kind_of(token), text, edition);
     let mut output = Buffer::new(buffer);

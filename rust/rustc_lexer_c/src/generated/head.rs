@@ -49,12 +49,12 @@ pub fn rustc_lexer_body_edit_unchecked(
     let text = validate!(utf8_text_of(text));
     let change = change_of(edit);
     if !change.is_valid_for(text) {
-        return Refusal::BadEdit.number();
+        return Refusal::InvalidEdit.number();
     }
     let now = Head::find(text);
     let body = head_of(head).body_change(now, change);
     if !body.change.is_valid_for(&text[now.body..]) {
-        return Refusal::BadEdit.number();
+        return Refusal::InvalidEdit.number();
     }
     *head = numbers_of_head(now);
     *body_edit = edit_of(body.change);

@@ -80,10 +80,10 @@ pub fn rustc_lexer_relex_unchecked(
 ) -> u32 {
     let text = validate!(utf8_text_of(text), 0, count);
     let Some(edition) = edition_of(edition) else {
-        return refuse(Refusal::BadEdition, 0, count);
+        return refuse(Refusal::InvalidEdition, 0, count);
     };
     let Some(mut relex) = relex_at(text, old, change_of(edit), relexing) else {
-        return refuse(Refusal::BadEdit, 0, count);
+        return refuse(Refusal::InvalidEdit, 0, count);
     };
     *count = relex.fill(&mut Steps::new_in(edition), buffer);
     *relexing = relexing_numbers(&relex);
