@@ -3,7 +3,7 @@
  * structs, the units of literals, and highlighting. Prints the first failed check and exits with 1. */
 #include "checks.h"
 
-static void check_bad_texts(void) {
+static void check_invalid_texts(void) {
     static const char *const bad[] = {"\xff", "a\xc3", "\xed\xa0\x80"};
     struct rustc_lexer_place place = {0, 1};
     size_t count;
@@ -174,15 +174,15 @@ static void check_places(batch_call *tokens) {
         struct rustc_lexer_place place = {at, 5};
         bool good = at == 0 || at == 1 || at == 3;
         uint32_t status = call(tokens, text, 3, &place, BUFFER_LEN, &count);
-        CHECK(status == (good ? RUSTC_LEXER_OK : RUSTC_LEXER_BAD_PLACE));
+        CHECK(status == (good ? RUSTC_LEXER_OK : RUSTC_LEXER_INVALID_PLACE));
         CHECK(good ? place.at == 3 : count == 0 && place.at == at && place.frontmatter_allowed == 5 && is_untouched(0));
     }
     struct rustc_lexer_place last = {UINT32_MAX, 0};
-    CHECK(call(tokens, text, 3, &last, BUFFER_LEN, &count) == RUSTC_LEXER_BAD_PLACE);
+    CHECK(call(tokens, text, 3, &last, BUFFER_LEN, &count) == RUSTC_LEXER_INVALID_PLACE);
 }
 
 /* Lexes a frontmatter, a prefix and a raw lifetime that are reserved since 2021, and two hashes that are reserved since
- * 2024. A call that fails changes nothing, and BAD_PLACE has priority over BAD_EDITION. */
+ * 2024. A call that fails changes nothing, and INVALID_PLACE has priority over INVALID_EDITION. */
 static void check_editions(void) {
     static const struct {
         uint32_t edition;
@@ -211,9 +211,9 @@ static void check_editions(void) {
         struct rustc_lexer_place start = {0, 7}, inside = {1, 7};
         const uint8_t *letter = (const uint8_t *)"\xc3\xa9";
         memset(buffer, 0xAA, sizeof buffer);
-        CHECK(rustc_lexer_tokens_in(letter, 2, none[i], &start, buffer, 8, &count) == RUSTC_LEXER_BAD_EDITION);
+        CHECK(rustc_lexer_tokens_in(letter, 2, none[i], &start, buffer, 8, &count) == RUSTC_LEXER_INVALID_EDITION);
         CHECK(count == 0 && start.at == 0 && start.frontmatter_allowed == 7 && is_untouched(0));
-        CHECK(rustc_lexer_tokens_in(letter, 2, none[i], &inside, buffer, 8, &count) == RUSTC_LEXER_BAD_PLACE);
+        CHECK(rustc_lexer_tokens_in(letter, 2, none[i], &inside, buffer, 8, &count) == RUSTC_LEXER_INVALID_PLACE);
         CHECK(count == 0 && inside.at == 1 && is_untouched(0));
     }
 }
@@ -290,12 +290,14 @@ static void check_others(void) {
         CHECK(is == cases[i].is);
     }
     is = 9;
-    CHECK(rustc_lexer_is_token_boundary((const uint8_t *)"\xc3\xa9", 2, 1, 2024, &is) == RUSTC_LEXER_BAD_PLACE &&
+    CHECK(rustc_lexer_is_token_boundary((const uint8_t *)"\xc3\xa9", 2, 1, 2024, &is) == RUSTC_LEXER_INVALID_PLACE &&
           is == 0);
     is = 9;
-    CHECK(rustc_lexer_is_token_boundary((const uint8_t *)"ab", 2, 3, 2024, &is) == RUSTC_LEXER_BAD_PLACE && is == 0);
+    CHECK(rustc_lexer_is_token_boundary((const uint8_t *)"ab", 2, 3, 2024, &is) == RUSTC_LEXER_INVALID_PLACE &&
+          is == 0);
     is = 9;
-    CHECK(rustc_lexer_is_token_boundary((const uint8_t *)"ab", 2, 1, 2020, &is) == RUSTC_LEXER_BAD_EDITION && is == 0);
+    CHECK(rustc_lexer_is_token_boundary((const uint8_t *)"ab", 2, 1, 2020, &is) == RUSTC_LEXER_INVALID_EDITION &&
+          is == 0);
     CHECK(rustc_lexer_strip_shebang((const uint8_t *)"#!///x\n[a]", 10, &end) == RUSTC_LEXER_OK && end == 6);
     CHECK(rustc_lexer_strip_shebang_unchecked((const uint8_t *)"#!///x\n[a]", 10, &end) == RUSTC_LEXER_OK && end == 6);
     CHECK(rustc_lexer_is_ident_unchecked((const uint8_t *)"a1", 2));
@@ -376,8 +378,8 @@ static void check_units(unescape_call *unescape) {
     CHECK(unescape(NULL, 0, RUSTC_LEXER_BYTE, 0, NULL, 0, &count) == RUSTC_LEXER_OK && count == 0);
     CHECK(unescape(NULL, 0, RUSTC_LEXER_BYTE, 0, units, 1, &count) == RUSTC_LEXER_OK && count == 1);
     CHECK(is_unit(units[0], 0, 0, RUSTC_LEXER_UNIT_ERROR, RUSTC_LEXER_ZERO_CHARS));
-    CHECK(unescape(text, len, RUSTC_LEXER_FLOAT, 0, units, 16, &count) == RUSTC_LEXER_BAD_MODE && count == 0);
-    CHECK(unescape(text, len, 11, 0, units, 16, &count) == RUSTC_LEXER_BAD_MODE && count == 0);
+    CHECK(unescape(text, len, RUSTC_LEXER_FLOAT, 0, units, 16, &count) == RUSTC_LEXER_INVALID_MODE && count == 0);
+    CHECK(unescape(text, len, 11, 0, units, 16, &count) == RUSTC_LEXER_INVALID_MODE && count == 0);
     CHECK(is_unit(units[0], 0, 0, RUSTC_LEXER_UNIT_ERROR, RUSTC_LEXER_ZERO_CHARS));
     for (size_t passed = 0; passed < 4; passed++) {
         CHECK(unescape(warned, 6, RUSTC_LEXER_STR, passed, units, 16, &count) == RUSTC_LEXER_OK && count == 4 - passed);
@@ -412,7 +414,7 @@ static void check_errors(unescape_call *errors) {
     CHECK(is_unit(units[0], 0, 2, RUSTC_LEXER_UNIT_ERROR, RUSTC_LEXER_MORE_THAN_ONE_CHAR));
     CHECK(errors(text, 1, RUSTC_LEXER_BYTE, 0, units, 1, &count) == RUSTC_LEXER_OK && count == 0);
     CHECK(errors(NULL, 0, RUSTC_LEXER_BYTE, 0, NULL, 0, &count) == RUSTC_LEXER_OK && count == 0);
-    CHECK(errors(text, len, 11, 0, units, 16, &count) == RUSTC_LEXER_BAD_MODE && count == 0);
+    CHECK(errors(text, len, 11, 0, units, 16, &count) == RUSTC_LEXER_INVALID_MODE && count == 0);
 }
 
 /* Highlights a text with a buffer of this size, and checks that the rest of the buffer is unchanged. */
@@ -461,10 +463,10 @@ static void check_marks(void) {
         uint32_t format, edition, status;
     } invalid[] = {
         {"\xff", 0, 0, RUSTC_LEXER_NOT_UTF8},
-        {"a", 0, 2022, RUSTC_LEXER_BAD_EDITION},
-        {"a", 1, 2024 + 65536, RUSTC_LEXER_BAD_EDITION},
-        {"a", 0, 2024, RUSTC_LEXER_BAD_FORMAT},
-        {"a", 4, 2024, RUSTC_LEXER_BAD_FORMAT},
+        {"a", 0, 2022, RUSTC_LEXER_INVALID_EDITION},
+        {"a", 1, 2024 + 65536, RUSTC_LEXER_INVALID_EDITION},
+        {"a", 0, 2024, RUSTC_LEXER_INVALID_FORMAT},
+        {"a", 4, 2024, RUSTC_LEXER_INVALID_FORMAT},
     };
     for (size_t i = 0; i < sizeof invalid / sizeof invalid[0]; i++) {
         written = 99;
@@ -525,15 +527,15 @@ static void check_messages(void) {
     CHECK(written == 0 && bytes[0] == 0xAA);
     written = 99;
     CHECK(rustc_lexer_token_error_message(text, 2, &number, 2020, bytes, sizeof bytes, &written) ==
-          RUSTC_LEXER_BAD_EDITION);
+          RUSTC_LEXER_INVALID_EDITION);
     CHECK(written == 0 && bytes[0] == 0xAA);
 }
 
 /* The header guarantees that, if several statuses apply, the first of these is returned. */
 static const uint32_t order[] = {
-    RUSTC_LEXER_TOO_LONG,     RUSTC_LEXER_NOT_UTF8,    RUSTC_LEXER_BAD_PLACE,
-    RUSTC_LEXER_NOT_RAW,      RUSTC_LEXER_BAD_MODE,    RUSTC_LEXER_BAD_EDITION,
-    RUSTC_LEXER_BAD_EDIT,     RUSTC_LEXER_BAD_FORMAT,  RUSTC_LEXER_SMALL_BUFFER,
+    RUSTC_LEXER_TOO_LONG,     RUSTC_LEXER_NOT_UTF8,       RUSTC_LEXER_INVALID_PLACE,
+    RUSTC_LEXER_NOT_RAW,      RUSTC_LEXER_INVALID_MODE,   RUSTC_LEXER_INVALID_EDITION,
+    RUSTC_LEXER_INVALID_EDIT, RUSTC_LEXER_INVALID_FORMAT, RUSTC_LEXER_SMALL_BUFFER,
 };
 
 static bool is_before(uint32_t one, uint32_t other) {
@@ -556,36 +558,37 @@ static void check_order(void) {
     size_t count;
     uint32_t is;
     const uint32_t rows[][3] = {
-        {rustc_lexer_tokens(bad, 1, &past, buffer, 1, &count), RUSTC_LEXER_NOT_UTF8, RUSTC_LEXER_BAD_PLACE},
+        {rustc_lexer_tokens(bad, 1, &past, buffer, 1, &count), RUSTC_LEXER_NOT_UTF8, RUSTC_LEXER_INVALID_PLACE},
         {rustc_lexer_tokens_in(bad, 1, 0, &(struct rustc_lexer_place){0, 0}, buffer, 1, &count), RUSTC_LEXER_NOT_UTF8,
-         RUSTC_LEXER_BAD_EDITION},
-        {rustc_lexer_tokens_in(good, 1, 0, &past, buffer, 1, &count), RUSTC_LEXER_BAD_PLACE, RUSTC_LEXER_BAD_EDITION},
-        {rustc_lexer_is_token_boundary(bad, 1, 9, 2024, &is), RUSTC_LEXER_NOT_UTF8, RUSTC_LEXER_BAD_PLACE},
-        {rustc_lexer_is_token_boundary(bad, 1, 0, 0, &is), RUSTC_LEXER_NOT_UTF8, RUSTC_LEXER_BAD_EDITION},
-        {rustc_lexer_is_token_boundary(good, 1, 9, 0, &is), RUSTC_LEXER_BAD_PLACE, RUSTC_LEXER_BAD_EDITION},
+         RUSTC_LEXER_INVALID_EDITION},
+        {rustc_lexer_tokens_in(good, 1, 0, &past, buffer, 1, &count), RUSTC_LEXER_INVALID_PLACE,
+         RUSTC_LEXER_INVALID_EDITION},
+        {rustc_lexer_is_token_boundary(bad, 1, 9, 2024, &is), RUSTC_LEXER_NOT_UTF8, RUSTC_LEXER_INVALID_PLACE},
+        {rustc_lexer_is_token_boundary(bad, 1, 0, 0, &is), RUSTC_LEXER_NOT_UTF8, RUSTC_LEXER_INVALID_EDITION},
+        {rustc_lexer_is_token_boundary(good, 1, 9, 0, &is), RUSTC_LEXER_INVALID_PLACE, RUSTC_LEXER_INVALID_EDITION},
         {rustc_lexer_validate_raw_str(bad, 1, 1, &error), RUSTC_LEXER_NOT_UTF8, RUSTC_LEXER_NOT_RAW},
-        {rustc_lexer_unescape(bad, 1, 11, 0, NULL, 0, &count), RUSTC_LEXER_NOT_UTF8, RUSTC_LEXER_BAD_MODE},
-        {rustc_lexer_literal_errors(bad, 1, 11, 0, NULL, 0, &count), RUSTC_LEXER_NOT_UTF8, RUSTC_LEXER_BAD_MODE},
+        {rustc_lexer_unescape(bad, 1, 11, 0, NULL, 0, &count), RUSTC_LEXER_NOT_UTF8, RUSTC_LEXER_INVALID_MODE},
+        {rustc_lexer_literal_errors(bad, 1, 11, 0, NULL, 0, &count), RUSTC_LEXER_NOT_UTF8, RUSTC_LEXER_INVALID_MODE},
         {rustc_lexer_relex(bad, 1, NULL, 0, &edit, 2024, &begin, buffer, 1, &count), RUSTC_LEXER_NOT_UTF8,
-         RUSTC_LEXER_BAD_EDIT},
+         RUSTC_LEXER_INVALID_EDIT},
         {rustc_lexer_relex(bad, 1, NULL, 0, &(struct rustc_lexer_edit){0, 0, 1}, 0, &begin, buffer, 1, &count),
-         RUSTC_LEXER_NOT_UTF8, RUSTC_LEXER_BAD_EDITION},
-        {rustc_lexer_relex(good, 1, NULL, 0, &edit, 0, &begin, buffer, 1, &count), RUSTC_LEXER_BAD_EDITION,
-         RUSTC_LEXER_BAD_EDIT},
-        {rustc_lexer_body_edit(bad, 1, &edit, &head, &made, &is), RUSTC_LEXER_NOT_UTF8, RUSTC_LEXER_BAD_EDIT},
+         RUSTC_LEXER_NOT_UTF8, RUSTC_LEXER_INVALID_EDITION},
+        {rustc_lexer_relex(good, 1, NULL, 0, &edit, 0, &begin, buffer, 1, &count), RUSTC_LEXER_INVALID_EDITION,
+         RUSTC_LEXER_INVALID_EDIT},
+        {rustc_lexer_body_edit(bad, 1, &edit, &head, &made, &is), RUSTC_LEXER_NOT_UTF8, RUSTC_LEXER_INVALID_EDIT},
         {rustc_lexer_token_error_message(bad, 1, &unknown, 0, NULL, 0, &count), RUSTC_LEXER_NOT_UTF8,
-         RUSTC_LEXER_BAD_EDITION},
-        {rustc_lexer_token_error_message(good, 1, &unknown, 0, NULL, 0, &count), RUSTC_LEXER_BAD_EDITION,
+         RUSTC_LEXER_INVALID_EDITION},
+        {rustc_lexer_token_error_message(good, 1, &unknown, 0, NULL, 0, &count), RUSTC_LEXER_INVALID_EDITION,
          RUSTC_LEXER_SMALL_BUFFER},
         {rustc_lexer_write_highlighted(bad, 1, 1, 0, 1, NULL, 0, &count), RUSTC_LEXER_NOT_UTF8,
-         RUSTC_LEXER_BAD_EDITION},
+         RUSTC_LEXER_INVALID_EDITION},
         {rustc_lexer_write_highlighted(bad, 1, 0, 2024, 1, NULL, 0, &count), RUSTC_LEXER_NOT_UTF8,
-         RUSTC_LEXER_BAD_FORMAT},
-        {rustc_lexer_write_highlighted(good, 1, 0, 0, 1, bytes, 8, &count), RUSTC_LEXER_BAD_EDITION,
-         RUSTC_LEXER_BAD_FORMAT},
-        {rustc_lexer_write_highlighted(good, 1, 1, 0, 1, NULL, 0, &count), RUSTC_LEXER_BAD_EDITION,
+         RUSTC_LEXER_INVALID_FORMAT},
+        {rustc_lexer_write_highlighted(good, 1, 0, 0, 1, bytes, 8, &count), RUSTC_LEXER_INVALID_EDITION,
+         RUSTC_LEXER_INVALID_FORMAT},
+        {rustc_lexer_write_highlighted(good, 1, 1, 0, 1, NULL, 0, &count), RUSTC_LEXER_INVALID_EDITION,
          RUSTC_LEXER_SMALL_BUFFER},
-        {rustc_lexer_write_highlighted(good, 1, 0, 2024, 1, NULL, 0, &count), RUSTC_LEXER_BAD_FORMAT,
+        {rustc_lexer_write_highlighted(good, 1, 0, 2024, 1, NULL, 0, &count), RUSTC_LEXER_INVALID_FORMAT,
          RUSTC_LEXER_SMALL_BUFFER},
     };
     for (size_t i = 0; i < sizeof rows / sizeof rows[0]; i++)
@@ -734,7 +737,7 @@ static void check_classes(void) {
         uint32_t wanted = year == 2015 ? RUSTC_LEXER_CLASS_PLAIN : is_edition ? RUSTC_LEXER_CLASS_KEYWORD : 0;
         number = 9;
         uint32_t status = rustc_lexer_class(word, 3, &token, year, &number);
-        CHECK(status == (is_edition ? RUSTC_LEXER_OK : RUSTC_LEXER_BAD_EDITION) && number == wanted);
+        CHECK(status == (is_edition ? RUSTC_LEXER_OK : RUSTC_LEXER_INVALID_EDITION) && number == wanted);
 
         size_t written = 99;
         uint8_t message[256];
@@ -768,7 +771,7 @@ int main(void) {
     check_many(rustc_lexer_tokens_unchecked, rustc_lexer_unescape_unchecked);
     check_errors(rustc_lexer_literal_errors);
     check_errors(rustc_lexer_literal_errors_unchecked);
-    check_bad_texts();
+    check_invalid_texts();
     check_order();
     check_null();
     check_records();

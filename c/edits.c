@@ -116,17 +116,17 @@ static void check_editions(relex_call *relex) {
     for (uint32_t year = 2000; year < 2100; year++) {
         memset(&held, 0, sizeof held);
         uint32_t status = edit_held(relex, &held, 0, 0, "'r#a##", year, BUFFER_LEN);
-        if (year > 2024 && status == RUSTC_LEXER_BAD_EDITION)
+        if (year > 2024 && status == RUSTC_LEXER_INVALID_EDITION)
             continue;
         if (year != 2015 && year != 2018 && year != 2021 && year < 2024) {
-            CHECK(status == RUSTC_LEXER_BAD_EDITION && held.relexing.stage == RUSTC_LEXER_STAGE_BEGIN);
+            CHECK(status == RUSTC_LEXER_INVALID_EDITION && held.relexing.stage == RUSTC_LEXER_STAGE_BEGIN);
             continue;
         }
         CHECK(status == RUSTC_LEXER_OK);
         CHECK(held.count == (year < 2021 ? 5 : year < 2024 ? 3 : 2));
     }
     memset(&held, 0, sizeof held);
-    CHECK(edit_held(relex, &held, 0, 0, "a", 2022, BUFFER_LEN) == RUSTC_LEXER_BAD_EDITION);
+    CHECK(edit_held(relex, &held, 0, 0, "a", 2022, BUFFER_LEN) == RUSTC_LEXER_INVALID_EDITION);
     CHECK(held.relexing.stage == RUSTC_LEXER_STAGE_BEGIN && held.relexing.at == 0);
 }
 
@@ -134,7 +134,7 @@ static void check_editions(relex_call *relex) {
 static const struct rustc_lexer_edit bad[] = {{3, 2, 3}, {3, 3, 1}, {2, 3, 3}, {1, 1, 2}, {0, 0, 6}, {9, 9, 9}};
 
 /* Tests impossible edits, numbers that no call wrote, and old tokens that no text has. */
-static void check_bad_edits(relex_call *relex) {
+static void check_invalid_edits(relex_call *relex) {
     static const uint8_t text[] = "a\xc3\xa9 b";
     static const uint32_t lens[] = {0, 1, 2, 3, 5, 0x7fffffff, UINT32_MAX};
     struct rustc_lexer_token old[5];
@@ -143,14 +143,14 @@ static void check_bad_edits(relex_call *relex) {
     for (size_t i = 0; i < sizeof bad / sizeof bad[0]; i++) {
         struct rustc_lexer_relexing relexing = {0};
         memset(buffer, 0xAA, sizeof buffer);
-        CHECK(relex(text, 5, old, 5, &bad[i], 2024, &relexing, buffer, BUFFER_LEN, &count) == RUSTC_LEXER_BAD_EDIT);
+        CHECK(relex(text, 5, old, 5, &bad[i], 2024, &relexing, buffer, BUFFER_LEN, &count) == RUSTC_LEXER_INVALID_EDIT);
         CHECK(count == 0 && relexing.stage == RUSTC_LEXER_STAGE_BEGIN && is_untouched(0));
     }
     struct rustc_lexer_edit good = {3, 3, 4};
     struct rustc_lexer_relexing none[] = {{0, 0, 0, 6, 0, 0, 1}, {0, 0, 0, 0, 0, 2, 1}, {0, 0, 0, 0, 0, 6, 1},
                                           {0, 0, 4, 0, 0, 3, 1}, {3, 0, 0, 3, 0, 0, 1}, {0, 0, 0, 0, SIZE_MAX, 0, 1}};
     for (size_t i = 0; i < sizeof none / sizeof none[0]; i++)
-        CHECK(relex(text, 5, old, 5, &good, 2024, &none[i], buffer, BUFFER_LEN, &count) == RUSTC_LEXER_BAD_EDIT &&
+        CHECK(relex(text, 5, old, 5, &good, 2024, &none[i], buffer, BUFFER_LEN, &count) == RUSTC_LEXER_INVALID_EDIT &&
               count == 0);
     /* a stage greater than _DONE counts as _MORE */
     static const size_t stages[] = {1, 3, 4, SIZE_MAX};
@@ -199,10 +199,10 @@ static void check_splices(void) {
         uint32_t status;
     } invalid[] = {
         {5, 2, 2, 5, RUSTC_LEXER_SMALL_BUFFER},        {0, 0, 0, 9, RUSTC_LEXER_SMALL_BUFFER},
-        {5, 3, 3, 0, RUSTC_LEXER_BAD_EDIT},            {5, 6, 0, 0, RUSTC_LEXER_BAD_EDIT},
-        {5, 0, 6, 9, RUSTC_LEXER_BAD_EDIT},            {5, SIZE_MAX, 2, 0, RUSTC_LEXER_BAD_EDIT},
-        {5, 1, SIZE_MAX, 0, RUSTC_LEXER_BAD_EDIT},     {9, 0, 0, 0, RUSTC_LEXER_BAD_EDIT},
-        {SIZE_MAX, 0, SIZE_MAX, 0, RUSTC_LEXER_BAD_EDIT},
+        {5, 3, 3, 0, RUSTC_LEXER_INVALID_EDIT},        {5, 6, 0, 0, RUSTC_LEXER_INVALID_EDIT},
+        {5, 0, 6, 9, RUSTC_LEXER_INVALID_EDIT},        {5, SIZE_MAX, 2, 0, RUSTC_LEXER_INVALID_EDIT},
+        {5, 1, SIZE_MAX, 0, RUSTC_LEXER_INVALID_EDIT}, {9, 0, 0, 0, RUSTC_LEXER_INVALID_EDIT},
+        {SIZE_MAX, 0, SIZE_MAX, 0, RUSTC_LEXER_INVALID_EDIT},
     };
     struct rustc_lexer_token old[BUFFER_LEN], lexed[BUFFER_LEN + 1];
     size_t count = 0;
@@ -391,14 +391,14 @@ static void check_heads(body_edit_call *body_edit) {
     edit_document(body_edit, &document, 0, document.len, "");
 }
 
-static void check_bad_heads(body_edit_call *body_edit) {
+static void check_invalid_heads(body_edit_call *body_edit) {
     const uint8_t *text = (const uint8_t *)"a\xc3\xa9+b";
     uint64_t random = 1;
     for (size_t i = 0; i < sizeof bad / sizeof bad[0]; i++) {
         struct rustc_lexer_head head = {7, 8, 1, {{.kind = 9}}}, before = head;
         struct rustc_lexer_edit made = {10, 11, 12};
         uint32_t head_kept = 13;
-        CHECK(body_edit(text, 5, &bad[i], &head, &made, &head_kept) == RUSTC_LEXER_BAD_EDIT && head_kept == 13);
+        CHECK(body_edit(text, 5, &bad[i], &head, &made, &head_kept) == RUSTC_LEXER_INVALID_EDIT && head_kept == 13);
         CHECK(memcmp(&head, &before, sizeof head) == 0);
         CHECK(made.start == 10 && made.old_end == 11 && made.new_end == 12);
     }
@@ -413,7 +413,7 @@ static void check_bad_heads(body_edit_call *body_edit) {
             numbers[j] = (uint32_t)below(&random, 4) * (uint32_t)(below(&random, 2) ? 1 : 0x55555555);
         memcpy(&head, numbers, sizeof head);
         uint32_t status = body_edit(text, 5, &edit, &head, &made, &head_kept);
-        CHECK(status == RUSTC_LEXER_OK || status == RUSTC_LEXER_BAD_EDIT);
+        CHECK(status == RUSTC_LEXER_OK || status == RUSTC_LEXER_INVALID_EDIT);
         if (status == RUSTC_LEXER_OK)
             CHECK(rustc_lexer_relex(text + head.body, 5 - head.body, NULL, 0, &made, 2024, &relexing, buffer,
                                     BUFFER_LEN, &count) == RUSTC_LEXER_OK);
@@ -449,9 +449,9 @@ int main(void) {
         check_edits(relexes[i]);
         check_long_edit(relexes[i]);
         check_editions(relexes[i]);
-        check_bad_edits(relexes[i]);
+        check_invalid_edits(relexes[i]);
         check_heads(body_edits[i]);
-        check_bad_heads(body_edits[i]);
+        check_invalid_heads(body_edits[i]);
         check_random_documents(body_edits[i]);
     }
     for (uint32_t edition = 2015; edition <= 2024; edition += 3)

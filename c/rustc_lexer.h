@@ -32,19 +32,19 @@
 extern "C" {
 #endif
 
-/* Statuses. If several apply, a function returns the first of these: TOO_LONG, NOT_UTF8, BAD_PLACE, NOT_RAW, BAD_MODE,
- * BAD_EDITION, BAD_EDIT, BAD_FORMAT, SMALL_BUFFER. */
+/* Statuses. If several apply, a function returns the first of these: TOO_LONG, NOT_UTF8, INVALID_PLACE, NOT_RAW,
+ * INVALID_MODE, INVALID_EDITION, INVALID_EDIT, INVALID_FORMAT, SMALL_BUFFER. */
 enum {
     RUSTC_LEXER_OK = 0,
-    RUSTC_LEXER_NOT_UTF8 = 1,    /* the text is not UTF-8 */
-    RUSTC_LEXER_TOO_LONG = 2,    /* the text is longer than 4294967295 bytes */
-    RUSTC_LEXER_BAD_PLACE = 3,   /* the position is after the end of the text, or inside a character */
-    RUSTC_LEXER_NOT_RAW = 4,     /* character number prefix_len of the text, counted from 1, is not an r */
-    RUSTC_LEXER_BAD_EDITION = 5, /* no edition of Rust has this year */
-    RUSTC_LEXER_BAD_EDIT = 6,    /* the edit cannot have resulted in the text, or relexing cannot continue */
-    RUSTC_LEXER_BAD_MODE = 7,    /* the mode is not one of RUSTC_LEXER_CHAR to RUSTC_LEXER_RAW_C_STR */
-    RUSTC_LEXER_BAD_FORMAT = 8,  /* the format is not one of RUSTC_LEXER_FORMAT_.. */
-    RUSTC_LEXER_SMALL_BUFFER = 9 /* the buffer is too small for the output */
+    RUSTC_LEXER_NOT_UTF8 = 1,        /* the text is not UTF-8 */
+    RUSTC_LEXER_TOO_LONG = 2,        /* the text is longer than 4294967295 bytes */
+    RUSTC_LEXER_INVALID_PLACE = 3,   /* the position is after the end of the text, or inside a character */
+    RUSTC_LEXER_NOT_RAW = 4,         /* character number prefix_len of the text, counted from 1, is not an r */
+    RUSTC_LEXER_INVALID_EDITION = 5, /* no edition of Rust has this year */
+    RUSTC_LEXER_INVALID_EDIT = 6,    /* the edit cannot have resulted in the text, or relexing cannot continue */
+    RUSTC_LEXER_INVALID_MODE = 7,    /* the mode is not one of RUSTC_LEXER_CHAR to RUSTC_LEXER_RAW_C_STR */
+    RUSTC_LEXER_INVALID_FORMAT = 8,  /* the format is not one of RUSTC_LEXER_FORMAT_.. */
+    RUSTC_LEXER_SMALL_BUFFER = 9     /* the buffer is too small for the output */
 };
 
 /* Kinds of tokens. The kind 0 marks an entry without a token. No function writes 43. */
@@ -384,7 +384,7 @@ uint32_t rustc_lexer_tokens_unchecked(const uint8_t *text, size_t len, struct ru
                                       struct rustc_lexer_token *buffer, size_t buffer_len, size_t *count);
 
 /* Like the two functions above, but in the edition of a year: 2015, 2018, 2021 or 2024. The functions above use the
- * newest edition. Returns RUSTC_LEXER_BAD_EDITION for any other year. Frontmatters are the same in all editions. */
+ * newest edition. Returns RUSTC_LEXER_INVALID_EDITION for any other year. Frontmatters are the same in all editions. */
 uint32_t rustc_lexer_tokens_in(const uint8_t *text, size_t len, uint32_t edition, struct rustc_lexer_place *place,
                                struct rustc_lexer_token *buffer, size_t buffer_len, size_t *count);
 uint32_t rustc_lexer_tokens_in_unchecked(const uint8_t *text, size_t len, uint32_t edition,
@@ -419,8 +419,8 @@ struct rustc_lexer_token rustc_lexer_first_token_unchecked(const uint8_t *text, 
  * The edition is a year, as in rustc_lexer_tokens_in. No frontmatter is allowed: the tokens of a text are the tokens
  * that rustc_lexer_tokens_in writes from {0, 0}.
  *
- * If the status is not 0, `buffer` and `relexing` are unchanged, and `count` is 0. RUSTC_LEXER_BAD_EDIT means one of
- * these:
+ * If the status is not 0, `buffer` and `relexing` are unchanged, and `count` is 0. RUSTC_LEXER_INVALID_EDIT means one
+ * of these:
  *   - `start` is greater than `old_end` or `new_end`;
  *   - `start` or `new_end` is after the end of the text or inside a character;
  *   - at a later stage, `at` is after the end of the text or inside a character, `lexed` is greater than `at`,
@@ -445,7 +445,7 @@ uint32_t rustc_lexer_relex_unchecked(const uint8_t *text, size_t len, const stru
  * the start of the buffer and has `count` tokens. Writes the new number of tokens into `count`. The contents of the
  * buffer after these tokens are unspecified.
  *
- * If the status is not 0, nothing is written. RUSTC_LEXER_BAD_EDIT means that `count` is greater than `buffer_len`,
+ * If the status is not 0, nothing is written. RUSTC_LEXER_INVALID_EDIT means that `count` is greater than `buffer_len`,
  * or less than `kept_front` and `kept_back` together. RUSTC_LEXER_SMALL_BUFFER means that the new list does not fit. */
 uint32_t rustc_lexer_splice(struct rustc_lexer_token *buffer, size_t buffer_len, size_t *count, size_t kept_front,
                             size_t kept_back, const struct rustc_lexer_token *lexed, size_t lexed_len);
@@ -465,8 +465,8 @@ uint32_t rustc_lexer_splice(struct rustc_lexer_token *buffer, size_t buffer_len,
  * If `head` is not the head of the text before the edit, the result has no meaning, but the call is safe. To lex a
  * whole document, pass zeros and the edit {0, 0, len}.
  *
- * If the status is not 0, nothing is written. RUSTC_LEXER_BAD_EDIT has the same meaning as for rustc_lexer_relex, or
- * `head` cannot be the head of the text before the edit. If the status is 0, rustc_lexer_relex accepts `body_edit`
+ * If the status is not 0, nothing is written. RUSTC_LEXER_INVALID_EDIT has the same meaning as for rustc_lexer_relex,
+ * or `head` cannot be the head of the text before the edit. If the status is 0, rustc_lexer_relex accepts `body_edit`
  * for the body.
  *
  * Each call checks the whole text. */

@@ -1,7 +1,7 @@
 //! The value of a literal.
 
-use rustc_lexer_highlight::literal_contents;
 use rustc_lexer::TokenKind;
+use rustc_lexer_errors::literal_contents;
 use rustc_literal_escaper::{
     EscapeError, MixedUnit, Mode, check_raw_byte_str, check_raw_c_str, check_raw_str,
     escape_byte_str, escape_str, unescape_byte, unescape_byte_str, unescape_c_str, unescape_char,

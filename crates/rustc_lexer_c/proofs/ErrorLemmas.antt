@@ -7,7 +7,8 @@ use Rattle.rustc_lexer.specs.declared.token.TokenKind.{TokenKind, TheVariants.{L
 use Rattle.rustc_lexer.specs.Kinds.{kind_entry, literal_entry}
 use Rattle.rustc_lexer_c.specs.{declared.token.CToken.{CToken}, model.Errors.{kind_of}}
 use Rattle.rustc_lexer_c.specs.Numbers.{first_of, literal_second, literal_third, second_of, third_of, token_numbers}
-use Rattle.rustc_lexer_highlight.specs.{Class.{class_of}, TokenError.{token_error}}
+use Rattle.rustc_lexer_errors.specs.TokenError.{token_error}
+use Rattle.rustc_lexer_highlight.specs.Class.{class_of}
 
 abbrev AreKept : TokenKind → ℕ → List ℕ → Edition → Type 0
 AreKept kind len text edition =

@@ -8,8 +8,8 @@ use Rattle.rustc_literal_escaper.specs.{declared.mode.Mode.{Mode}, Items.{TakesF
 use Rattle.rustc_literal_escaper.specs.Grammar.{Error}
 use Rattle.rustc_literal_escaper.proofs.FewLemmas.{errors_of-few, items-few}
 use Rattle.rustc_lexer.specs.laws.Choice.{by_either}
-use Rattle.rustc_lexer_highlight.specs.LineEnds.{ends_line, escape_errors_in_file, moved, unix}
-use Rattle.rustc_lexer_highlight.proofs.LineEndLemmas.{utf8-unix}
+use Rattle.rustc_lexer_errors.specs.LineEnds.{ends_line, escape_errors_in_file, moved, unix}
+use Rattle.rustc_lexer_errors.proofs.LineEndLemmas.{utf8-unix}
 use Rattle.rustc_lexer_c.specs.{declared.escapes.CUnit.{CUnit}, Escapes.{IsUnits, units_of, wrong_unit, wrong_units_of}}
 use Rattle.rustc_lexer_c.proofs.BufferLemmas.{all_taken, back_step, buffer_filled, count_second, few_step, front_step}
 use Rattle.rustc_lexer_c.proofs.BufferLemmas.{left_step}

@@ -134,8 +134,8 @@ module _ (edition : Edition) (text : List ℕ) (old : List CToken) (change : CEd
         ok = λ _ _ _ _ _. refl;
         not_utf8 = λ _ not. absurd (not is.utf8);
         too_long = λ long. absurd (omega (arith, long, is.fits));
-        bad_edition = λ _ none. grind (arith, common_steps);
-        bad_edit = λ _ _ _ not. absurd (asked not);
+        invalid_edition = λ _ none. grind (arith, common_steps);
+        invalid_edit = λ _ _ _ not. absurd (asked not);
       };
       batch = λ _ other other_is.
           let same : edition ≡ other = cc in

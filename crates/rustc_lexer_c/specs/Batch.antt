@@ -13,7 +13,7 @@ use Rattle.rustc_lexer.specs.Tokens.{tokens_left}
 use Rattle.rustc_lexer_c.specs.declared.batch.CPlace.{CPlace}
 use Rattle.rustc_lexer_c.specs.declared.token.CToken.{CToken}
 use Rattle.rustc_lexer_c.specs.Numbers.{token_numbers}
-use Rattle.rustc_lexer_c.specs.declared.status.Refusal.TheVariants.{BadPlace}
+use Rattle.rustc_lexer_c.specs.declared.status.Refusal.TheVariants.{InvalidPlace}
 use Rattle.rustc_lexer_c.specs.Status.{IsPlaceStatus, IsStatus, OK, refusal_number}
 
 -- Returns the flag with this number: 0 is `No`, and any other number is `Yes`.
@@ -63,7 +63,7 @@ pub record IsBatch (text : List ℕ) (s : State) (buffer : List CToken) (place :
 -- boundary. If the call fails, the position and the buffer are unchanged, and the count is 0.
 pub record TakesTokens (text : List ℕ) (place place' : CPlace) (buffer filled : List CToken)
     (count status : ℕ) : Type 0 where
-  pub status_is : IsStatus text (IsCharBoundary text place.at) (refusal_number BadPlace) status
+  pub status_is : IsStatus text (IsCharBoundary text place.at) (refusal_number InvalidPlace) status
   pub batch : status ≡ OK → IsBatch text (state_at newest text place) buffer place' filled count
   pub refused : status ≢ OK → (place' ≡ place) × (filled ≡ buffer) × (count ≡ 0)
 

@@ -4,9 +4,9 @@ use Rattle.std.specs.Str.{IsUtf8}
 use Rattle.rustc_lexer.specs.Classes.{IsText}
 use Rattle.rustc_lexer.specs.declared.edition.Edition.{Edition}
 use Rattle.rustc_lexer.specs.LanguageCalls.{edition_of_year}
-use Rattle.rustc_lexer_highlight.specs.declared.errors.TokenError.{TokenError}
-use Rattle.rustc_lexer_highlight.specs.TokenError.{error_number, message}
-use Rattle.rustc_lexer_c.specs.declared.status.Refusal.TheVariants.{BadEdition, NotUtf8, SmallBuffer, TooLong}
+use Rattle.rustc_lexer_errors.specs.declared.errors.TokenError.{TokenError}
+use Rattle.rustc_lexer_errors.specs.TokenError.{error_number, message}
+use Rattle.rustc_lexer_c.specs.declared.status.Refusal.TheVariants.{InvalidEdition, NotUtf8, SmallBuffer, TooLong}
 use Rattle.rustc_lexer_c.specs.Status.{OK, refusal_number}
 
 -- Returns the number of an error, or 0 if there is none.
@@ -25,4 +25,4 @@ pub record IsMessageStatus (bytes : List ℕ) (year status : ℕ) : Type 0 where
       → (status ≡ OK) ⊎ (status ≡ refusal_number SmallBuffer)
   pub not_utf8 : length bytes < 2 ^ 32 → ¬ (IsUtf8 bytes) → status ≡ refusal_number NotUtf8
   pub too_long : 2 ^ 32 ≤ length bytes → status ≡ refusal_number TooLong
-  pub bad_edition : IsText bytes → edition_of_year year ≡ None → status ≡ refusal_number BadEdition
+  pub invalid_edition : IsText bytes → edition_of_year year ≡ None → status ≡ refusal_number InvalidEdition

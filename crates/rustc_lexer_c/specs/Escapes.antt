@@ -11,12 +11,12 @@ use Rattle.rustc_literal_escaper.specs.declared.mode.Mode.TheVariants.{CStr, Raw
 use Rattle.rustc_literal_escaper.specs.declared.unit.MixedUnit.{MixedUnit}
 use Rattle.rustc_literal_escaper.specs.declared.unit.MixedUnit.TheVariants.{Char as CharUnit, HighByte}
 use Rattle.rustc_literal_escaper.specs.Grammar.{Error, Item}
-use Rattle.rustc_lexer_highlight.specs.LineEnds.{escape_errors_in_file}
+use Rattle.rustc_lexer_errors.specs.LineEnds.{escape_errors_in_file}
 use Rattle.rustc_literal_escaper.specs.Answers.{byte_literal, char_literal, items_of}
 use Rattle.rustc_literal_escaper.specs.Meaning.{byte_of, char_of, is_fatal, is_raw, is_single, raw_unit_of, unit_of}
 pub use Rattle.rustc_literal_escaper.specs.Numbers.{error_number}
 use Rattle.rustc_lexer_c.specs.declared.escapes.CUnit.{CUnit}
-use Rattle.rustc_lexer_c.specs.declared.status.Refusal.TheVariants.{BadMode}
+use Rattle.rustc_lexer_c.specs.declared.status.Refusal.TheVariants.{InvalidMode}
 use Rattle.rustc_lexer_c.specs.Status.{IsStatus, OK, refusal_number}
 
 -- Returns the mode with this number, which is also the number of the literal's kind in a token.
@@ -109,7 +109,7 @@ wrong_units_of mode text = wrong_units (escape_errors_in_file mode text)
 -- count is 0.
 pub record Lists (list : Mode → List ℕ → List CUnit) (mode : Option Mode) (text : List ℕ)
     (passed : ℕ) (buffer filled : List CUnit) (count status : ℕ) : Type 0 where
-  pub status_is : IsStatus text (mode ≢ None) (refusal_number BadMode) status
+  pub status_is : IsStatus text (mode ≢ None) (refusal_number InvalidMode) status
   pub units : status ≡ OK → IsSomeAnd mode
       (λ kind. IsUnits (list kind text) passed buffer filled count)
   pub at_most : status ≡ OK → IsSomeAnd mode (λ kind. length (list kind text) ≤ max 1 (length text))

@@ -15,7 +15,7 @@ use Rattle.rustc_lexer_c.specs.declared.token.CToken.{CToken}
 use Rattle.rustc_lexer_c.specs.Batch.{no_token}
 use Rattle.rustc_lexer_c.specs.Numbers.{bool_number, token_numbers}
 use Rattle.rustc_lexer_c.specs.Relex.{change_of}
-use Rattle.rustc_lexer_c.specs.declared.status.Refusal.TheVariants.{BadEdit, NotUtf8, TooLong}
+use Rattle.rustc_lexer_c.specs.declared.status.Refusal.TheVariants.{InvalidEdit, NotUtf8, TooLong}
 use Rattle.rustc_lexer_c.specs.Status.{OK, refusal_number}
 
 -- Returns the first two tokens as numbers, padded with zeros.
@@ -62,9 +62,9 @@ pub record IsHeadStatus (bytes : List ℕ) (edit : CEdit) (c : CHead) (status : 
       → c ≡ head_numbers before → status ≡ OK
   pub not_utf8 : length bytes < 2 ^ 32 → ¬ (IsUtf8 bytes) → status ≡ refusal_number NotUtf8
   pub too_long : 2 ^ 32 ≤ length bytes → status ≡ refusal_number TooLong
-  pub bad_edit : IsText bytes → ¬ (IsChange bytes (change_of edit))
-      → status ≡ refusal_number BadEdit
-  pub no_other : IsText bytes → status ≢ OK → status ≡ refusal_number BadEdit
+  pub invalid_edit : IsText bytes → ¬ (IsChange bytes (change_of edit))
+      → status ≡ refusal_number InvalidEdit
+  pub no_other : IsText bytes → status ≢ OK → status ≡ refusal_number InvalidEdit
 
 -- A call writes the head of the current text, and an edit of the body from which relexing can start. If the edit turned
 -- a text with the old head into the current text, the call writes the change of the body by that edit. If the call

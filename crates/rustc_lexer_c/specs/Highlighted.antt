@@ -7,7 +7,7 @@ use Rattle.rustc_lexer.specs.LanguageCalls.{edition_of_year}
 use Rattle.rustc_lexer.specs.Classes.{IsText}
 use Rattle.rustc_lexer_highlight.specs.declared.format.Format.{Format}
 use Rattle.rustc_lexer_highlight.specs.declared.format.Format.TheVariants.{Html, Colours, NoColours}
-use Rattle.rustc_lexer_c.specs.declared.status.Refusal.TheVariants.{BadEdition, BadFormat, NotUtf8, SmallBuffer}
+use Rattle.rustc_lexer_c.specs.declared.status.Refusal.TheVariants.{InvalidEdition, InvalidFormat, NotUtf8, SmallBuffer}
 use Rattle.rustc_lexer_c.specs.declared.status.Refusal.TheVariants.{TooLong}
 use Rattle.rustc_lexer_c.specs.Status.{OK, refusal_number}
 
@@ -31,6 +31,6 @@ pub record IsMarksStatus (bytes : List ℕ) (format year : ℕ) (status : ℕ) :
       → format_of format ≡ Some kind → (status ≡ OK) ⊎ (status ≡ refusal_number SmallBuffer)
   pub not_utf8 : length bytes < 2 ^ 32 → ¬ (IsUtf8 bytes) → status ≡ refusal_number NotUtf8
   pub too_long : 2 ^ 32 ≤ length bytes → status ≡ refusal_number TooLong
-  pub bad_edition : IsText bytes → edition_of_year year ≡ None → status ≡ refusal_number BadEdition
-  pub bad_style : IsText bytes → (edition : Edition) → edition_of_year year ≡ Some edition
-      → format_of format ≡ None → status ≡ refusal_number BadFormat
+  pub invalid_edition : IsText bytes → edition_of_year year ≡ None → status ≡ refusal_number InvalidEdition
+  pub invalid_format : IsText bytes → (edition : Edition) → edition_of_year year ≡ Some edition
+      → format_of format ≡ None → status ≡ refusal_number InvalidFormat

@@ -19,7 +19,7 @@ use Rattle.rustc_lexer_c.specs.declared.relex.CEdit.{CEdit}
 use Rattle.rustc_lexer_c.specs.declared.relex.CRelexing.{CRelexing}
 use Rattle.rustc_lexer_c.specs.declared.token.CToken.{CToken}
 use Rattle.rustc_lexer_c.specs.Numbers.{token_numbers}
-use Rattle.rustc_lexer_c.specs.declared.status.Refusal.TheVariants.{BadEdit, BadEdition, NotUtf8, TooLong}
+use Rattle.rustc_lexer_c.specs.declared.status.Refusal.TheVariants.{InvalidEdit, InvalidEdition, NotUtf8, TooLong}
 use Rattle.rustc_lexer_c.specs.Status.{OK, refusal_number}
 
 -- The stages have the same names as in the header.
@@ -112,9 +112,9 @@ pub record IsRelexStatus (bytes : List ℕ) (edit : CEdit) (year count : ℕ) (c
       → IsChange bytes (change_of edit) → MayRelex bytes count c → status ≡ OK
   pub not_utf8 : length bytes < 2 ^ 32 → ¬ (IsUtf8 bytes) → status ≡ refusal_number NotUtf8
   pub too_long : 2 ^ 32 ≤ length bytes → status ≡ refusal_number TooLong
-  pub bad_edition : IsText bytes → edition_of_year year ≡ None → status ≡ refusal_number BadEdition
-  pub bad_edit : IsText bytes → (edition : Edition) → edition_of_year year ≡ Some edition → ¬
-      (IsChange bytes (change_of edit) × MayRelex bytes count c) → status ≡ refusal_number BadEdit
+  pub invalid_edition : IsText bytes → edition_of_year year ≡ None → status ≡ refusal_number InvalidEdition
+  pub invalid_edit : IsText bytes → (edition : Edition) → edition_of_year year ≡ Some edition → ¬
+      (IsChange bytes (change_of edit) × MayRelex bytes count c) → status ≡ refusal_number InvalidEdit
 
 -- A call relexes in the edition of a year. If it fails, it changes nothing except the count, which is 0.
 pub record Relexes (text : List ℕ) (old : List CToken) (edit : CEdit) (year : ℕ) (c c' : CRelexing)

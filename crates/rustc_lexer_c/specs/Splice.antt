@@ -1,7 +1,7 @@
 -- Splicing the tokens of an edit into the caller's list.
 use Rattle.std.specs.Prelude.{ℕ, ◌≡◌, ◌≢◌, ◌+◌, ◌-◌, ◌<◌, ◌≤◌, List, ◌++◌, length, take, drop}
 use Rattle.rustc_lexer_c.specs.declared.token.CToken.{CToken}
-use Rattle.rustc_lexer_c.specs.declared.status.Refusal.TheVariants.{BadEdit, SmallBuffer}
+use Rattle.rustc_lexer_c.specs.declared.status.Refusal.TheVariants.{InvalidEdit, SmallBuffer}
 use Rattle.rustc_lexer_c.specs.Status.{OK, refusal_number}
 
 -- Holds if the list fits into the buffer, and its front and its back do not overlap.
@@ -19,7 +19,7 @@ pub record Splices (buffer : List CToken) (count kept_front kept_back : ℕ)
   pub refused : status ≢ OK → (buffer' ≡ buffer) × (count' ≡ count)
   pub ok : MaySplice (length buffer) count kept_front kept_back
       → kept_front + length lexed + kept_back ≤ length buffer → status ≡ OK
-  pub bad_edit : ¬ MaySplice (length buffer) count kept_front kept_back
-      → status ≡ refusal_number BadEdit
+  pub invalid_edit : ¬ MaySplice (length buffer) count kept_front kept_back
+      → status ≡ refusal_number InvalidEdit
   pub small_buffer : MaySplice (length buffer) count kept_front kept_back
       → length buffer < kept_front + length lexed + kept_back → status ≡ refusal_number SmallBuffer

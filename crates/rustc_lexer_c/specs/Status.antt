@@ -5,8 +5,8 @@ use Rattle.rustc_lexer.specs.declared.edition.Edition.{Edition}
 use Rattle.rustc_lexer.specs.Classes.{IsText}
 use Rattle.rustc_lexer.specs.LanguageCalls.{edition_of_year}
 use Rattle.rustc_lexer_c.specs.declared.status.Refusal.{Refusal}
-use Rattle.rustc_lexer_c.specs.declared.status.Refusal.TheVariants.{NotUtf8, TooLong, BadPlace, NotRaw, BadEdition}
-use Rattle.rustc_lexer_c.specs.declared.status.Refusal.TheVariants.{BadEdit, BadMode, BadFormat, SmallBuffer}
+use Rattle.rustc_lexer_c.specs.declared.status.Refusal.TheVariants.{NotUtf8, TooLong, InvalidPlace, NotRaw, InvalidEdition}
+use Rattle.rustc_lexer_c.specs.declared.status.Refusal.TheVariants.{InvalidEdit, InvalidMode, InvalidFormat, SmallBuffer}
 
 -- The status 0 means that the call succeeded.
 abbrev pub OK : ℕ
@@ -15,12 +15,12 @@ OK = 0
 abbrev pub refusal_number : Refusal → ℕ
 refusal_number NotUtf8 = 1
 refusal_number TooLong = 2
-refusal_number BadPlace = 3
+refusal_number InvalidPlace = 3
 refusal_number NotRaw = 4
-refusal_number BadEdition = 5
-refusal_number BadEdit = 6
-refusal_number BadMode = 7
-refusal_number BadFormat = 8
+refusal_number InvalidEdition = 5
+refusal_number InvalidEdit = 6
+refusal_number InvalidMode = 7
+refusal_number InvalidFormat = 8
 refusal_number SmallBuffer = 9
 
 -- Holds if these bytes cannot be lexed for this reason. The length is checked before UTF-8.
@@ -47,9 +47,9 @@ pub record IsPlaceStatus (bytes : List ℕ) (at year status : ℕ) : Type 0 wher
       → edition_of_year year ≡ Some edition → status ≡ OK
   pub not_utf8 : length bytes < 2 ^ 32 → ¬ (IsUtf8 bytes) → status ≡ refusal_number NotUtf8
   pub too_long : 2 ^ 32 ≤ length bytes → status ≡ refusal_number TooLong
-  pub bad_place : IsText bytes → ¬ (IsCharBoundary bytes at) → status ≡ refusal_number BadPlace
-  pub bad_edition : IsText bytes → IsCharBoundary bytes at → edition_of_year year ≡ None
-      → status ≡ refusal_number BadEdition
+  pub invalid_place : IsText bytes → ¬ (IsCharBoundary bytes at) → status ≡ refusal_number InvalidPlace
+  pub invalid_edition : IsText bytes → IsCharBoundary bytes at → edition_of_year year ≡ None
+      → status ≡ refusal_number InvalidEdition
 
 -- A call with such a status writes its answer, or `none` if it fails.
 pub record Writes {X : Type 0} (bytes : List ℕ) (Asked : Type 0) (number : ℕ)

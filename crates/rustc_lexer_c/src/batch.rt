@@ -7,7 +7,7 @@ ghost use Rattle.rustc_lexer.specs.Tokens.{tokens_of};
 ghost use Rattle.rustc_lexer_c.specs.Batch as spec;
 
 use crate::relex::edition_of;
-use crate::status::{Refusal, done, refuse, text_of, utf8_text_of};
+use crate::status::{Refusal, done, refuse, text_of, utf8_text_of, validate};
 use crate::token::{CToken, token_numbers};
 use rustc_lexer::{Edition, FrontmatterAllowed, tokenize, tokenize_as};
 
@@ -35,10 +35,8 @@ pub extern "C" fn rustc_lexer_tokens(
 ) -> u32
     ensures { spec.TakesTokens text.now place.old place.new buffer.old buffer.new count.new result }
 {
-    match text_of(text) {
-        Ok(_) => rustc_lexer_tokens_unchecked(text, place, buffer, count),
-        Err(refusal) => refuse(refusal, 0, count),
-    }
+    validate!(text_of(text), 0, count);
+    rustc_lexer_tokens_unchecked(text, place, buffer, count)
 }
 
 /// Like `rustc_lexer_tokens`, but does not check that the text is UTF-8. `rustc_lexer_check` must have accepted it.
@@ -52,12 +50,9 @@ pub extern "C" fn rustc_lexer_tokens_unchecked(
     requires utf8 { IsUtf8 text.now }
     ensures { spec.TakesTokens text.now place.old place.new buffer.old buffer.new count.new result }
 {
-    let text = match utf8_text_of(text) {
-        Ok(text) => text,
-        Err(refusal) => return refuse(refusal, 0, count),
-    };
+    let text = validate!(utf8_text_of(text), 0, count);
     if !text.is_char_boundary(place.at as usize) {
-        return refuse(Refusal::BadPlace, 0, count);
+        return refuse(Refusal::InvalidPlace, 0, count);
     }
     done(fill(text, Edition::NEWEST, place, buffer), count)
 }
@@ -74,10 +69,8 @@ pub extern "C" fn rustc_lexer_tokens_in(
     ensures { spec.TakesTokensIn text.now edition place.old place.new
         buffer.old buffer.new count.new result }
 {
-    match text_of(text) {
-        Ok(_) => rustc_lexer_tokens_in_unchecked(text, edition, place, buffer, count),
-        Err(refusal) => refuse(refusal, 0, count),
-    }
+    validate!(text_of(text), 0, count);
+    rustc_lexer_tokens_in_unchecked(text, edition, place, buffer, count)
 }
 
 /// Like `rustc_lexer_tokens_in`, but does not check that the text is UTF-8. `rustc_lexer_check` must have accepted it.
@@ -93,16 +86,13 @@ pub extern "C" fn rustc_lexer_tokens_in_unchecked(
     ensures { spec.TakesTokensIn text.now edition place.old place.new
         buffer.old buffer.new count.new result }
 {
-    let text = match utf8_text_of(text) {
-        Ok(text) => text,
-        Err(refusal) => return refuse(refusal, 0, count),
-    };
+    let text = validate!(utf8_text_of(text), 0, count);
     if !text.is_char_boundary(place.at as usize) {
-        return refuse(Refusal::BadPlace, 0, count);
+        return refuse(Refusal::InvalidPlace, 0, count);
     }
     match edition_of(edition) {
         Some(edition) => done(fill(text, edition, place, buffer), count),
-        None => refuse(Refusal::BadEdition, 0, count),
+        None => refuse(Refusal::InvalidEdition, 0, count),
     }
 }
 

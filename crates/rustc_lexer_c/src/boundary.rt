@@ -6,7 +6,7 @@ ghost use Rattle.rustc_lexer_c.specs.Boundary.{IsBoundaryAt};
 ghost use Rattle.rustc_lexer_c.specs.Status.{IsPlaceStatus, OK};
 
 use crate::relex::edition_of;
-use crate::status::{Refusal, done, refuse, text_of};
+use crate::status::{Refusal, done, refuse, text_of, validate};
 use rustc_lexer::is_token_boundary;
 
 /// Writes 1 if a text has the tokens of its part before `at`, followed by the tokens of its part after `at`, otherwise
@@ -23,15 +23,12 @@ pub extern "C" fn rustc_lexer_is_token_boundary(
         → IsBoundaryAt text.now at year is.new }
     ensures refused { result ≢ OK → is.new ≡ 0 }
 {
-    let text = match text_of(text) {
-        Ok(text) => text,
-        Err(refusal) => return refuse(refusal, 0, is),
-    };
+    let text = validate!(text_of(text), 0, is);
     if !text.is_char_boundary(at) {
-        return refuse(Refusal::BadPlace, 0, is);
+        return refuse(Refusal::InvalidPlace, 0, is);
     }
     match edition_of(edition) {
         Some(edition) => done(u32::from(is_token_boundary(text, at, edition)), is),
-        None => refuse(Refusal::BadEdition, 0, is),
+        None => refuse(Refusal::InvalidEdition, 0, is),
     }
 }

@@ -6,7 +6,7 @@ ghost use Rattle.rustc_lexer.specs.Classes;
 ghost use Rattle.rustc_lexer_c.specs.Status.{OK, Writes};
 ghost use Rattle.rustc_lexer_c.specs.Numbers.{bool_number};
 
-use crate::status::{done, refuse, text_of};
+use crate::status::{done, text_of, validate};
 use rustc_lexer::{is_horizontal_whitespace, is_id_continue, is_id_start, is_ident, is_whitespace};
 
 /// Returns whether the character is whitespace in Rust. Returns false for a number that is not a character.
@@ -51,10 +51,8 @@ pub extern "C" fn rustc_lexer_is_ident(text: &[u8], is: &mut u32) -> u32
     ensures { Writes text.now (Unit {0}) OK (bool_number (Classes.is_ident (chars text.now))) 0
         is.new result }
 {
-    match text_of(text) {
-        Ok(text) => done(u32::from(is_ident(text)), is),
-        Err(refusal) => refuse(refusal, 0, is),
-    }
+    let text = validate!(text_of(text), 0, is);
+    done(u32::from(is_ident(text)), is)
 }
 
 /// Returns whether the text is an identifier. The text can have any length, and must be UTF-8.

@@ -4,21 +4,22 @@ ghost use Rattle.std.specs.Fmt.{WritesInCalls};
 ghost use Rattle.rustc_lexer.specs.declared.edition.Edition.{Edition};
 ghost use Rattle.rustc_lexer.specs.declared.token.Token.{Token};
 ghost use Rattle.rustc_lexer.specs.LanguageCalls.{edition_of_year};
+ghost use Rattle.rustc_lexer_errors.specs.TokenError.{token_error};
 ghost use Rattle.rustc_lexer_highlight.specs.Class.{class_number, class_of};
-ghost use Rattle.rustc_lexer_highlight.specs.TokenError.{token_error};
 ghost use Rattle.rustc_lexer_c.specs.Errors as spec;
 ghost use Rattle.rustc_lexer_c.specs.model.Errors as model;
 ghost use Rattle.rustc_lexer_c.specs.Highlighted.{IsFront};
 ghost use Rattle.rustc_lexer_c.specs.Numbers.{token_numbers};
-ghost use Rattle.rustc_lexer_c.specs.declared.status.Refusal.TheVariants.{BadEdition, SmallBuffer};
+ghost use Rattle.rustc_lexer_c.specs.declared.status.Refusal.TheVariants.{InvalidEdition, SmallBuffer};
 ghost use Rattle.rustc_lexer_c.specs.Status.{IsStatus, OK, refusal_number};
 
 use crate::buffer::Buffer;
 use crate::relex::edition_of;
-use crate::status::{OK, Refusal, done, refuse, text_of};
+use crate::status::{OK, Refusal, done, refuse, text_of, validate};
 use crate::token::CToken;
 use rustc_lexer::{Base, DocStyle, LiteralKind, TokenKind};
-use rustc_lexer_highlight::{TokenError, class_of, token_error};
+use rustc_lexer_errors::{TokenError, token_error};
+use rustc_lexer_highlight::class_of;
 use std::fmt;
 
 /// Writes the number of a token's class in the edition of a year. The token is passed as its numbers and its text.
@@ -30,22 +31,19 @@ pub extern "C" fn rustc_lexer_class(
     edition: u32,
     number: &mut u32,
 ) -> u32
-    ensures status { IsStatus text.now (edition_of_year edition ≢ None) (refusal_number BadEdition) result }
+    ensures status { IsStatus text.now (edition_of_year edition ≢ None) (refusal_number InvalidEdition) result }
     ensures class { result ≡ OK → (year : Edition) → edition_of_year edition ≡ Some year
         → (it : Token) → token_numbers it ≡ token.now
         → number.new ≡ class_number (class_of it.kind text.now year) }
     ensures refused { result ≢ OK → number.new ≡ 0 }
 {
-    let text = match text_of(text) {
-        Ok(text) => text,
-        Err(refusal) => return refuse(refusal, 0, number),
-    };
+    let text = validate!(text_of(text), 0, number);
     match edition_of(edition) {
         Some(edition) => done(
             u32::from(class_of(kind_of(token), text, edition).number()),
             number,
         ),
-        None => refuse(Refusal::BadEdition, 0, number),
+        None => refuse(Refusal::InvalidEdition, 0, number),
     }
 }
 
@@ -59,22 +57,19 @@ pub extern "C" fn rustc_lexer_token_error(
     edition: u32,
     number: &mut u32,
 ) -> u32
-    ensures status { IsStatus text.now (edition_of_year edition ≢ None) (refusal_number BadEdition) result }
+    ensures status { IsStatus text.now (edition_of_year edition ≢ None) (refusal_number InvalidEdition) result }
     ensures error { result ≡ OK → (year : Edition) → edition_of_year edition ≡ Some year
         → (it : Token) → token_numbers it ≡ token.now
         → number.new ≡ spec.number_of (token_error it.kind text.now year) }
     ensures refused { result ≢ OK → number.new ≡ 0 }
 {
-    let text = match text_of(text) {
-        Ok(text) => text,
-        Err(refusal) => return refuse(refusal, 0, number),
-    };
+    let text = validate!(text_of(text), 0, number);
     match edition_of(edition) {
         Some(edition) => done(
             number_of(token_error(kind_of(token), text, edition)),
             number,
         ),
-        None => refuse(Refusal::BadEdition, 0, number),
+        None => refuse(Refusal::InvalidEdition, 0, number),
     }
 }
 
@@ -100,12 +95,9 @@ pub extern "C" fn rustc_lexer_token_error_message(
     ensures unchanged { result ≢ OK → result ≢ refusal_number SmallBuffer → buffer.new ≡ buffer.old }
 {
     *written = 0;
-    let text = match text_of(text) {
-        Ok(text) => text,
-        Err(refusal) => return refusal.number(),
-    };
+    let text = validate!(text_of(text));
     let Some(edition) = edition_of(edition) else {
-        return Refusal::BadEdition.number();
+        return Refusal::InvalidEdition.number();
     };
     let error = token_error(kind_of(token), text, edition);
     let mut output = Buffer::new(buffer);

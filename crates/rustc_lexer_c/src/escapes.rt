@@ -7,8 +7,8 @@ ghost use Rattle.rustc_literal_escaper.specs.Items.{TakesFirst};
 ghost use Rattle.rustc_literal_escaper.specs.Meaning.{is_raw, is_single, unit_of};
 ghost use Rattle.rustc_lexer_c.specs.Escapes as spec;
 
-use crate::status::{Refusal, done, refuse, text_of, utf8_text_of};
-use rustc_lexer_highlight::EscapeErrorsInFile;
+use crate::status::{Refusal, done, refuse, text_of, utf8_text_of, validate};
+use rustc_lexer_errors::EscapeErrorsInFile;
 use rustc_literal_escaper::{Element, Elements, EscapeError, Mode, unescape_byte, unescape_char};
 use std::ops::Range;
 
@@ -49,10 +49,8 @@ pub extern "C" fn rustc_lexer_unescape(
     ensures { spec.Lists spec.units_of (spec.mode_of mode) text.now passed buffer.old buffer.new
         count.new result }
 {
-    match text_of(text) {
-        Ok(_) => rustc_lexer_unescape_unchecked(text, mode, passed, buffer, count),
-        Err(refusal) => refuse(refusal, 0, count),
-    }
+    validate!(text_of(text), 0, count);
+    rustc_lexer_unescape_unchecked(text, mode, passed, buffer, count)
 }
 
 /// Like `rustc_lexer_unescape`, but does not check that the text is UTF-8. `rustc_lexer_check` must have accepted it.
@@ -69,13 +67,10 @@ pub extern "C" fn rustc_lexer_unescape_unchecked(
     ensures { spec.Lists spec.units_of (spec.mode_of mode) text.now passed buffer.old buffer.new
         count.new result }
 {
-    let text = match utf8_text_of(text) {
-        Ok(text) => text,
-        Err(refusal) => return refuse(refusal, 0, count),
-    };
+    let text = validate!(utf8_text_of(text), 0, count);
     match mode_of(mode) {
         Some(mode) => done(fill_units(text, mode, passed, buffer), count),
-        None => refuse(Refusal::BadMode, 0, count),
+        None => refuse(Refusal::InvalidMode, 0, count),
     }
 }
 
@@ -94,10 +89,8 @@ pub extern "C" fn rustc_lexer_literal_errors(
     ensures { spec.Lists spec.wrong_units_of (spec.mode_of mode) text.now passed buffer.old
         buffer.new count.new result }
 {
-    match text_of(text) {
-        Ok(_) => rustc_lexer_literal_errors_unchecked(text, mode, passed, buffer, count),
-        Err(refusal) => refuse(refusal, 0, count),
-    }
+    validate!(text_of(text), 0, count);
+    rustc_lexer_literal_errors_unchecked(text, mode, passed, buffer, count)
 }
 
 /// Like `rustc_lexer_literal_errors`, but does not check that the text is UTF-8. `rustc_lexer_check` must have accepted
@@ -115,16 +108,13 @@ pub extern "C" fn rustc_lexer_literal_errors_unchecked(
     ensures { spec.Lists spec.wrong_units_of (spec.mode_of mode) text.now passed buffer.old
         buffer.new count.new result }
 {
-    let text = match utf8_text_of(text) {
-        Ok(text) => text,
-        Err(refusal) => return refuse(refusal, 0, count),
-    };
+    let text = validate!(utf8_text_of(text), 0, count);
     match mode_of(mode) {
         Some(mode) => done(
             fill_all(EscapeErrorsInFile::new(text, mode), passed, buffer),
             count,
         ),
-        None => refuse(Refusal::BadMode, 0, count),
+        None => refuse(Refusal::InvalidMode, 0, count),
     }
 }
 

@@ -5,7 +5,7 @@ ghost use Rattle.rustc_lexer_c.specs.Head as spec;
 
 use crate::batch::NO_TOKEN;
 use crate::relex::{CEdit, change_of};
-use crate::status::{OK, Refusal, text_of, utf8_text_of};
+use crate::status::{OK, Refusal, text_of, utf8_text_of, validate};
 use crate::token::{CToken, token_numbers};
 use rustc_lexer::{Change, Head, Token, TokenKind};
 
@@ -40,10 +40,8 @@ pub extern "C" fn rustc_lexer_body_edit(
     ensures { spec.FindsHead text.now edit.now head.old head.new body_edit.old body_edit.new
         head_kept.old head_kept.new result }
 {
-    match text_of(text) {
-        Ok(_) => rustc_lexer_body_edit_unchecked(text, edit, head, body_edit, head_kept),
-        Err(refusal) => refusal.number(),
-    }
+    validate!(text_of(text));
+    rustc_lexer_body_edit_unchecked(text, edit, head, body_edit, head_kept)
 }
 
 /// Like `rustc_lexer_body_edit`, but does not check that the text is UTF-8. `rustc_lexer_check` must have accepted it.
@@ -59,18 +57,15 @@ pub extern "C" fn rustc_lexer_body_edit_unchecked(
     ensures { spec.FindsHead text.now edit.now head.old head.new body_edit.old body_edit.new
         head_kept.old head_kept.new result }
 {
-    let text = match utf8_text_of(text) {
-        Ok(text) => text,
-        Err(refusal) => return refusal.number(),
-    };
+    let text = validate!(utf8_text_of(text));
     let change = change_of(edit);
     if !change.is_valid_for(text) {
-        return Refusal::BadEdit.number();
+        return Refusal::InvalidEdit.number();
     }
     let now = Head::find(text);
     let body = head_of(head).body_change(now, change);
     if !body.change.is_valid_for(&text[now.body..]) {
-        return Refusal::BadEdit.number();
+        return Refusal::InvalidEdit.number();
     }
     *head = numbers_of_head(now);
     *body_edit = edit_of(body.change);

@@ -13,7 +13,7 @@ ghost use Rattle.rustc_lexer_c.specs.Status.{OK, refusal_number};
 
 use crate::buffer::Buffer;
 use crate::relex::edition_of;
-use crate::status::{OK, Refusal, text_of};
+use crate::status::{OK, Refusal, text_of, validate};
 use rustc_lexer::Edition;
 use rustc_lexer_highlight::{Format, write_first_tokens};
 use std::fmt;
@@ -40,15 +40,12 @@ pub extern "C" fn rustc_lexer_write_highlighted(
     ensures same { result ≢ OK → result ≢ refusal_number SmallBuffer → buffer.new ≡ buffer.old }
 {
     *written = 0;
-    let text = match text_of(text) {
-        Ok(text) => text,
-        Err(refusal) => return refusal.number(),
-    };
+    let text = validate!(text_of(text));
     let Some(edition) = edition_of(edition) else {
-        return Refusal::BadEdition.number();
+        return Refusal::InvalidEdition.number();
     };
     let Some(format) = format_of(format) else {
-        return Refusal::BadFormat.number();
+        return Refusal::InvalidFormat.number();
     };
     let mut output = Buffer::new(buffer);
     let Ok(()) = fill(format, edition, count, text, &mut output) else {

@@ -1,5 +1,5 @@
-//! The lexer for C, and for any language that can call C: a library over `rustc_lexer`, `rustc_literal_escaper` and
-//! `rustc_lexer_highlight`.
+//! The lexer for C, and for any language that can call C: a library over `rustc_lexer`, `rustc_literal_escaper`,
+//! `rustc_lexer_errors` and `rustc_lexer_highlight`.
 //!
 //! A caller passes a text as a pointer and a length, and a buffer for the tokens. No function allocates memory. C
 //! cannot guarantee UTF-8, so each function with a text checks it and returns a status; functions with `_unchecked` in

@@ -6,7 +6,7 @@ ghost use Rattle.rustc_lexer_c.specs.Numbers.{some_or_zero};
 ghost use Rattle.rustc_lexer_c.specs.Places.{TellsSettled};
 ghost use Rattle.rustc_lexer_c.specs.Status.{OK, Writes};
 
-use crate::status::{done, refuse, text_of, utf8_text_of};
+use crate::status::{done, text_of, utf8_text_of, validate};
 use rustc_lexer::{settled, strip_shebang};
 
 /// Writes the length in bytes of the shebang line at the start of a text, without the line ending, or 0 if there is
@@ -16,10 +16,8 @@ pub extern "C" fn rustc_lexer_strip_shebang(text: &[u8], line_len: &mut usize) -
     ensures { Writes text.now (Unit {0}) OK (some_or_zero (shebang text.now))
         0 line_len.new result }
 {
-    match text_of(text) {
-        Ok(_) => rustc_lexer_strip_shebang_unchecked(text, line_len),
-        Err(refusal) => refuse(refusal, 0, line_len),
-    }
+    validate!(text_of(text), 0, line_len);
+    rustc_lexer_strip_shebang_unchecked(text, line_len)
 }
 
 /// Like `rustc_lexer_strip_shebang`, but does not check that the text is UTF-8. `rustc_lexer_check` must have accepted
@@ -30,10 +28,8 @@ pub extern "C" fn rustc_lexer_strip_shebang_unchecked(text: &[u8], line_len: &mu
     ensures { Writes text.now (Unit {0}) OK (some_or_zero (shebang text.now))
         0 line_len.new result }
 {
-    match utf8_text_of(text) {
-        Ok(text) => done(strip_shebang(text).unwrap_or(0), line_len),
-        Err(refusal) => refuse(refusal, 0, line_len),
-    }
+    let text = validate!(utf8_text_of(text), 0, line_len);
+    done(strip_shebang(text).unwrap_or(0), line_len)
 }
 
 /// Writes the byte offset up to which the tokens are final, whatever is appended. It is the end of the last token that
@@ -42,10 +38,8 @@ pub extern "C" fn rustc_lexer_strip_shebang_unchecked(text: &[u8], line_len: &mu
 pub extern "C" fn rustc_lexer_settled(text: &[u8], end: &mut usize) -> u32
     ensures { TellsSettled text.now end.new result }
 {
-    match text_of(text) {
-        Ok(_) => rustc_lexer_settled_unchecked(text, end),
-        Err(refusal) => refuse(refusal, 0, end),
-    }
+    validate!(text_of(text), 0, end);
+    rustc_lexer_settled_unchecked(text, end)
 }
 
 /// Like `rustc_lexer_settled`, but does not check that the text is UTF-8. `rustc_lexer_check` must have accepted it.
@@ -54,8 +48,6 @@ pub extern "C" fn rustc_lexer_settled_unchecked(text: &[u8], end: &mut usize) ->
     requires utf8 { IsUtf8 text.now }
     ensures { TellsSettled text.now end.new result }
 {
-    match utf8_text_of(text) {
-        Ok(text) => done(settled(text), end),
-        Err(refusal) => refuse(refusal, 0, end),
-    }
+    let text = validate!(utf8_text_of(text), 0, end);
+    done(settled(text), end)
 }

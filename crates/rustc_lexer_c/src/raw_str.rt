@@ -7,7 +7,7 @@ ghost use Rattle.rustc_lexer_c.specs.RawStr as spec;
 ghost use Rattle.rustc_lexer_c.specs.declared.status.Refusal.TheVariants.{NotRaw};
 ghost use Rattle.rustc_lexer_c.specs.Status.{OK, Writes, refusal_number};
 
-use crate::status::{Refusal, done, refuse, text_of, utf8_text_of};
+use crate::status::{Refusal, done, refuse, text_of, utf8_text_of, validate};
 use rustc_lexer::{
     Cursor, FrontmatterAllowed, GuardedStr, RawStrError, starts_raw, validate_raw_str,
 };
@@ -54,10 +54,8 @@ pub extern "C" fn rustc_lexer_validate_raw_str(
     ensures { Writes text.now (StartsRaw text.now prefix_len) (refusal_number NotRaw)
         (spec.answer_numbers (raw_check text.now prefix_len)) spec.no_error error.new result }
 {
-    match text_of(text) {
-        Ok(_) => rustc_lexer_validate_raw_str_unchecked(text, prefix_len, error),
-        Err(refusal) => refuse(refusal, NO_ERROR, error),
-    }
+    validate!(text_of(text), NO_ERROR, error);
+    rustc_lexer_validate_raw_str_unchecked(text, prefix_len, error)
 }
 
 /// Like `rustc_lexer_validate_raw_str`, but does not check that the text is UTF-8, and reads only the string.
@@ -72,10 +70,7 @@ pub extern "C" fn rustc_lexer_validate_raw_str_unchecked(
     ensures { Writes text.now (StartsRaw text.now prefix_len) (refusal_number NotRaw)
         (spec.answer_numbers (raw_check text.now prefix_len)) spec.no_error error.new result }
 {
-    let text = match utf8_text_of(text) {
-        Ok(text) => text,
-        Err(refusal) => return refuse(refusal, NO_ERROR, error),
-    };
+    let text = validate!(utf8_text_of(text), NO_ERROR, error);
     if !starts_raw(text, prefix_len) {
         return refuse(Refusal::NotRaw, NO_ERROR, error);
     }
@@ -102,10 +97,8 @@ pub extern "C" fn rustc_lexer_guarded_str(text: &[u8], string: &mut CGuardedStr)
     ensures { Writes text.now (Unit {0}) OK (spec.guarded_at text.now) (spec.guarded_numbers None)
         string.new result }
 {
-    match text_of(text) {
-        Ok(_) => rustc_lexer_guarded_str_unchecked(text, string),
-        Err(refusal) => refuse(refusal, guarded_numbers(None), string),
-    }
+    validate!(text_of(text), guarded_numbers(None), string);
+    rustc_lexer_guarded_str_unchecked(text, string)
 }
 
 /// Like `rustc_lexer_guarded_str`, but does not check that the text is UTF-8, and reads only the string.
@@ -116,16 +109,12 @@ pub extern "C" fn rustc_lexer_guarded_str_unchecked(text: &[u8], string: &mut CG
     ensures { Writes text.now (Unit {0}) OK (spec.guarded_at text.now) (spec.guarded_numbers None)
         string.new result }
 {
-    match utf8_text_of(text) {
-        Ok(text) => {
-            let mut cursor = Cursor::new(text, FrontmatterAllowed::No);
-            done(
-                guarded_numbers(cursor.guarded_double_quoted_string()),
-                string,
-            )
-        }
-        Err(refusal) => refuse(refusal, guarded_numbers(None), string),
-    }
+    let text = validate!(utf8_text_of(text), guarded_numbers(None), string);
+    let mut cursor = Cursor::new(text, FrontmatterAllowed::No);
+    done(
+        guarded_numbers(cursor.guarded_double_quoted_string()),
+        string,
+    )
 }
 
 /// Returns the result of a check as numbers.

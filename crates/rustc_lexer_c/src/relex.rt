@@ -8,7 +8,7 @@ ghost use Rattle.rustc_lexer.specs.Relexer.{IsChange, IsMadeOf, IsUnderWay, CanC
 ghost use Rattle.rustc_lexer.specs.Locality.{IsGrammar};
 ghost use Rattle.rustc_lexer_c.specs.Relex as spec;
 
-use crate::status::{OK, Refusal, refuse, text_of, utf8_text_of};
+use crate::status::{OK, Refusal, refuse, text_of, utf8_text_of, validate};
 use crate::token::CToken;
 use rustc_lexer::{Change, Edition, RelexState, Relexer, Steps, TextLen, TokenStart};
 
@@ -77,10 +77,8 @@ pub extern "C" fn rustc_lexer_relex(
     ensures { spec.Relexes text.now old.now edit.now edition relexing.old relexing.new
         buffer.old buffer.new count.new result }
 {
-    match text_of(text) {
-        Ok(_) => rustc_lexer_relex_unchecked(text, old, edit, edition, relexing, buffer, count),
-        Err(refusal) => refuse(refusal, 0, count),
-    }
+    validate!(text_of(text), 0, count);
+    rustc_lexer_relex_unchecked(text, old, edit, edition, relexing, buffer, count)
 }
 
 /// Like `rustc_lexer_relex`, but does not check that the text is UTF-8. `rustc_lexer_check` must have accepted it.
@@ -98,15 +96,12 @@ pub extern "C" fn rustc_lexer_relex_unchecked(
     ensures { spec.Relexes text.now old.now edit.now edition relexing.old relexing.new
         buffer.old buffer.new count.new result }
 {
-    let text = match utf8_text_of(text) {
-        Ok(text) => text,
-        Err(refusal) => return refuse(refusal, 0, count),
-    };
+    let text = validate!(utf8_text_of(text), 0, count);
     let Some(edition) = edition_of(edition) else {
-        return refuse(Refusal::BadEdition, 0, count);
+        return refuse(Refusal::InvalidEdition, 0, count);
     };
     let Some(mut relex) = relex_at(text, old, change_of(edit), relexing) else {
-        return refuse(Refusal::BadEdit, 0, count);
+        return refuse(Refusal::InvalidEdit, 0, count);
     };
     *count = relex.fill(&mut Steps::new_in(edition), buffer);
     *relexing = relexing_numbers(&relex);

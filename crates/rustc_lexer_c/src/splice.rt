@@ -24,7 +24,7 @@ pub extern "C" fn rustc_lexer_splice(
     let old = *count;
     let places = buffer.len();
     if old > places || kept_front > old || kept_back > old - kept_front {
-        return Refusal::BadEdit.number();
+        return Refusal::InvalidEdit.number();
     }
     if lexed.len() > places - kept_front - kept_back {
         return Refusal::SmallBuffer.number();

@@ -15,17 +15,17 @@ pub(crate) enum Refusal {
     /// The text has more than `u32::MAX` bytes.
     TooLong = 2,
     /// The offset is after the end of the text, or inside a character.
-    BadPlace = 3,
+    InvalidPlace = 3,
     /// Character number `prefix_len` of the text, counted from 1, is not an `r`.
     NotRaw = 4,
     /// No edition has the year.
-    BadEdition = 5,
+    InvalidEdition = 5,
     /// The edit cannot have resulted in the text, or relexing cannot continue from the numbers.
-    BadEdit = 6,
+    InvalidEdit = 6,
     /// No literal has the mode.
-    BadMode = 7,
+    InvalidMode = 7,
     /// No format has the number.
-    BadFormat = 8,
+    InvalidFormat = 8,
     /// The buffer is too small.
     SmallBuffer = 9,
 }
@@ -57,6 +57,25 @@ pub(crate) fn refuse<T: Copy>(refusal: Refusal, none: T, written: &mut T) -> u32
     refusal.number()
 }
 
+/// Evaluates to the text in a result. For a refusal, returns its status from the function that calls the macro, after
+/// writing the value for no result, if there is one.
+macro_rules! validate {
+    ($text:expr) => {
+        match $text {
+            Ok(text) => text,
+            Err(refusal) => return refusal.number(),
+        }
+    };
+    ($text:expr, $none:expr, $written:expr) => {
+        match $text {
+            Ok(text) => text,
+            Err(refusal) => return crate::status::refuse(refusal, $none, $written),
+        }
+    };
+}
+
+pub(crate) use validate;
+
 /// Returns the bytes as a text, or the reason why they cannot be lexed.
 pub(crate) fn text_of(bytes: &[u8]) -> Result<&str, Refusal>
     ensures { MatchResult result
@@ -87,8 +106,6 @@ pub(crate) fn utf8_text_of(bytes: &[u8]) -> Result<&str, Refusal>
 pub extern "C" fn rustc_lexer_check(text: &[u8]) -> u32
     ensures { spec.IsTextStatus text.now result }
 {
-    match text_of(text) {
-        Ok(_) => OK,
-        Err(refusal) => refusal.number(),
-    }
+    validate!(text_of(text));
+    OK
 }

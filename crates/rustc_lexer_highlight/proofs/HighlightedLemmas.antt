@@ -10,7 +10,7 @@ use Rattle.rustc_lexer.specs.{Document.{document_tokens, byte_order_mark_len, to
 use Rattle.rustc_lexer.specs.Tokens.{bound, Partitions, TakesToken}
 use Rattle.rustc_literal_escaper.specs.declared.mode.Mode.{Mode}
 use Rattle.rustc_lexer_highlight.specs.declared.class.{Class.{Class, TheVariants.{Comment, Plain}}}
-use Rattle.rustc_lexer_highlight.specs.declared.errors.TokenError.{TokenError}
+use Rattle.rustc_lexer_errors.specs.declared.errors.TokenError.{TokenError}
 use Rattle.rustc_lexer_highlight.specs.declared.{format.{Format.{Format, TheVariants.{Html}}}}
 use Rattle.rustc_lexer_highlight.specs.Escape.{unescaped, untagged}
 use Rattle.rustc_lexer_highlight.specs.Highlighted.{document_parts, highlighted, marked_tokens, parts, parts_by}

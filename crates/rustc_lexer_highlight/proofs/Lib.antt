@@ -1,15 +1,10 @@
 pub mod CallLemmas
 pub mod EscapeLemmas
-pub mod FileErrorLemmas
-pub mod FrontmatterLemmas
 pub mod HighlightedLemmas
 pub mod KeywordLemmas
-pub mod LineEndLemmas
 pub mod LiteralLemmas
 pub mod LiteralStretchLemmas
 pub mod MovedLemmas
 pub mod PartLemmas
-pub mod PlaceLemmas
 pub mod QuietLemmas
 pub mod ScreenLemmas
-pub mod TextErrorLemmas

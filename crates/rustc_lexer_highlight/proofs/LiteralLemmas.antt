@@ -11,14 +11,16 @@ use Rattle.rustc_literal_escaper.specs.{Grammar.{Item}, Answers.{items_of}, Mean
 use Rattle.rustc_literal_escaper.specs.{laws.TheAnswers.{items-are}, Items.{ArePlaced, IsPlaced}}
 use Rattle.rustc_literal_escaper.specs.declared.mode.Mode.{Mode}
 use Rattle.rustc_lexer_highlight.specs.laws.{Literal.{stretches-read, the_stretches}, Pieces.{pieces-some, told}}
-use Rattle.rustc_lexer_highlight.specs.{LineEnds.{file_items, place, unix}, declared.class.Class.TheVariants.{Text}}
+use Rattle.rustc_lexer_errors.specs.LineEnds.{char_error, file_items, place, unix}
+use Rattle.rustc_lexer_highlight.specs.{declared.class.Class.TheVariants.{Text}}
 use Rattle.rustc_lexer_highlight.specs.declared.{literal.{Look.{Look}, Painter.{Painter}}, format.Format.{Format}}
 use Rattle.rustc_lexer_highlight.specs.{Answers.{stretches_of, string_stretches}, Literal.{Stretch, single_stretches}}
-use Rattle.rustc_lexer_highlight.specs.Literal.{stretches_at, look_parts, parts_from, char_error, char_look}
+use Rattle.rustc_lexer_highlight.specs.Literal.{stretches_at, look_parts, parts_from, char_look}
 use Rattle.rustc_lexer_highlight.specs.{Literal.{stretch}, Highlighted.{literal_parts}}
 use Rattle.rustc_lexer_highlight.specs.model.Literal.{IsCut, Paints, WritesOn, element_look, gap, stretches_from}
 use Rattle.rustc_lexer_highlight.specs.Part.{Own, own, with_markup, without_markup}
-use Rattle.rustc_lexer_highlight.proofs.{LineEndLemmas.{utf8-unix}, MovedLemmas.{items_placed, place-end}}
+use Rattle.rustc_lexer_errors.proofs.LineEndLemmas.{utf8-unix}
+use Rattle.rustc_lexer_highlight.proofs.{MovedLemmas.{items_placed, place-end}}
 use Rattle.rustc_lexer_highlight.proofs.{MovedLemmas.{stretches-moved}, PartLemmas.{without_error, writes_parts}}
 use Rattle.rustc_lexer_highlight.specs.Literal as lit
 use Rattle.rustc_lexer_highlight.specs.model.Literal as model

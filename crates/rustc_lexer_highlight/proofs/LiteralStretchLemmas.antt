@@ -22,12 +22,12 @@ use Rattle.rustc_literal_escaper.specs.declared.mode.Mode.{Mode}
 use Rattle.rustc_literal_escaper.proofs.PlacedLemmas.{are_placed}
 use Rattle.rustc_lexer_highlight.specs.declared.literal.Look.{Look, TheVariants.{Escape, Wrong}}
 use Rattle.rustc_lexer_highlight.specs.Answers.{stretches_in, string_stretches}
-use Rattle.rustc_lexer_highlight.specs.LineEnds.{file_items, moved, place as file_place, unix}
+use Rattle.rustc_lexer_errors.specs.LineEnds.{file_items, moved, place as file_place, unix}
 use Rattle.rustc_lexer_highlight.specs.Literal.{Stretch, is_plain, single_stretches, stretch}
 use Rattle.rustc_lexer_highlight.specs.LiteralStretches.{AreInOrder, IsHighlighted, IsReported, is_escaped, is_in}
 use Rattle.rustc_lexer_highlight.specs.model.Literal as model
 use Rattle.rustc_lexer_highlight.specs.model.Literal.{gap, look_by, stretches_from}
-use Rattle.rustc_lexer_highlight.proofs.{FileErrorLemmas.{string_errors}, LineEndLemmas.{place_less, utf8-unix}}
+use Rattle.rustc_lexer_errors.proofs.{FileErrorLemmas.{string_errors}, LineEndLemmas.{place_less, utf8-unix}}
 use Rattle.rustc_lexer_highlight.proofs.{LiteralLemmas.{string_found}, MovedLemmas.{place-end, place-le}}
 
 error-told : (mode : Mode) (error : EscapeError) → error_of mode (Diagnostic error) ≡ Some error

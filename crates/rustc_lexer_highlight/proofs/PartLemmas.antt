@@ -6,8 +6,10 @@ use Rattle.std.proofs.Math.Seq.{drop-length, split_at}
 use Rattle.std.specs.{Prelude.{decimal}, Fmt.{digit_glyph, digits, digits_onto, WritesInCalls}}
 use Rattle.std.proofs.lemmas.{Bool.{eqb-true, ne_eqb}, List.Concat.{flat_map-append}, Grind.{common_steps}}
 use Rattle.rustc_literal_escaper.specs.declared.error.EscapeError.{EscapeError}
-use Rattle.rustc_lexer_highlight.specs.declared.{class.Class.{Class}, errors.TokenError.{TokenError}, format.{Format.{Format, TheVariants.{Html}}}}
-use Rattle.rustc_lexer_highlight.specs.{Escape.{escaped, escaped_byte, untagged, untagged_from}, TokenError.{message}}
+use Rattle.rustc_lexer_errors.specs.declared.errors.TokenError.{TokenError}
+use Rattle.rustc_lexer_highlight.specs.declared.{class.Class.{Class}, format.{Format.{Format, TheVariants.{Html}}}}
+use Rattle.rustc_lexer_errors.specs.TokenError.{message}
+use Rattle.rustc_lexer_highlight.specs.{Escape.{escaped, escaped_byte, untagged, untagged_from}}
 use Rattle.rustc_literal_escaper.specs.Numbers.{error_message}
 use Rattle.rustc_lexer_highlight.specs.Markup.{class_open, class_close, error_open, error_close}
 use Rattle.rustc_lexer_highlight.specs.Part.{Part, Own, Close, before_return, error_parts, first_line, is_cut_line_end, own, return_part, shown}

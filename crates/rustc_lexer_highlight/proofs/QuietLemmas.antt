@@ -7,11 +7,14 @@ use Rattle.std.specs.{Char.{is_control}, Str.{chars}}
 use Rattle.rustc_lexer.specs.declared.{edition.Edition.{Edition}, token.Token.{Token}}
 use Rattle.rustc_lexer.specs.{Document.{byte_order_mark_len, document_tokens, tokens_start}, Tokens.{bound, Partitions}}
 use Rattle.rustc_literal_escaper.specs.declared.mode.Mode.{Mode}
-use Rattle.rustc_lexer_highlight.specs.declared.{class.Class.{Class, TheVariants.{Comment, Text}}, errors.TokenError.{TokenError, TheVariants.{InLiteral}}}
+use Rattle.rustc_lexer_highlight.specs.declared.{class.Class.{Class, TheVariants.{Comment, Text}}}
+use Rattle.rustc_lexer_errors.specs.declared.errors.TokenError.{TokenError, TheVariants.{InLiteral}}
 use Rattle.rustc_lexer_highlight.specs.declared.literal.Look.{Look, TheVariants.{Escape, Wrong}}
-use Rattle.rustc_lexer_highlight.specs.{Answers.{stretches_of}, Class.{class_of}, TokenError.{token_error}}
+use Rattle.rustc_lexer_highlight.specs.{Answers.{stretches_of}, Class.{class_of}}
+use Rattle.rustc_lexer_errors.specs.TokenError.{token_error}
 use Rattle.rustc_lexer_highlight.specs.Highlighted.{document_parts, parts, parts_by, start_parts, token_parts}
-use Rattle.rustc_lexer_highlight.specs.Literal.{Stretch, closed_mode, look_parts, parts_from}
+use Rattle.rustc_lexer_errors.specs.Literal.{closed_mode}
+use Rattle.rustc_lexer_highlight.specs.Literal.{Stretch, look_parts, parts_from}
 use Rattle.rustc_lexer_highlight.specs.Part.{Part, Own, Open, Close, Return, displayed, displayed_part, error_parts}
 use Rattle.rustc_lexer_highlight.specs.Part.{before_return, first_line, is_cut_line_end, return_part, without_markup}
 use Rattle.rustc_lexer_highlight.specs.Screen.{is_layout, is_quiet, seen, seen_char, starts_with_newline, symbol}

@@ -7,8 +7,9 @@ use Rattle.rustc_lexer.specs.Classes.{Utf8}
 use Rattle.rustc_literal_escaper.specs.Grammar.{TheOnly}
 use Rattle.rustc_literal_escaper.specs.Meaning.{is_single}
 use Rattle.rustc_literal_escaper.specs.declared.mode.Mode.{Mode}
-use Rattle.rustc_lexer_highlight.specs.LineEnds.{unix}
-use Rattle.rustc_lexer_highlight.specs.Literal.{AreStretches, Stretch, contents_places, moved_stretch, single_stretches}
+use Rattle.rustc_lexer_errors.specs.LineEnds.{unix}
+use Rattle.rustc_lexer_errors.specs.Literal.{contents_places}
+use Rattle.rustc_lexer_highlight.specs.Literal.{AreStretches, Stretch, moved_stretch, single_stretches}
 use Rattle.rustc_lexer_highlight.specs.laws.Literal.{the_stretches}
 
 -- Returns the stretches of a string: the stretches of the contents with LF line endings, with their ranges in the

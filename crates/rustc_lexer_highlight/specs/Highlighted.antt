@@ -6,13 +6,14 @@ use Rattle.rustc_lexer.specs.declared.token.TokenKind.{TokenKind}
 use Rattle.rustc_lexer.specs.Document.{document_tokens, byte_order_mark_len, tokens_start}
 use Rattle.rustc_lexer_highlight.specs.declared.class.Class.{Class}
 use Rattle.rustc_lexer_highlight.specs.declared.class.Class.TheVariants.{Comment, Plain}
-use Rattle.rustc_lexer_highlight.specs.declared.errors.TokenError.{TokenError}
+use Rattle.rustc_lexer_errors.specs.declared.errors.TokenError.{TokenError}
 use Rattle.rustc_lexer_highlight.specs.declared.format.Format.{Format}
 use Rattle.rustc_literal_escaper.specs.declared.mode.Mode.{Mode}
 use Rattle.rustc_lexer_highlight.specs.Class.{class_of}
-use Rattle.rustc_lexer_highlight.specs.TokenError.{token_error}
+use Rattle.rustc_lexer_errors.specs.TokenError.{token_error}
 use Rattle.rustc_lexer_highlight.specs.Answers.{stretches_of}
-use Rattle.rustc_lexer_highlight.specs.Literal.{closed_mode, parts_from}
+use Rattle.rustc_lexer_errors.specs.Literal.{closed_mode}
+use Rattle.rustc_lexer_highlight.specs.Literal.{parts_from}
 use Rattle.rustc_lexer_highlight.specs.Part.{Part, Own, before_return, error_parts, return_part, with_markup}
 
 -- Returns the parts of a terminated literal.

@@ -1,16 +1,12 @@
 pub mod Answers
 pub mod Class
 pub mod Escape
-pub mod Frontmatter
 pub mod Highlighted
 pub mod Keyword
-pub mod LineEnds
 pub mod Literal
 pub mod LiteralStretches
 pub mod Markup
 pub mod Part
 pub mod Screen
-pub mod TextError
-pub mod TokenError
 pub mod laws
 pub mod model

@@ -1,86 +1,25 @@
 -- The contents of a terminated literal, divided into pieces: elements and skipped line endings. A piece that is an
 -- escape or an error is a *stretch* of the literal; the rest is plain text. `w` is the text of a piece, and `next` is
 -- all of the text after it, up to the closing quote.
-use Rattle.std.specs.Prelude.{◌≡◌, ◌+◌, ◌-◌, ◌==◌, ℕ, length, take, drop, codes, not, nat_lt, Bool, true, false}
-use Rattle.std.specs.Prelude.{if◌then◌else◌, List, [], ◌∷◌, ◌++◌, Option, Some, None, nat_eq}
+use Rattle.std.specs.Prelude.{◌≡◌, ◌+◌, ◌-◌, ℕ, take, drop, codes, Bool, true, false, if◌then◌else◌, List, [], ◌∷◌}
+use Rattle.std.specs.Prelude.{◌++◌, Option, Some, None, nat_eq}
 use Rattle.std.specs.Char.{is_whitespace}
-use Rattle.std.specs.List.{between, list_all, list_any, position_or_len, starts_with, suffix_len}
-use Rattle.std.specs.Option.{option_and_then, option_map}
-use Rattle.std.specs.Result.{result_err}
-use Rattle.std.specs.Str.{byte, chars}
-use Rattle.std.specs.declared.ops.Range.{Range}
+use Rattle.std.specs.List.{between, list_all, list_any, starts_with}
 use Rattle.rustc_lexer.specs.Classes.{Chars, Utf8, bytes, next_is}
-use Rattle.rustc_lexer.specs.declared.token.LiteralKind.{LiteralKind}
-use Rattle.rustc_lexer.specs.declared.token.LiteralKind.TheVariants.{Char as CharToken, Byte as ByteToken}
-use Rattle.rustc_lexer.specs.declared.token.LiteralKind.TheVariants.{Str as StrToken, ByteStr as ByteStrToken}
-use Rattle.rustc_lexer.specs.declared.token.LiteralKind.TheVariants.{CStr as CStrToken, RawStr as RawStrToken}
-use Rattle.rustc_lexer.specs.declared.token.LiteralKind.TheVariants.{RawByteStr as RawByteStrToken}
-use Rattle.rustc_lexer.specs.declared.token.LiteralKind.TheVariants.{RawCStr as RawCStrToken}
-use Rattle.rustc_lexer.specs.declared.token.TokenKind.{TokenKind}
-use Rattle.rustc_lexer.specs.declared.token.TokenKind.TheVariants.{Literal}
 use Rattle.rustc_literal_escaper.specs.declared.element.Element.{Element}
 use Rattle.rustc_literal_escaper.specs.declared.element.Element.TheVariants.{Plain}
 use Rattle.rustc_literal_escaper.specs.declared.error.EscapeError.{EscapeError}
 use Rattle.rustc_literal_escaper.specs.declared.error.EscapeError.TheVariants.{MultipleSkippedLinesWarning}
 use Rattle.rustc_literal_escaper.specs.declared.error.EscapeError.TheVariants.{UnskippedWhitespaceWarning}
 use Rattle.rustc_literal_escaper.specs.declared.mode.Mode.{Mode}
-use Rattle.rustc_literal_escaper.specs.declared.mode.Mode.TheVariants.{Char, Byte, Str, RawStr, ByteStr, RawByteStr}
-use Rattle.rustc_literal_escaper.specs.declared.mode.Mode.TheVariants.{CStr, RawCStr}
-use Rattle.rustc_literal_escaper.specs.Answers.{byte_literal, char_literal}
 use Rattle.rustc_literal_escaper.specs.Grammar.{IsElementBefore, IsRawElement, is_newline, is_passed_over}
-use Rattle.rustc_literal_escaper.specs.Meaning.{error_of, is_raw, is_single}
+use Rattle.rustc_literal_escaper.specs.Meaning.{error_of, is_raw}
 use Rattle.rustc_lexer_highlight.specs.declared.class.Class.TheVariants.{Text, Escape as EscapeClass}
-use Rattle.rustc_lexer_highlight.specs.declared.errors.TokenError.TheVariants.{InLiteral}
+use Rattle.rustc_lexer_errors.specs.declared.errors.TokenError.TheVariants.{InLiteral}
 use Rattle.rustc_lexer_highlight.specs.declared.literal.Look.{Look}
 use Rattle.rustc_lexer_highlight.specs.declared.literal.Look.TheVariants.{Escape, Wrong}
-use Rattle.rustc_lexer_highlight.specs.LineEnds.{place, unix}
+use Rattle.rustc_lexer_errors.specs.LineEnds.{char_error, place}
 use Rattle.rustc_lexer_highlight.specs.Part.{Part, Own, error_parts}
-
--- Returns the mode of a terminated literal. Numbers have none.
-abbrev pub literal_mode : LiteralKind → Option Mode
-literal_mode (CharToken true) = Some Char
-literal_mode (ByteToken true) = Some Byte
-literal_mode (StrToken true) = Some Str
-literal_mode (ByteStrToken true) = Some ByteStr
-literal_mode (CStrToken true) = Some CStr
-literal_mode (RawStrToken (Some n_hashes)) = Some RawStr
-literal_mode (RawByteStrToken (Some n_hashes)) = Some RawByteStr
-literal_mode (RawCStrToken (Some n_hashes)) = Some RawCStr
-literal_mode kind = None
-
-abbrev pub closed_mode : TokenKind → Option Mode
-closed_mode (Literal kind suffix_start) = literal_mode kind
-closed_mode kind = None
-
--- ---- between the quotes
-
-abbrev pub delimiter : Mode → ℕ
-delimiter mode = if is_single mode then byte "'" else byte "\""
-
--- Returns the offset of the first byte with this value, or the length of the text if there is none.
-unfoldable pub first_offset : ℕ → Utf8 → ℕ
-first_offset b text = position_or_len (λ x. x == b) text
-
--- Returns the offset of the last byte with this value, or 0 if there is none.
-unfoldable pub last_offset : ℕ → Utf8 → ℕ
-last_offset b text = length text - suffix_len (λ x. not (x == b)) text - 1
-
--- Returns the offsets at which the contents start and end, from the offsets of the two quotes.
-abbrev pub between_places : ℕ → ℕ → Option (ℕ × ℕ)
-between_places first last = if nat_lt first last then Some (first + 1, last) else None
-
-abbrev pub contents_places : Mode → Utf8 → Option (ℕ × ℕ)
-contents_places mode text =
-    between_places (first_offset (delimiter mode) text) (last_offset (delimiter mode) text)
-
--- Returns the mode of a terminated literal and the range between its quotes.
-abbrev pub contents_in : Mode → Utf8 → Option (Mode × Range ℕ)
-contents_in mode text =
-    option_map (λ (places : ℕ × ℕ). (mode, record { start = places.0; end = places.1 }))
-    (contents_places mode text)
-
-abbrev pub contents : TokenKind → Utf8 → Option (Mode × Range ℕ)
-contents kind text = option_and_then (λ (mode : Mode). contents_in mode text) (closed_mode kind)
 
 -- ---- the pieces between the quotes
 
@@ -186,11 +125,6 @@ moved_stretch begin contents s = record {
   end = begin + place contents s.end;
   look = s.look;
 }
-
--- Returns the error between single quotes. A CRLF counts as a newline.
-abbrev pub char_error : Mode → Utf8 → Option EscapeError
-char_error Byte contents = result_err (byte_literal (chars (unix contents)))
-char_error mode contents = result_err (char_literal (chars (unix contents)))
 
 abbrev pub char_look : Option EscapeError → Utf8 → Option Look
 char_look (Some error) contents = Some (Wrong error)

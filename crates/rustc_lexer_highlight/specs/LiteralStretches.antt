@@ -2,14 +2,15 @@
 use Rattle.std.specs.Prelude.{◌≡◌, ◌+◌, ◌≤◌, ◌<◌, ◌&&◌, ◌⊎◌, not, ℕ, nat_le, nat_lt, Bool, true, false, List, [], ◌∷◌}
 use Rattle.std.specs.Prelude.{All}
 use Rattle.std.specs.List.{Contains, between, list_all, list_any}
+use Rattle.std.specs.Str.{IsCharBoundary, IsUtf8}
 use Rattle.std.specs.declared.ops.Range.{Range}
 use Rattle.rustc_lexer.specs.Classes.{Utf8}
 use Rattle.rustc_literal_escaper.specs.declared.error.EscapeError.{EscapeError}
 use Rattle.rustc_literal_escaper.specs.declared.mode.Mode.{Mode}
 use Rattle.rustc_literal_escaper.specs.Grammar.{Error, Item}
-use Rattle.rustc_literal_escaper.specs.Meaning.{is_raw}
+use Rattle.rustc_literal_escaper.specs.Meaning.{is_raw, is_single}
 use Rattle.rustc_lexer_highlight.specs.Answers.{stretches_in}
-use Rattle.rustc_lexer_highlight.specs.LineEnds.{escape_errors_in_file, file_items}
+use Rattle.rustc_lexer_errors.specs.LineEnds.{escape_errors_in_file, file_items}
 use Rattle.rustc_lexer_highlight.specs.declared.literal.Look.{Look}
 use Rattle.rustc_lexer_highlight.specs.declared.literal.Look.TheVariants.{Escape, Wrong}
 use Rattle.rustc_lexer_highlight.specs.Literal.{Stretch, is_plain}
@@ -61,3 +62,9 @@ pub record IsHighlighted (mode : Mode) (begin close : ℕ) (text : Utf8) : Type 
       (escape_errors_in_file mode (between begin close text)) ≡ true
   pub shown : All (IsShown begin (stretches_in mode begin close text))
       (file_items (is_raw mode) (between begin close text))
+
+-- Holds if the contents of strings are highlighted correctly, wherever they are in a text.
+abbrev pub AreStringsHighlighted : Type 0
+AreStringsHighlighted =
+    (mode : Mode) (begin close : ℕ) (text : Utf8) → IsUtf8 text → IsCharBoundary text begin
+    → IsCharBoundary text close → begin ≤ close → is_single mode ≡ false → IsHighlighted mode begin close text

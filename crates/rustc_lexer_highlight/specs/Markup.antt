@@ -4,10 +4,10 @@ use Rattle.rustc_lexer_highlight.specs.declared.class.Class.{Class}
 use Rattle.rustc_lexer_highlight.specs.declared.class.Class.TheVariants.{Plain, Comment, Doc, Keyword, TypeName, Text}
 use Rattle.rustc_lexer_highlight.specs.declared.class.Class.TheVariants.{Escape, Number}
 use Rattle.rustc_lexer_highlight.specs.declared.class.Class.TheVariants.{Lifetime}
-use Rattle.rustc_lexer_highlight.specs.declared.errors.TokenError.{TokenError}
+use Rattle.rustc_lexer_errors.specs.declared.errors.TokenError.{TokenError}
 use Rattle.rustc_lexer_highlight.specs.declared.format.Format.{Format}
 use Rattle.rustc_lexer_highlight.specs.declared.format.Format.TheVariants.{Html, Colours, NoColours, Raw}
-use Rattle.rustc_lexer_highlight.specs.TokenError.{message}
+use Rattle.rustc_lexer_errors.specs.TokenError.{message}
 
 -- Returns the escape sequence that sets these attributes of the text on a terminal (SGR).
 abbrev pub sgr : List ℕ → List ℕ

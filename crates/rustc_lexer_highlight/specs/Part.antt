@@ -4,7 +4,7 @@ use Rattle.std.specs.Prelude.{slice_index, take}
 use Rattle.std.specs.List.{flat_map, position_or_len}
 use Rattle.std.specs.Str.{byte, chars, encode_utf8_all}
 use Rattle.rustc_lexer_highlight.specs.declared.class.Class.{Class}
-use Rattle.rustc_lexer_highlight.specs.declared.errors.TokenError.{TokenError}
+use Rattle.rustc_lexer_errors.specs.declared.errors.TokenError.{TokenError}
 use Rattle.rustc_lexer_highlight.specs.declared.format.Format.{Format}
 use Rattle.rustc_lexer_highlight.specs.declared.format.Format.TheVariants.{Html, Colours, NoColours, Raw}
 use Rattle.rustc_lexer_highlight.specs.Escape.{entity, escaped}

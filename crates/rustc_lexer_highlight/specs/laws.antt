@@ -1,3 +1,2 @@
-pub mod Frontmatter
 pub mod Literal
 pub mod Pieces

@@ -1,3 +1,1 @@
-pub mod Frontmatter
-pub mod LineEnds
 pub mod Literal

@@ -6,7 +6,7 @@ ghost use Rattle.std.specs.Fmt.{WritesInCalls};
 ghost use Rattle.rustc_lexer_highlight.specs.Markup.{class_close, class_open, error_close, error_open};
 
 use crate::class::Class;
-use crate::errors::TokenError;
+use rustc_lexer_errors::TokenError;
 use std::fmt;
 
 /// The output format.

@@ -5,21 +5,22 @@ ghost use Rattle.std.specs.Str.{IsCharBoundary};
 ghost use Rattle.rustc_lexer.specs.Classes.{Fits};
 ghost use Rattle.rustc_lexer.specs.LanguageText.{part};
 ghost use Rattle.rustc_lexer.specs.Tokens.{tokens_of};
+ghost use Rattle.rustc_lexer_errors.specs.Literal.{closed_mode};
+ghost use Rattle.rustc_lexer_errors.specs.TokenError.{token_error};
 ghost use Rattle.rustc_lexer_highlight.specs.Escape.{unescaped, untagged};
 ghost use Rattle.rustc_lexer_highlight.specs.Highlighted.{document_parts, highlighted, marked_tokens};
 ghost use Rattle.rustc_lexer_highlight.specs.Highlighted.{parts_by, start_parts, token_parts};
 ghost use Rattle.rustc_lexer_highlight.specs.Class.{class_of};
-ghost use Rattle.rustc_lexer_highlight.specs.Literal.{closed_mode};
+ghost use Rattle.rustc_lexer_highlight.specs.LiteralStretches.{AreStringsHighlighted};
 ghost use Rattle.rustc_lexer_highlight.specs.Part.{before_return, displayed, with_markup, without_markup};
 ghost use Rattle.rustc_lexer_highlight.specs.Screen.{is_quiet};
-ghost use Rattle.rustc_lexer_highlight.specs.TokenError.{token_error};
 
 use crate::class::{Class, class_of};
-use crate::errors::token_error;
 use crate::format::Format;
-use crate::literal::{mode_of, write_literal};
+use crate::literal::write_literal;
 use crate::part::{TokenInText, before_return, write_in_class, write_return, write_with_error};
 use rustc_lexer::{Edition, Token, byte_order_mark_len, tokenize_document, tokenize_in};
+use rustc_lexer_errors::{mode_of, token_error};
 use std::fmt;
 
 /// Writes a document with its tokens highlighted, and with a message at each token that has an error.
@@ -27,7 +28,7 @@ use std::fmt;
 /// A byte order mark at the start is written as it is, and a shebang line as a comment. Without its markup, the output
 /// is the text; except in the format `Raw`, symbols such as `␛` replace control characters other than tabs and line
 /// endings. In HTML, the text is everything outside of tags, with its entities decoded.
-#[tactic(auto, using(crate::proofs::HighlightedLemmas::document_is, crate::proofs::HighlightedLemmas::page_is, crate::proofs::QuietLemmas::document_quiet))]
+#[tactic(auto, using(crate::proofs::HighlightedLemmas::document_is, crate::proofs::HighlightedLemmas::page_is, crate::proofs::QuietLemmas::document_quiet, crate::proofs::LiteralStretchLemmas::strings_highlighted))]
 pub fn write_highlighted<W: fmt::Write>(
     format: Format,
     edition: Edition,
@@ -40,6 +41,7 @@ pub fn write_highlighted<W: fmt::Write>(
     ensures text { without_markup (document_parts edition text.now) ≡ text.now }
     ensures page { unescaped (untagged (highlighted Format.Html edition text.now)) ≡ text.now }
     ensures quiet { is_quiet (displayed (document_parts edition text.now)) ≡ true }
+    ensures strings { AreStringsHighlighted }
 {
     let tokens = tokenize_document(text, edition);
     let mut rest = tokens.as_str();

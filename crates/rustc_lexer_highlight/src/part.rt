@@ -6,12 +6,12 @@ ghost use Rattle.rustc_lexer_highlight.specs.Part.{Own, before_return, error_par
 ghost use Rattle.rustc_lexer_highlight.specs.Part.{return_part, shown, with_markup};
 
 use crate::class::Class;
-use crate::errors::TokenError;
 use crate::escape::{entity, write_escaped};
 use crate::format::{Format, class_close, class_open, close_error, open_error};
 use crate::screen::write_seen;
 use memchr::memchr2;
 use rustc_lexer::TokenKind;
+use rustc_lexer_errors::TokenError;
 use std::fmt;
 
 /// A token in a text.
@@ -84,7 +84,7 @@ pub fn write_with_error<W: fmt::Write>(
 }
 
 /// Returns the length in bytes of the text before the first newline or carriage return.
-#[tactic(auto, using(crate::proofs::PlaceLemmas::first_found, crate::proofs::PlaceLemmas::first_none))]
+#[tactic(auto, using(rustc_lexer_errors::proofs::PlaceLemmas::first_found, rustc_lexer_errors::proofs::PlaceLemmas::first_none))]
 fn first_line(text: &str) -> usize
     ensures value { result ≡ first_line text.now }
     ensures bounded { IsCharBoundary text.now result }

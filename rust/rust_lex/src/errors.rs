@@ -2,12 +2,12 @@
 
 use crate::rustc_tokens::RustcTokens;
 use rustc_lexer::{Edition, TokenKind};
-use rustc_lexer_highlight::{EscapeErrorsInFile, literal_contents, token_error};
+use rustc_lexer_errors::{EscapeErrorsInFile, literal_contents, token_error};
 use rustc_literal_escaper::EscapeError;
 use std::io;
 use std::ops::Range;
 
-pub use rustc_lexer_highlight::TokenError;
+pub use rustc_lexer_errors::TokenError;
 
 /// Calls a function for each error and warning of a file in order, with its byte range.
 ///

@@ -58,7 +58,7 @@ mod edit_error;
 mod extent;
 /// The proved source without its contracts, generated from `crates/rustc_lexer`.
 ///
-/// This is for packages that are generated in the same way, such as `rustc_lexer_highlight` and the programs. It is
+/// This is for packages that are generated in the same way, such as `rustc_lexer_errors` and the programs. It is
 /// proved that their calls meet the preconditions. Nothing here checks preconditions: if they are not met, results are
 /// arbitrary, or a call panics. Everything here can change with the source. Other callers use the functions at the
 /// crate's root.

@@ -13,8 +13,8 @@
 //! );
 //! ```
 //!
-//! To display tokens in another way, call [`class_of`], [`token_error`], [`keyword_kind`] and [`literal_contents`] for
-//! each token.
+//! To display tokens in another way, call [`class_of`] and [`keyword_kind`] for each token. The crate
+//! `rustc_lexer_errors` has the errors of a token and the contents of a literal.
 //!
 //! The crate does not allocate and does not need `std`.
 //!
@@ -45,14 +45,10 @@ pub mod generated;
 mod tests;
 
 #[doc(inline)]
-pub use generated::{
-    Class, EscapeErrorsInFile, Format, KeywordKind, TokenError, class_of, keyword_kind,
-    literal_contents,
-};
+pub use generated::{Class, Format, KeywordKind, class_of, keyword_kind};
 pub use rustc_lexer::Edition;
 
 use core::fmt;
-use rustc_lexer::TokenKind;
 
 /// A style sheet for the HTML that [`write_highlighted`] writes.
 ///
@@ -85,43 +81,6 @@ fn fitting(text: &str) -> &str {
         "the text has more than u32::MAX bytes"
     );
     text
-}
-
-/// Returns the error of a token with this kind and text in an edition, or `None` if it has none.
-///
-/// If a token has two errors, one of them is returned. The kind alone does not show whether a token is valid: for
-/// example, an error at the end of a frontmatter is found only in its text.
-///
-/// Before 2021, `k#a` has no error: it is an identifier, `#` and an identifier. C strings are read as in later
-/// editions, although rustc reads the `c` or `cr` in `c"`, `cr"` and `cr#` as an identifier before 2021.
-///
-/// # Examples
-///
-/// ```
-/// use rustc_lexer_highlight::{Edition, TokenError, token_error};
-///
-/// let text = "---\nname\n";
-/// let token = rustc_lexer::tokenize_document(text, Edition::E2024).next().unwrap();
-/// let error = token_error(token.kind, text, Edition::E2024).unwrap();
-/// assert_eq!(error, TokenError::UnclosedFrontmatter);
-/// assert_eq!(
-///     error.to_string(),
-///     "unclosed frontmatter: missing closing fence"
-/// );
-///
-/// use rustc_lexer::TokenKind;
-/// let kind = TokenKind::ForcedKeywordIdent;
-/// assert_eq!(token_error(kind, "k#a", Edition::E2018), None);
-/// assert_eq!(token_error(kind, "k#a", Edition::E2021), Some(TokenError::UnknownPrefix));
-/// ```
-///
-/// # Panics
-///
-/// Panics if the text has more than `u32::MAX` bytes.
-#[must_use]
-#[track_caller]
-pub fn token_error(kind: TokenKind, text: &str, edition: Edition) -> Option<TokenError> {
-    generated::token_error(kind, fitting(text), edition)
 }
 
 /// Writes a document in an edition with its tokens highlighted, and with a message at each malformed token.

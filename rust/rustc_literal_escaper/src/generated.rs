@@ -34,7 +34,7 @@ pub use strings::{
 pub use unit::{MixedUnit, NonZeroChar, NonZeroU8};
 pub use written::{EscapeCStrError, escape_byte_str, escape_c_str, escape_str};
 
-// For `rustc_lexer_highlight`, which reads literals with CRLF line endings.
+// For `rustc_lexer_errors`, which reads literals with CRLF line endings.
 pub use elements::ElementsOf;
 pub use scan::split_first;
 pub use single::single_error;

@@ -32,7 +32,7 @@ extern crate std;
 
 /// The proved source without its contracts, generated from `crates/rustc_literal_escaper`.
 ///
-/// Only for packages that are generated in the same way, like `rustc_lexer_highlight`. The module has its own types for
+/// Only for packages that are generated in the same way, like `rustc_lexer_errors`. The module has its own types for
 /// the units of C strings, and it can change with the source. Other callers use the functions at the crate's root.
 // Only contracts use some of its imports and variables.
 #[allow(missing_docs, unused_imports, unused_variables, dead_code)]

@@ -12,7 +12,7 @@ use Rattle.rustc_lexer_highlight.specs.declared.literal.Look.{Look}
 use Rattle.rustc_lexer_highlight.specs.declared.literal.Look.TheVariants.{Escape, Wrong}
 use Rattle.rustc_lexer_highlight.specs.declared.literal.Painter.{Painter}
 use Rattle.rustc_lexer_highlight.specs.declared.format.Format.{Format}
-use Rattle.rustc_lexer_highlight.specs.LineEnds.{file_items}
+use Rattle.rustc_lexer_errors.specs.LineEnds.{file_items}
 use Rattle.rustc_lexer_highlight.specs.Literal.{Stretch, parts_from, stretch}
 use Rattle.rustc_lexer_highlight.specs.Part.{with_markup}
 

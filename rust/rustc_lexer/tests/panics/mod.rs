@@ -1,4 +1,4 @@
-//! Where a call panics, and its message. Also for the package `rustc_lexer_highlight`.
+//! Where a call panics, and its message. Also for other packages.
 #![allow(dead_code, unused_macros)] // not each test uses all of it
 
 use std::cell::Cell;

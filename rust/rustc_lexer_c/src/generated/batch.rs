@@ -2,7 +2,7 @@
 //! Writes tokens in batches.
 
 use crate::generated::relex::edition_of;
-use crate::generated::status::{Refusal, done, refuse, text_of, utf8_text_of};
+use crate::generated::status::{Refusal, done, refuse, text_of, utf8_text_of, validate};
 use crate::generated::token::{CToken, token_numbers};
 use rustc_lexer::generated::{Edition, FrontmatterAllowed, tokenize, tokenize_as};
 
@@ -27,10 +27,8 @@ pub fn rustc_lexer_tokens(
     buffer: &mut [CToken],
     count: &mut usize,
 ) -> u32 {
-    match text_of(text) {
-        Ok(_) => rustc_lexer_tokens_unchecked(text, place, buffer, count),
-        Err(refusal) => refuse(refusal, 0, count),
-    }
+    validate!(text_of(text), 0, count);
+    rustc_lexer_tokens_unchecked(text, place, buffer, count)
 }
 
 /// Like `rustc_lexer_tokens`, but does not check that the text is UTF-8. `rustc_lexer_check` must have accepted it.
@@ -40,12 +38,9 @@ pub fn rustc_lexer_tokens_unchecked(
     buffer: &mut [CToken],
     count: &mut usize,
 ) -> u32 {
-    let text = match utf8_text_of(text) {
-        Ok(text) => text,
-        Err(refusal) => return refuse(refusal, 0, count),
-    };
+    let text = validate!(utf8_text_of(text), 0, count);
     if !text.is_char_boundary(place.at as usize) {
-        return refuse(Refusal::BadPlace, 0, count);
+        return refuse(Refusal::InvalidPlace, 0, count);
     }
     done(fill(text, Edition::NEWEST, place, buffer), count)
 }
@@ -58,10 +53,8 @@ pub fn rustc_lexer_tokens_in(
     buffer: &mut [CToken],
     count: &mut usize,
 ) -> u32 {
-    match text_of(text) {
-        Ok(_) => rustc_lexer_tokens_in_unchecked(text, edition, place, buffer, count),
-        Err(refusal) => refuse(refusal, 0, count),
-    }
+    validate!(text_of(text), 0, count);
+    rustc_lexer_tokens_in_unchecked(text, edition, place, buffer, count)
 }
 
 /// Like `rustc_lexer_tokens_in`, but does not check that the text is UTF-8. `rustc_lexer_check` must have accepted it.
@@ -72,16 +65,13 @@ pub fn rustc_lexer_tokens_in_unchecked(
     buffer: &mut [CToken],
     count: &mut usize,
 ) -> u32 {
-    let text = match utf8_text_of(text) {
-        Ok(text) => text,
-        Err(refusal) => return refuse(refusal, 0, count),
-    };
+    let text = validate!(utf8_text_of(text), 0, count);
     if !text.is_char_boundary(place.at as usize) {
-        return refuse(Refusal::BadPlace, 0, count);
+        return refuse(Refusal::InvalidPlace, 0, count);
     }
     match edition_of(edition) {
         Some(edition) => done(fill(text, edition, place, buffer), count),
-        None => refuse(Refusal::BadEdition, 0, count),
+        None => refuse(Refusal::InvalidEdition, 0, count),
     }
 }
 

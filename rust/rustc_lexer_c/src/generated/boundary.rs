@@ -2,21 +2,18 @@
 //! Tests whether two parts of a text can touch without changing their tokens.
 
 use crate::generated::relex::edition_of;
-use crate::generated::status::{Refusal, done, refuse, text_of};
+use crate::generated::status::{Refusal, done, refuse, text_of, validate};
 use rustc_lexer::generated::is_token_boundary;
 
 /// Writes 1 if a text has the tokens of its part before `at`, followed by the tokens of its part after `at`, otherwise
 /// 0. The edition is a year.
 pub fn rustc_lexer_is_token_boundary(text: &[u8], at: usize, edition: u32, is: &mut u32) -> u32 {
-    let text = match text_of(text) {
-        Ok(text) => text,
-        Err(refusal) => return refuse(refusal, 0, is),
-    };
+    let text = validate!(text_of(text), 0, is);
     if !text.is_char_boundary(at) {
-        return refuse(Refusal::BadPlace, 0, is);
+        return refuse(Refusal::InvalidPlace, 0, is);
     }
     match edition_of(edition) {
         Some(edition) => done(u32::from(is_token_boundary(text, at, edition)), is),
-        None => refuse(Refusal::BadEdition, 0, is),
+        None => refuse(Refusal::InvalidEdition, 0, is),
     }
 }

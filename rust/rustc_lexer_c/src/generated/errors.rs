@@ -3,40 +3,35 @@
 
 use crate::generated::buffer::Buffer;
 use crate::generated::relex::edition_of;
-use crate::generated::status::{OK, Refusal, done, refuse, text_of};
+use crate::generated::status::{OK, Refusal, done, refuse, text_of, validate};
 use crate::generated::token::CToken;
 use core::fmt;
 use rustc_lexer::generated::{Base, DocStyle, LiteralKind, TokenKind};
-use rustc_lexer_highlight::{TokenError, class_of, token_error};
+use rustc_lexer_errors::generated::{TokenError, token_error};
+use rustc_lexer_highlight::class_of;
 
 /// Writes the number of a token's class in the edition of a year. The token is passed as its numbers and its text.
 pub fn rustc_lexer_class(text: &[u8], token: &CToken, edition: u32, number: &mut u32) -> u32 {
-    let text = match text_of(text) {
-        Ok(text) => text,
-        Err(refusal) => return refuse(refusal, 0, number),
-    };
+    let text = validate!(text_of(text), 0, number);
     match edition_of(edition) {
         Some(edition) => done(
             u32::from(class_of(kind_of(token), text, edition).number()),
             number,
         ),
-        None => refuse(Refusal::BadEdition, 0, number),
+        None => refuse(Refusal::InvalidEdition, 0, number),
     }
 }
 
 /// Writes the number of a token's error in the edition of a year, or 0 if it has none. The token is passed as its
 /// numbers and its text.
 pub fn rustc_lexer_token_error(text: &[u8], token: &CToken, edition: u32, number: &mut u32) -> u32 {
-    let text = match text_of(text) {
-        Ok(text) => text,
-        Err(refusal) => return refuse(refusal, 0, number),
-    };
+    let text = validate!(text_of(text), 0, number);
     match edition_of(edition) {
         Some(edition) => done(
             number_of(token_error(kind_of(token), text, edition)),
             number,
         ),
-        None => refuse(Refusal::BadEdition, 0, number),
+        None => refuse(Refusal::InvalidEdition, 0, number),
     }
 }
 
@@ -52,12 +47,9 @@ pub fn rustc_lexer_token_error_message(
     written: &mut usize,
 ) -> u32 {
     *written = 0;
-    let text = match text_of(text) {
-        Ok(text) => text,
-        Err(refusal) => return refusal.number(),
-    };
+    let text = validate!(text_of(text));
     let Some(edition) = edition_of(edition) else {
-        return Refusal::BadEdition.number();
+        return Refusal::InvalidEdition.number();
     };
     let error = token_error(kind_of(token), text, edition);
     let mut output = Buffer::new(buffer);

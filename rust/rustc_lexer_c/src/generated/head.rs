@@ -3,7 +3,7 @@
 
 use crate::generated::batch::NO_TOKEN;
 use crate::generated::relex::{CEdit, change_of};
-use crate::generated::status::{OK, Refusal, text_of, utf8_text_of};
+use crate::generated::status::{OK, Refusal, text_of, utf8_text_of, validate};
 use crate::generated::token::{CToken, token_numbers};
 use rustc_lexer::generated::{Change, Head, Token, TokenKind};
 
@@ -34,10 +34,8 @@ pub fn rustc_lexer_body_edit(
     body_edit: &mut CEdit,
     head_kept: &mut u32,
 ) -> u32 {
-    match text_of(text) {
-        Ok(_) => rustc_lexer_body_edit_unchecked(text, edit, head, body_edit, head_kept),
-        Err(refusal) => refusal.number(),
-    }
+    validate!(text_of(text));
+    rustc_lexer_body_edit_unchecked(text, edit, head, body_edit, head_kept)
 }
 
 /// Like `rustc_lexer_body_edit`, but does not check that the text is UTF-8. `rustc_lexer_check` must have accepted it.
@@ -48,18 +46,15 @@ pub fn rustc_lexer_body_edit_unchecked(
     body_edit: &mut CEdit,
     head_kept: &mut u32,
 ) -> u32 {
-    let text = match utf8_text_of(text) {
-        Ok(text) => text,
-        Err(refusal) => return refusal.number(),
-    };
+    let text = validate!(utf8_text_of(text));
     let change = change_of(edit);
     if !change.is_valid_for(text) {
-        return Refusal::BadEdit.number();
+        return Refusal::InvalidEdit.number();
     }
     let now = Head::find(text);
     let body = head_of(head).body_change(now, change);
     if !body.change.is_valid_for(&text[now.body..]) {
-        return Refusal::BadEdit.number();
+        return Refusal::InvalidEdit.number();
     }
     *head = numbers_of_head(now);
     *body_edit = edit_of(body.change);

@@ -3,7 +3,7 @@
 
 use crate::generated::buffer::Buffer;
 use crate::generated::relex::edition_of;
-use crate::generated::status::{OK, Refusal, text_of};
+use crate::generated::status::{OK, Refusal, text_of, validate};
 use core::fmt;
 use rustc_lexer::generated::Edition;
 use rustc_lexer_highlight::{Format, write_first_tokens};
@@ -21,15 +21,12 @@ pub fn rustc_lexer_write_highlighted(
     written: &mut usize,
 ) -> u32 {
     *written = 0;
-    let text = match text_of(text) {
-        Ok(text) => text,
-        Err(refusal) => return refusal.number(),
-    };
+    let text = validate!(text_of(text));
     let Some(edition) = edition_of(edition) else {
-        return Refusal::BadEdition.number();
+        return Refusal::InvalidEdition.number();
     };
     let Some(format) = format_of(format) else {
-        return Refusal::BadFormat.number();
+        return Refusal::InvalidFormat.number();
     };
     let mut output = Buffer::new(buffer);
     let Ok(()) = fill(format, edition, count, text, &mut output) else {

@@ -2,8 +2,8 @@
 //! The markup around tokens: HTML tags, or escape sequences of a terminal.
 
 use crate::generated::class::Class;
-use crate::generated::errors::TokenError;
 use core::fmt;
+use rustc_lexer_errors::generated::TokenError;
 
 /// The output format.
 #[derive(Clone, Copy, Debug, PartialEq, Eq, Hash)]

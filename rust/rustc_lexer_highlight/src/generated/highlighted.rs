@@ -2,14 +2,14 @@
 //! Writes a text with its shebang line and its tokens highlighted, for a terminal or for the inside of an HTML page.
 
 use crate::generated::class::{Class, class_of};
-use crate::generated::errors::token_error;
 use crate::generated::format::Format;
-use crate::generated::literal::{mode_of, write_literal};
+use crate::generated::literal::write_literal;
 use crate::generated::part::{
     TokenInText, before_return, write_in_class, write_return, write_with_error,
 };
 use core::fmt;
 use rustc_lexer::generated::{Edition, Token, byte_order_mark_len, tokenize_document, tokenize_in};
+use rustc_lexer_errors::generated::{mode_of, token_error};
 
 /// Writes a document with its tokens highlighted, and with a message at each token that has an error.
 ///

@@ -2,15 +2,12 @@
 //! Writes literals with their escapes and errors highlighted.
 
 use crate::generated::class::Class;
-use crate::generated::errors::TokenError;
-use crate::generated::escape_errors_in_file::{is_raw, single_error};
 use crate::generated::format::Format;
-use crate::generated::line_ends::file_elements;
 use crate::generated::part::{write_in_class, write_with_error};
 use core::fmt;
-use core::ops::Range;
-use memchr::{memchr, memrchr};
-use rustc_lexer::generated::{LiteralKind, TokenKind};
+use rustc_lexer_errors::generated::{
+    TokenError, between_quotes, error_in_quotes, file_elements, is_raw,
+};
 use rustc_literal_escaper::generated::{Element, EscapeError, Mode};
 
 /// The look of a stretch of a literal that is not plain.
@@ -20,67 +17,6 @@ pub enum Look {
     Escape,
     /// An error or a warning.
     Wrong(EscapeError),
-}
-
-/// Returns the mode of a terminated literal, or `None` for a number, an unterminated literal and any other token.
-pub fn mode_of(kind: TokenKind) -> Option<Mode> {
-    let TokenKind::Literal { kind, .. } = kind else {
-        return None;
-    };
-    match kind {
-        LiteralKind::Char { terminated: true } => Some(Mode::Char),
-        LiteralKind::Byte { terminated: true } => Some(Mode::Byte),
-        LiteralKind::Str { terminated: true } => Some(Mode::Str),
-        LiteralKind::ByteStr { terminated: true } => Some(Mode::ByteStr),
-        LiteralKind::CStr { terminated: true } => Some(Mode::CStr),
-        LiteralKind::RawStr { n_hashes: Some(_) } => Some(Mode::RawStr),
-        LiteralKind::RawByteStr { n_hashes: Some(_) } => Some(Mode::RawByteStr),
-        LiteralKind::RawCStr { n_hashes: Some(_) } => Some(Mode::RawCStr),
-        _ => None,
-    }
-}
-
-/// Returns the [`Mode`] of a literal, and the byte range between its quotes.
-///
-/// Returns `None` for a number, an unterminated literal and a token that is not a literal. A suffix may follow the
-/// closing quote.
-///
-/// The functions of `rustc_literal_escaper` accept this mode and the text in this range. The ranges that they report
-/// are relative to its start.
-///
-/// # Examples
-///
-/// ```
-/// use rustc_lexer_highlight::literal_contents;
-/// use rustc_lexer::{FrontmatterAllowed, tokenize};
-/// use rustc_literal_escaper::{Mode, check_for_errors};
-///
-/// let text = r#"b"a\q"suffix"#;
-/// let token = tokenize(text, FrontmatterAllowed::No).next().unwrap();
-/// let (mode, range) = literal_contents(token.kind, text).unwrap();
-/// assert_eq!((mode, range.clone()), (Mode::ByteStr, 2..5));
-///
-/// check_for_errors(&text[range.clone()], mode, |wrong, _| {
-///     assert_eq!(&text[range.start + wrong.start..range.start + wrong.end], r"\q");
-/// });
-/// ```
-#[must_use]
-pub fn literal_contents(kind: TokenKind, text: &str) -> Option<(Mode, Range<usize>)> {
-    let mode = mode_of(kind)?;
-    let (start, end) = between_quotes(mode, text)?;
-    Some((mode, start..end))
-}
-
-/// Returns the offsets at which the contents of a literal start and end, or `None` if it does not have two quotes.
-fn between_quotes(mode: Mode, text: &str) -> Option<(usize, usize)> {
-    let quote = quote_of(mode);
-    let first = first_offset(quote, text);
-    let last = last_offset(quote, text);
-    if first < last {
-        Some((first + 1, last))
-    } else {
-        None
-    }
 }
 
 /// Writes a terminated literal: its escapes in their class, its errors with messages, and the rest as text.
@@ -106,21 +42,6 @@ pub fn write_literal<W: fmt::Write>(
     }
 }
 
-/// Returns the quote of a literal of this mode.
-fn quote_of(mode: Mode) -> u8 {
-    if mode.in_double_quotes() { b'"' } else { b'\'' }
-}
-
-/// Returns the offset of the first byte with this value, or the length of the text if there is none.
-pub fn first_offset(byte: u8, text: &str) -> usize {
-    memchr(byte, text.as_bytes()).unwrap_or(text.len())
-}
-
-/// Returns the offset of the last byte with this value, or 0 if there is none.
-fn last_offset(byte: u8, text: &str) -> usize {
-    memrchr(byte, text.as_bytes()).unwrap_or(0)
-}
-
 /// Returns the look of the contents of a literal with single quotes, or `None` if they are plain.
 fn single_look(mode: Mode, inside: &str) -> Option<Look> {
     match error_in_quotes(mode, inside) {
@@ -128,12 +49,6 @@ fn single_look(mode: Mode, inside: &str) -> Option<Look> {
         None if inside.starts_with('\\') => Some(Look::Escape),
         None => None,
     }
-}
-
-/// Returns the error in the contents of a literal with single quotes, or `None` if there is none.
-fn error_in_quotes(mode: Mode, inside: &str) -> Option<EscapeError> {
-    let (_, error) = single_error(inside, mode)?;
-    Some(error)
 }
 
 /// Writes a literal stretch by stretch.

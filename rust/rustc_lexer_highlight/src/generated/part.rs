@@ -2,13 +2,13 @@
 //! Writes a part of a text with the markup of its class and of its error.
 
 use crate::generated::class::Class;
-use crate::generated::errors::TokenError;
 use crate::generated::escape::{entity, write_escaped};
 use crate::generated::format::{Format, class_close, class_open, close_error, open_error};
 use crate::generated::screen::write_seen;
 use core::fmt;
 use memchr::memchr2;
 use rustc_lexer::generated::TokenKind;
+use rustc_lexer_errors::generated::TokenError;
 
 /// A token in a text.
 #[derive(Clone, Copy)]

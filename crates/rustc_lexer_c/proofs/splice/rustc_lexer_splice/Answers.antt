@@ -15,6 +15,6 @@ returns c =
       count_is = λ _. c.done.ensures.written;
       refused = λ not. absurd (not c.done.ensures.status);
       ok = λ _ _. c.done.ensures.status;
-      bad_edit = λ not. absurd (not (inside, apart));
+      invalid_edit = λ not. absurd (not (inside, apart));
       small_buffer = λ _ small. absurd (omega (arith, small, room));
     }

@@ -1,6 +1,6 @@
 use Rattle.std.proofs.Common.{ℕ, ◌+◌, ◌≤◌, List, Bool, arith, rules, refl, ap, ◌∙◌}
 use Rattle.std.proofs.lemmas.Result.{on_ok_weaker}
-use Rattle.rustc_lexer_highlight.specs.LineEnds.{file_items}
+use Rattle.rustc_lexer_errors.specs.LineEnds.{file_items}
 use Rattle.rustc_lexer_highlight.proofs.LiteralLemmas.{paints_end, paints_item, placed_all, placed_first, writes_all}
 use Rattle.rustc_lexer_highlight.proofs.LiteralLemmas.{writes_told}
 use Rattle.rustc_lexer_highlight.proofs.literal.Painter.write_string.Goals as goal

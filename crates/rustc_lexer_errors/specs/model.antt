@@ -1,0 +1,2 @@
+pub mod Frontmatter
+pub mod LineEnds

@@ -1,9 +1,0 @@
-use Rattle.std.proofs.Common.{◌∙◌}
-use Rattle.std.specs.Str.{chars}
-use Rattle.rustc_lexer_highlight.specs.LineEnds.{unix}
-use Rattle.rustc_lexer_highlight.proofs.FileErrorLemmas.{single_moved}
-use Rattle.rustc_lexer_highlight.proofs.escape_errors_in_file.single_error.Goals as goal
-
-pub returns : goal.returns
-returns c = (rw c.new.ensures at c.single_error.ensures) ∙ single_moved c.args.contents.now c.args.mode
-    (unix (chars c.args.contents.now))

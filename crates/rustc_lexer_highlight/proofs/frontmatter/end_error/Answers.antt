@@ -1,7 +1,0 @@
-use Rattle.rustc_lexer_highlight.proofs.FrontmatterLemmas.{ends_found}
-use Rattle.rustc_lexer_highlight.proofs.frontmatter.end_error.Goals as goal
-
-pub returns : goal.returns
-returns c =
-    rw (c.closing_error.ensures, c.run_of.ensures.value)
-    (ends_found _ _ c.as_bytes-bytes.ensures.value _ c.in-Some.ensures)

@@ -1,5 +1,0 @@
-use Rattle.rustc_lexer_highlight.proofs.LineEndLemmas.{left_left}
-use Rattle.rustc_lexer_highlight.proofs.line_ends.FileCharsText.next_char.Goals as goal
-
-pub invariant_of-self : goal.invariant_of-self
-invariant_of-self c = left_left c.self.invariant c.in_ok-c.ensures.1
