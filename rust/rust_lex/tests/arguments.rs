@@ -130,6 +130,7 @@ fn names_of_files() {
         (&b"a\xff.rs"[..], "a\u{fffd}.rs"),
         (b"\x1b[31m\n.rs", "\\u{1b}[31m\\n.rs"),
         ("\u{202e}a\u{2069}.rs".as_bytes(), "\\u{202e}a\\u{2069}.rs"),
+        ("\u{2066}\u{202a}.rs".as_bytes(), "\\u{2066}\\u{202a}.rs"),
         (b"\\n.rs", "\\\\n.rs"),
         ("\u{e9} \".rs".as_bytes(), "\u{e9} \".rs"),
     ] {

@@ -175,6 +175,8 @@ fn editions() {
             "cr#a#\"\\q\" c\"\"c\"\" 0x",
             &[(7, escape), (18, empty)],
         ),
+        // After a name, `#!` starts no shebang line.
+        (&["2015", "2018"], "cr#!x 0x", &[(7, empty)]),
         // Since 2021, a raw lifetime and a quote are a character.
         (&["2021", "2024"], "'r#fn'a' 0x", &[(1, long), (10, empty)]),
         (&["2015", "2018"], "'r#fn'a' 0x", &[(10, empty)]),

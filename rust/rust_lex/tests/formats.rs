@@ -90,12 +90,30 @@ fn formats() {
     }
 }
 
+/// The ranges of tokens that rustc reads in another way.
+#[test]
+fn ranges() {
+    let folder = empty_folder("ranges");
+    for (text, code, end) in [
+        ("'r#a'b'", "more-than-one-char", 4),
+        ("k#a", "unknown-prefix", 1),
+        ("#\"a\"# b", "guarded-string", 5),
+    ] {
+        let mut program = rust_lex(&folder, &["check", "--format=json", "-"]);
+        let ended = run_with_input(&mut program, text.as_bytes());
+        let object = text_of(&ended.stdout);
+        let range =
+            format!("\"start\":0,\"end\":{end},\"severity\":\"error\",\"code\":\"{code}\",");
+        assert!(object.contains(&range), "{object}");
+    }
+}
+
 /// Names with special characters in each format, and files that cannot be read.
 #[cfg(target_os = "linux")]
 #[test]
 fn names_in_formats() {
     let folder = empty_folder("names_in_formats");
-    fs::write(folder.join("a\"\\\x1b\n.rs"), "0x").unwrap();
+    fs::write(folder.join("a\"\\\x1b\n\x1f.rs"), "0x").unwrap();
     let summary = "rust-lex: 1 file checked: 1 error, 0 warnings\n";
     let missing = "rust-lex: b,.rs: No such file or directory (os error 2)\n\
         rust-lex: 0 files checked, 1 not checked: 0 errors, 0 warnings\n";
@@ -106,15 +124,15 @@ fn names_in_formats() {
         &[
             (
                 "$P check --format json a*",
-                "{\"file\":\"a\\\"\\\\\\u001b\\u000a.rs\",\"line\":1,\"column\":1,\"start\":0,\"end\":2,\
+                "{\"file\":\"a\\\"\\\\\\u001b\\u000a\\u001f.rs\",\"line\":1,\"column\":1,\"start\":0,\"end\":2,\
                  \"severity\":\"error\",\"code\":\"empty-number\",\"message\":\"number has no digits\"}\n",
                 summary,
                 1,
             ),
             (
                 "$P check --format github a*",
-                "::error file=a\"\\\x1b%0A.rs,line=1,col=1,title=rust-lex (empty-number)\
-                 ::a\"\\\\\\u{1b}\\n.rs:1:1: number has no digits\n",
+                "::error file=a\"\\\x1b%0A\x1f.rs,line=1,col=1,title=rust-lex (empty-number)\
+                 ::a\"\\\\\\u{1b}\\n\\u{1f}.rs:1:1: number has no digits\n",
                 summary,
                 1,
             ),

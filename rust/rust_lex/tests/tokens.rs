@@ -114,6 +114,11 @@ fn several_files() {
     fs::write(folder.join("b.rs"), "").unwrap();
     let ended = rust_lex(&folder, &["tokens", "a.rs"]).output().unwrap();
     check_ended(&ended, "0 1 Ident\n", "", 0, "one file");
+    let ended = rust_lex(&folder, &["tokens", "b.rs", "a.rs"])
+        .output()
+        .unwrap();
+    let listing = "==> b.rs <==\n==> a.rs <==\n0 1 Ident\n";
+    check_ended(&ended, listing, "", 0, "two files");
     let arguments = ["tokens", "a.rs", "-", "b.rs"];
     let ended = run_with_input(&mut rust_lex(&folder, &arguments), b"+");
     let listing = "==> a.rs <==\n0 1 Ident\n==> <stdin> <==\n0 1 Plus\n==> b.rs <==\n";
