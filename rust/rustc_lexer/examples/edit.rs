@@ -7,7 +7,7 @@ fn main() -> std::io::Result<()> {
     for piece in file.pieces() {
         println!("{} {:?} {:?}", piece.start, piece.token.kind, piece.text);
     }
-    let change = file.edit(0..3, "pub use");
+    let change = file.edit(0..0, "// Hello\n");
     let kept = change.kept_front + change.kept_back;
     println!("{kept} tokens were kept. These were lexed:");
     for piece in file.pieces_by_index(change.changed_tokens()) {

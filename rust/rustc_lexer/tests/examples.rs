@@ -227,10 +227,9 @@ fn edit() {
 5 Semi ";"
 6 Whitespace "\n"
 7 Ident "b"
-5 tokens were kept. These were lexed:
-Ident "pub"
-Whitespace " "
-Ident "use"
+6 tokens were kept. These were lexed:
+LineComment { doc_style: None } "// Hello"
+Whitespace "\n"
 "#;
     assert_eq!(String::from_utf8(output.stdout).unwrap(), wanted);
     assert!(output.status.success());
