@@ -28,7 +28,7 @@ use std::fmt;
 /// A byte order mark at the start is written as it is, and a shebang line as a comment. Without its markup, the output
 /// is the text; except in the format `Raw`, symbols such as `␛` replace control characters other than tabs and line
 /// endings. In HTML, the text is everything outside of tags, with its entities decoded.
-#[tactic(auto, using(crate::proofs::HighlightedLemmas::document_is, crate::proofs::HighlightedLemmas::page_is, crate::proofs::QuietLemmas::document_quiet, crate::proofs::LiteralStretchLemmas::strings_highlighted))]
+#[tactic(auto, using(crate::proofs::HighlightedLemmas::document_is, crate::proofs::HighlightedLemmas::page_is, crate::proofs::QuietLemmas::document_quiet))]
 pub fn write_highlighted<W: fmt::Write>(
     format: Format,
     edition: Edition,

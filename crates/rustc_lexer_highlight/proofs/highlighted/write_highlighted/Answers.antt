@@ -2,6 +2,7 @@ use Rattle.std.proofs.Common.{◌≡◌, ℕ, ◌-◌, List, length, arith, ap, 
 use Rattle.rustc_lexer.specs.{Document.{tokens_start}, State.{State}}
 use Rattle.rustc_lexer.proofs.lemmas.tokens.Places.{document_start}
 use Rattle.rustc_lexer_highlight.proofs.HighlightedLemmas.{past_piece, writes_past, writes_token}
+use Rattle.rustc_lexer_highlight.proofs.LiteralStretchLemmas.{strings_highlighted}
 use Rattle.rustc_lexer_highlight.proofs.highlighted.write_highlighted.Goals as goal
 
 pub loop-token-preserved : goal.loop-token-preserved
@@ -33,3 +34,12 @@ loop-token-init g c =
       left = λ w more. writes_past g.W.Write.write_str_gives _ _ _ _ w text (rw before at c.in_ok-write_start.ensures)
           (rw (rest, state) at more);
     }
+
+pub returns-in_err-write_start-clause-strings : goal.returns-in_err-write_start-clause-strings
+returns-in_err-write_start-clause-strings g c = strings_highlighted
+
+pub returns-in_err-rest-clause-strings : goal.returns-in_err-rest-clause-strings
+returns-in_err-rest-clause-strings g c = strings_highlighted
+
+pub returns-clause-strings : goal.returns-clause-strings
+returns-clause-strings g c = strings_highlighted
