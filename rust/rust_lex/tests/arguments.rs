@@ -7,7 +7,7 @@ use std::fs;
 
 /// Arguments, separated by spaces, and the message.
 #[rustfmt::skip]
-const REJECTED: [(&str, &str); 49] = [
+const REJECTED: [(&str, &str); 50] = [
     ("", "no command: see 'rust-lex --help'"),
     ("check", "no files: see 'rust-lex check --help'"),
     ("check --edition 2021", "no files: see 'rust-lex check --help'"),
@@ -51,6 +51,7 @@ const REJECTED: [(&str, &str); 49] = [
     ("highlight --html --html=fragment", "--html is given twice"),
     ("highlight --raw --html", "--raw and --html exclude each other"),
     ("highlight --html=fragment --css", "--html and --css exclude each other"),
+    ("highlight --css --raw", "--css and --raw exclude each other"),
     ("highlight --html one.rs one.rs", "--html takes at most one file"),
     ("highlight --html=fragment one.rs -", "--html takes at most one file"),
     ("highlight --css one.rs", "--css takes no file"),
@@ -114,6 +115,11 @@ fn help_and_version() {
                 help.lines().all(|line| line.chars().count() <= 80),
                 "{help}"
             );
+            if command == ["check"] {
+                let statuses =
+                    "  0   there are no errors, or only warnings\n  1   there are errors\n  2   ";
+                assert!(help.contains(statuses), "{help}");
+            }
             let mut same = rust_lex(&folder, &[&["help"], command].concat());
             check_ended(&same.output().unwrap(), &help, "", 0, "help COMMAND");
         }

@@ -64,11 +64,10 @@ fn page() {
         let words = [&["highlight"], arguments].concat();
         let ended = run_with_input(&mut rust_lex(&folder, &words), b"fn <");
         let page = text_of(&ended.stdout);
+        let start = "<!DOCTYPE html>\n<html lang=\"en\">\n<head>\n<meta charset=\"utf-8\">\n";
+        assert!(page.contains("\n<title>Rust</title>\n"), "{page}");
         let end = "<body class=\"rust-code\">\n<pre>\n<span class=\"keyword\">fn</span> &lt;</pre>\n</body>\n</html>\n";
-        assert!(
-            page.starts_with("<!DOCTYPE html>\n") && page.ends_with(end),
-            "{page}"
-        );
+        assert!(page.starts_with(start) && page.ends_with(end), "{page}");
         assert!(!page.contains("<script"));
         assert!(page.contains(&format!("\n<style>\n{STYLE_SHEET}")));
     }
@@ -127,6 +126,7 @@ fn terminals_and_streams() {
         ("TERM=xterm", "", colours, "fn a"),
         ("TERM=xterm NO_COLOR=", "", colours, "fn a"),
         ("TERM=xterm NO_COLOR=1", "", "fn a", "fn a"),
+        ("TERM=xterm NO_COLOR=0", "", "fn a", "fn a"),
         ("TERM=xterm CLICOLOR=1", "", colours, "fn a"),
         ("TERM=xterm CLICOLOR=", "", colours, "fn a"),
         ("TERM=xterm CLICOLOR=0", "", "fn a", "fn a"),
@@ -166,7 +166,11 @@ fn terminals_and_streams() {
                 format!("env {variables} script -qec '{command}' /dev/null"),
                 on_terminal,
             ),
-            (format!("env {variables} {command}"), in_file),
+            // Standard error is a terminal here, but standard output is a file.
+            (
+                format!("env {variables} script -qec '{command} > out' /dev/null && cat out"),
+                in_file,
+            ),
         ] {
             check_shell(&folder, &[(&command, output, "", 0)]);
         }
