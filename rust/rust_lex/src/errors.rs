@@ -17,6 +17,7 @@ pub fn for_each_error(
     edition: Edition,
     mut report: impl FnMut(Range<usize>, TokenError) -> io::Result<()>,
 ) -> io::Result<()> {
+    let mut has_no_break_space = false;
     RustcTokens::new(text, edition).for_each(|start, kind, token| {
         let range = start..start + token.len();
         // rustc reads such a lifetime and the quote as a character literal.
@@ -24,9 +25,14 @@ pub fn for_each_error(
             let error = TokenError::InLiteral(EscapeError::MoreThanOneChar);
             report(range.clone(), error)?;
         }
-        if let Some(error) = token_error(kind, token, edition) {
-            report(range, error)?;
+        match token_error(kind, token, edition) {
+            // After the first one, rustc reads no-break spaces as whitespace.
+            Some(TokenError::UnknownCharacter) if token == "\u{a0}" && has_no_break_space => {}
+            Some(TokenError::TextDirectionCodepoint) if has_wrong_contents(kind, token) => {}
+            Some(error) => report(range, error)?,
+            None => {}
         }
+        has_no_break_space |= token == "\u{a0}";
         if let Some((mode, contents)) = literal_contents(kind, token) {
             let start = start + contents.start;
             for (range, error) in EscapeErrorsInFile::new(&token[contents], mode) {
@@ -35,6 +41,14 @@ pub fn for_each_error(
             }
         }
         Ok(())
+    })
+}
+
+/// Returns whether the contents of a literal have an error. Then rustc does not look for characters that change the
+/// direction of text.
+fn has_wrong_contents(kind: TokenKind, token: &str) -> bool {
+    literal_contents(kind, token).is_some_and(|(mode, contents)| {
+        EscapeErrorsInFile::new(&token[contents], mode).any(|(_, error)| error.is_fatal())
     })
 }
 

@@ -136,6 +136,7 @@ fn editions() {
     let unterminated = "unterminated string: missing closing quote\n";
     let long = "too many characters: expected one between single quotes\n";
     let empty = "number has no digits\n";
+    let no_break_space = "unexpected character U+00A0: no token starts with it\n";
     // A text, and a column and a message for each error.
     for (years, text, errors) in [
         (&["2021", "2024"][..], "z\"a\"", &[(1, prefix)][..]),
@@ -174,6 +175,18 @@ fn editions() {
             &["2015", "2018"],
             "cr#a#\"\\q\" c\"\"c\"\" 0x",
             &[(7, escape), (18, empty)],
+        ),
+        // After the first one, rustc reads no-break spaces as whitespace.
+        (
+            &["2018", "2024"],
+            "a\u{a0}\u{a0}b\u{a0}0x",
+            &[(2, no_break_space), (6, empty)],
+        ),
+        // In a literal with another error, rustc does not look for characters that change the direction.
+        (
+            &["2018", "2024"],
+            "\"\u{202e}\\q\" '\u{202e}a'",
+            &[(3, escape), (8, long)],
         ),
         // After a name, `#!` starts no shebang line.
         (&["2015", "2018"], "cr#!x 0x", &[(7, empty)]),

@@ -199,6 +199,12 @@ fn terminals_and_streams() {
                 2,
             ),
             (
+                "head -c 131073 /dev/zero | tr '\\0' x > many; $P highlight many none > /dev/full",
+                "",
+                "rust-lex: standard output: No space left on device (os error 28)\n",
+                2,
+            ),
+            (
                 "head -c 131073 /dev/zero | $P highlight - none > /dev/full",
                 "",
                 "rust-lex: standard output: No space left on device (os error 28)\n",

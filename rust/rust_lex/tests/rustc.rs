@@ -69,7 +69,7 @@ const LINES: [(&str, &[usize], &[usize]); 50] = [
 
 /// Documents, the positions of their errors and warnings, and the positions of rustc if they differ.
 #[rustfmt::skip]
-const FILES: [(&str, &[&str], &[&str]); 35] = [
+const FILES: [(&str, &[&str], &[&str]); 36] = [
     ("const A: u8 = b'a';\n", &[], &[]),
     ("const A: &str = \"abc\n\n", &["1:17"], &[]),
     ("\n\nconst A: &[u8] = b\"abc\n", &["3:18"], &["3:19"]),
@@ -86,6 +86,7 @@ const FILES: [(&str, &[&str], &[&str]); 35] = [
     ("const A: &str = r##\"abc\"#;\n", &["1:17"], &[]),
     ("// a \u{202e} b\n", &["1:1"], &[]),
     ("pub const A: &str = \"a \u{2066} b\";\n", &["1:21"], &[]),
+    ("pub const A: &str = \"\u{202e}\\q\";\n", &["1:23"], &["1:24"]),
     ("pub const A: char = '\n';\n", &["1:22"], &[]),
     ("pub const A: char = '\r\n';\n", &["1:22"], &[]),
     ("pub const A: &str = \"a\n\\u{}\n  \\x\";\n", &["2:1", "3:3"], &[]),
